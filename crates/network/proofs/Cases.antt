@@ -1,0 +1,39 @@
+-- P1 to P10 of document 01, by computation.
+-- Assumes nothing.
+use mathlib.Core.Path.{refl}
+use Rattle.network.specs.Count.{any, count, select}
+use Rattle.network.specs.Network.{arcsFrom, arcsOf, partOf}
+use Rattle.network.specs.Check.{badSize, fallsAt, badStarts, badNeighbourAt, badPart, badNeighboursOf, badNeighbours, badWeightAt, badWeights, isArcAt, hasArc, lacksReturnAt, lacksReturnOf, lacksReturn, networkNumber}
+use Rattle.network.specs.Distance.{plus, least, within, dist}
+use Rattle.network.specs.Points.{isNearer, countNearer, isOtherNearer, othersNearer, verified, isListed, listed, isExpanded, expanded, exceedsLimit}
+use Rattle.network.specs.Nearest.{insert, byDistance, nearest}
+use Rattle.network.specs.Rows.{row, sameRow, rowsChanged}
+use Rattle.network.specs.Cases.{Cases, roads}
+use Rattle.network.proofs.NumberZero.{number-zero}
+
+pub cases : Cases
+unfolding any count select arcsFrom arcsOf partOf badSize fallsAt badStarts badNeighbourAt badPart badNeighboursOf badNeighbours badWeightAt badWeights isArcAt hasArc lacksReturnAt lacksReturnOf lacksReturn networkNumber plus least within dist isNearer countNearer isOtherNearer othersNearer verified isListed listed isExpanded expanded exceedsLimit insert byDistance nearest row sameRow rowsChanged
+cases =
+    record {
+      accepted-N = number-zero (roads 7) .0 refl;
+      accepted-P7 = number-zero (roads 6) .0 refl;
+      P1 = refl;
+      P1-expanded = refl;
+      P2 = refl;
+      P2-expanded = refl;
+      P2-limit-4 = refl;
+      P2-limit-3 = refl;
+      P3 = refl;
+      P3-expanded = refl;
+      P4 = refl;
+      P4-expanded = refl;
+      P5 = refl;
+      P5-expanded = refl;
+      P6 = refl;
+      P6-expanded = refl;
+      P7 = refl;
+      P8 = refl;
+      P9 = refl;
+      P10 = refl;
+      P10-changed = refl;
+    }

@@ -1,0 +1,107 @@
+-- Laws of `count` and `select`: who passes one test and who passes another, and the list of those who pass.
+-- Assumes nothing.
+use Prim.Native.Nat.{ℕ, zero, suc, _≤_, _<_}
+use mathlib.Core.Path.{_≡_, refl, sym, ap, _∙_}
+use mathlib.Core.Bool.{Bool, true, false, not, _&&_}
+use mathlib.Core.Logic.{_≢_, ⊎-elim}
+use mathlib.Core.List.{List·Memᴰ, List·Memᴰ·head, List·Memᴰ·append-cases, List·Memᴰ·not-nil, List·Memᴰ·eq-of-singleton, Memᴰ·append-left, Memᴰ·append-right}
+use native.Mathlib.Nat.{eq-or-lt-of-le, le-of-suc-le-suc}
+use native.Mathlib.Decide.{ℕ-discrete}
+use native.Mathlib.Omega.{arith}
+use lib.Dec.{eqb, ltb}
+use borrow.Author.Tests.{eq-eqb, ne-eqb, lt-ltb, le-ltb}
+use Rattle.network.specs.Count.{count, bit, select, ifAny}
+
+pub bit-mono : (x y : Bool) → (x ≡ true → y ≡ true) → bit x ≤ bit y
+bit-mono true y h = rw (h refl) (omega arith)
+bit-mono false y h = omega arith
+
+pub bit-most : (b : Bool) → bit b ≤ 1
+bit-most true = omega arith
+bit-most false = omega arith
+
+pub bit-lt : (a b : ℕ) → a < b → bit (ltb a b) ≡ 1
+bit-lt a b h = rw (lt-ltb a b h)
+
+pub bit-ge : (a b : ℕ) → b ≤ a → bit (ltb a b) ≡ 0
+bit-ge a b h = rw (le-ltb a b h)
+
+-- who passes one test, below n, passes another: there are no fewer of those; the same pass both; all pass; none does
+pub count-mono : (t u : ℕ → Bool) (n : ℕ) → ((x : ℕ) → x < n → t x ≡ true → u x ≡ true) → count t n ≤ count u n
+unfolding count
+count-mono t u zero h = omega arith
+count-mono t u (suc n) h =
+    omega (arith, count-mono t u n (λ x l. h x (omega arith)), bit-mono (t n) (u n) (h n (omega arith)))
+
+pub count-same : (t u : ℕ → Bool) (n : ℕ) → ((x : ℕ) → x < n → u x ≡ t x) → count u n ≡ count t n
+unfolding count
+count-same t u zero h = refl
+count-same t u (suc n) h = rw (h n (omega arith), count-same t u n (λ x l. h x (omega arith)))
+
+pub count-all : (n : ℕ) → count (λ _. true) n ≡ n
+unfolding count
+count-all zero = refl
+count-all (suc n) = omega (arith, count-all n)
+
+pub count-none : (t : ℕ → Bool) (n : ℕ) → ((x : ℕ) → t x ≡ true → ⊥) → count t n ≡ 0
+unfolding count
+count-none t zero h = refl
+count-none t (suc n) h = omega (arith, count-none t n h, bit-mono (t n) false (λ a. absurd (h n a)))
+
+-- v passes the second test alone
+pub count-more : (t u : ℕ → Bool) (v n : ℕ) → v < n → t v ≡ false → u v ≡ true → ((x : ℕ) → x ≢ v → u x ≡ t x) → count u n ≡ suc (count t n)
+unfolding count
+count-more t u v zero l a b h = absurd (omega arith)
+count-more t u v (suc n) l a b h =
+    elim (ℕ-discrete n v) [
+      | yes e ↦ rw (e, a, b) (omega (arith, count-same t u v (λ x i. h x (omega arith))))
+      | no m ↦ rw (h n m) (omega (arith, count-more t u v n (omega arith) a b h))
+    ]
+
+-- who is not p, and passes one test, passes another
+pub count-but : (t u : ℕ → Bool) (p n : ℕ) → ((x : ℕ) → x ≢ p → t x ≡ true → u x ≡ true) → count t n ≤ suc (count u n)
+unfolding count
+count-but t u p zero h = omega arith
+count-but t u p (suc n) h =
+    elim (ℕ-discrete n p) [
+      | yes e ↦ omega (arith, count-mono t u n (λ x l. h x (omega arith)), bit-most (t n))
+      | no m ↦ omega (arith, count-but t u p n h, bit-mono (t n) (u n) (h n m))
+    ]
+
+-- the same test, but for a
+pub without : (ℕ → Bool) → ℕ → ℕ → Bool
+without t a x = not (eqb x a) && t x
+
+pub without-other : (t : ℕ → Bool) (a x : ℕ) → x ≢ a → without t a x ≡ t x
+unfolding without
+without-other t a x n = rw (ne-eqb x a n)
+
+pub without-self : (t : ℕ → Bool) (a : ℕ) → without t a a ≡ false
+unfolding without
+without-self t a = rw (eq-eqb a a refl)
+
+pub count-without : (t : ℕ → Bool) (a n : ℕ) → a < n → t a ≡ true → suc (count (without t a) n) ≡ count t n
+count-without t a n h f = sym (count-more (without t a) t a n h (without-self t a) f (λ x m. sym (without-other t a x m)))
+
+-- members of `select`
+pub selected : (t : ℕ → Bool) (n x : ℕ) → x < n → t x ≡ true → List·Memᴰ x (select t n)
+unfolding select
+selected t zero x h e = absurd (omega arith)
+selected t (suc n) x h e =
+    ⊎-elim
+    (λ q. Memᴰ·append-right (select t n) (rw (← q, e) (List·Memᴰ·head refl)))
+    (λ l. Memᴰ·append-left (ifAny (t n) n) (selected t n x l e))
+    (eq-or-lt-of-le (le-of-suc-le-suc h))
+
+any-mem : (b : Bool) (x y : ℕ) → List·Memᴰ x (ifAny b y) → (x ≡ y) × (b ≡ true)
+any-mem true x y m = (List·Memᴰ·eq-of-singleton m, refl)
+any-mem false x y m = absurd (List·Memᴰ·not-nil m)
+
+pub select-passed : (t : ℕ → Bool) (n x : ℕ) → List·Memᴰ x (select t n) → (x < n) × (t x ≡ true)
+unfolding select
+select-passed t zero x m = absurd (List·Memᴰ·not-nil m)
+select-passed t (suc n) x m =
+    ⊎-elim
+    (λ l. let r = select-passed t n x l in (omega arith, r .1))
+    (λ l. let r = any-mem (t n) x n l in (omega arith, ap t (r .0) ∙ r .1))
+    (List·Memᴰ·append-cases (select t n) m)

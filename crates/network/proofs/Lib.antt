@@ -1,0 +1,19 @@
+-- The theorems about the definitions of specs/, for this crate and for those above it. From the bottom up: tests and counts; arcs and the network
+-- check; walks and distances; the order by distance and node; rows; P1 to P10.
+pub mod Tests
+pub mod Counts
+pub mod NodeArcs
+pub mod CheckTests
+pub mod Ranges
+pub mod NumberZero
+pub mod Walks
+pub mod Within
+pub mod Trail
+pub mod Least
+pub mod Distances
+pub mod Rising
+pub mod Insert
+pub mod Rank
+pub mod Rows
+pub mod Prefix
+pub mod Cases

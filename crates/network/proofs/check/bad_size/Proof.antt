@@ -1,0 +1,21 @@
+-- `network::check::bad_size` meets its contract: each return is what its tests say.
+-- Assumes nothing.
+use Rattle.network.proofs.Tests.{tests}
+use Rattle.network.specs.Check.{badSize}
+use Rattle.network.proofs.check.bad_size.Statement.{statement}
+use Rattle.network.proofs.check.bad_size.Tie as tie
+
+returns : tie.Need-returns
+unfolding badSize
+returns c = search tests
+
+returns-2 : tie.Need-returns-2
+unfolding badSize
+returns-2 c = search tests
+
+returns-3 : tie.Need-returns-3
+unfolding badSize
+returns-3 c = search tests
+
+pub bad-size-spec : {M : Type 1} → statement M
+bad-size-spec = tie.close (tie.spec returns returns-2 returns-3)

@@ -1,0 +1,26 @@
+-- The numbers below n that pass a test: whether there is one, how many there are, and the list of them. Each grows at its end, as a loop that
+-- counts up does.
+-- Assumes nothing.
+use Prim.Native.Nat.{ℕ, zero, suc, _+_}
+use mathlib.Core.Bool.{Bool, true, false, _||_}
+use mathlib.Core.List.{List, [], _∷_, _++_}
+
+unfoldable pub any : (ℕ → Bool) → ℕ → Bool
+any t zero = false
+any t (suc n) = any t n || t n
+
+abbrev pub bit : Bool → ℕ
+bit true = 1
+bit false = 0
+
+unfoldable pub count : (ℕ → Bool) → ℕ → ℕ
+count t zero = 0
+count t (suc n) = count t n + bit (t n)
+
+abbrev pub ifAny : Bool → ℕ → List ℕ
+ifAny true x = x ∷ []
+ifAny false x = []
+
+unfoldable pub select : (ℕ → Bool) → ℕ → List ℕ
+select t zero = []
+select t (suc n) = select t n ++ ifAny (t n) n

@@ -1,0 +1,13 @@
+-- The definitions of document 01 (../shared/01-scope.md), in the order of the document: what a reader of this engine must believe. The theorems
+-- about them stand in proofs/.
+pub mod Count
+pub mod Network
+pub mod Check
+pub mod Parts
+pub mod Accepted
+pub mod Walk
+pub mod Distance
+pub mod Points
+pub mod Nearest
+pub mod Rows
+pub mod Cases

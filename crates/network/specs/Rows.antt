@@ -1,0 +1,40 @@
+-- Document 01, 'The table': its rows, both flat arrays, and how many rows a change of the points changes.
+-- Assumes nothing.
+use Prim.Native.Nat.{ℕ, zero, suc, _-_}
+use mathlib.Core.Bool.{Bool, true, false, not, _&&_}
+use mathlib.Core.List.{List, [], _∷_, _++_, map}
+use lib.Dec.{eqb}
+use lib.ListN.{length, replicate}
+use Rattle.network.specs.Network.{Network, nodeCount}
+use Rattle.network.specs.Distance.{NONE}
+use Rattle.network.specs.Count.{count}
+use Rattle.network.specs.Nearest.{nearest}
+
+-- Row i: 'the K nearest points of node i that can be reached, by distance then node [..]; the rest is NONE in both arrays.' A distance is below
+-- NONE exactly if there is a walk.
+abbrev pub pad : ℕ → List (ℕ × ℕ) → List (ℕ × ℕ)
+pad K xs = xs ++ replicate (K - length xs) (NONE, NONE)
+
+unfoldable pub row : Network → List ℕ → ℕ → ℕ → List (ℕ × ℕ)
+row g P K i = pad K (nearest g P i NONE K)
+
+-- 'Two arrays of n × K entries, ids and distances': the rows of the nodes below n, one after the other
+unfoldable pub rowsBelow : Network → List ℕ → ℕ → ℕ → List (ℕ × ℕ)
+rowsBelow g P K zero = []
+rowsBelow g P K (suc n) = rowsBelow g P K n ++ row g P K n
+
+unfoldable pub tableIds : Network → List ℕ → ℕ → List ℕ
+tableIds g P K = map (λ x. x .0) (rowsBelow g P K (nodeCount g))
+
+unfoldable pub tableDistances : Network → List ℕ → ℕ → List ℕ
+tableDistances g P K = map (λ x. x .1) (rowsBelow g P K (nodeCount g))
+
+-- 'the number of rows whose contents differ before and after', where the points were P and are P′
+unfoldable pub sameRow : List (ℕ × ℕ) → List (ℕ × ℕ) → Bool
+sameRow [] [] = true
+sameRow [] (y ∷ ys) = false
+sameRow (x ∷ xs) [] = false
+sameRow (x ∷ xs) (y ∷ ys) = eqb (x .0) (y .0) && eqb (x .1) (y .1) && sameRow xs ys
+
+unfoldable pub rowsChanged : Network → List ℕ → List ℕ → ℕ → ℕ
+rowsChanged g P P′ K = count (λ i. not (sameRow (row g P K i) (row g P′ K i))) (nodeCount g)

@@ -1,0 +1,4 @@
+// The network: the distance type, a node's arcs as parts of the caller's arrays, and the network check.
+pub mod arcs;
+pub mod check;
+pub mod distance;

@@ -1,0 +1,45 @@
+//! The safe Rust wrapper of the overlap engine.
+//!
+//! The engine works on a network of junctions and roads on which lockers stand, and answers which
+//! lockers a site receives. It is written in Rattle and proved: each call of it meets a contract
+//! that says what document 01, the requirements of the build, says. This crate lends Rust slices to
+//! the engine's static library `liboverlap.a` and hands back its answers. Of the engine's calls it
+//! has the network check.
+//!
+//! Each item below quotes the sentence of document 01 that it is. No call asks anything of its
+//! input: bad input is refused by a number, and [`meaning`] gives the condition that the number
+//! stands for.
+//!
+//! The proof covers the engine. It does not cover this crate, whose C declarations nothing checks
+//! against the library; the tests compare both with plain Rust that is written from document 01
+//! alone.
+//!
+//! ```
+//! use overlap::{meaning, network_check, Network};
+//!
+//! // Two nodes and one road of weight 4 between them: the two arcs 0 to 1 and 1 to 0.
+//! let network = Network { starts: &[0, 1, 2], neighbours: &[1, 0], weights: &[4, 4] };
+//! assert_eq!(network_check(network), 0);
+//!
+//! // The return arc has weight 5.
+//! let uneven = Network { weights: &[4, 5], ..network };
+//! assert_eq!(network_check(uneven), 5);
+//! assert_eq!(meaning(5), "an arc lacks its return of equal weight");
+//! ```
+
+#![warn(missing_docs)]
+
+mod ffi;
+mod network;
+mod refusal;
+
+pub use network::{network_check, Network};
+pub use refusal::meaning;
+
+/// Document 01: "NONE = 4,294,967,295 is an associated constant of the distance and stands for
+/// "can't be reached" or "empty place"."
+///
+/// ```
+/// assert_eq!(overlap::NONE, u32::MAX);
+/// ```
+pub const NONE: u32 = 4_294_967_295;

@@ -1,0 +1,148 @@
+//! Shapes of networks: lists of the pairs of nodes that a road joins, and random networks made of
+//! them.
+
+use super::network::OwnedNetwork;
+use super::random::Random;
+use std::collections::BTreeSet;
+
+/// Two nodes that a road joins.
+pub type Pair = (u32, u32);
+
+/// The network of n nodes with these roads, each of the weight that the function gives it.
+pub fn weighted(n: u32, pairs: &[Pair], mut weight: impl FnMut(u32, u32) -> u32) -> OwnedNetwork {
+    let roads: Vec<_> = pairs.iter().map(|&(a, b)| (a, b, weight(a, b))).collect();
+    OwnedNetwork::from_roads(n, &roads)
+}
+
+/// The weight 1 + (a × b mod 97).
+pub fn weight_by_product(a: u32, b: u32) -> u32 {
+    1 + (u64::from(a) * u64::from(b) % 97) as u32
+}
+
+pub fn chain(n: u32) -> Vec<Pair> {
+    (1..n).map(|node| (node - 1, node)).collect()
+}
+
+/// A chain with its ends joined, from 3 nodes on.
+pub fn ring(n: u32) -> Vec<Pair> {
+    let mut pairs = chain(n);
+    if n >= 3 {
+        pairs.push((n - 1, 0));
+    }
+    pairs
+}
+
+pub fn star(n: u32, centre: u32) -> Vec<Pair> {
+    let others = (0..n).filter(|&node| node != centre);
+    others.map(|node| (centre, node)).collect()
+}
+
+pub fn complete(n: u32) -> Vec<Pair> {
+    (0..n).flat_map(|b| (0..b).map(move |a| (a, b))).collect()
+}
+
+/// A grid whose nodes are numbered by rows.
+pub fn grid(rows: u32, columns: u32) -> Vec<Pair> {
+    let mut pairs = Vec::new();
+    for node in 0..rows * columns {
+        if node % columns + 1 < columns {
+            pairs.push((node, node + 1));
+        }
+        if node / columns + 1 < rows {
+            pairs.push((node, node + columns));
+        }
+    }
+    pairs
+}
+
+/// This many roads around a ring of n nodes: each node to the one 1 further, then each to the one 2
+/// further, and so on. No step reaches n / 2, so no pair comes twice.
+pub fn belt(n: u32, roads: u32) -> Vec<Pair> {
+    assert!(roads.div_ceil(n) < n / 2);
+    let pair = |road| (road % n, (road % n + road / n + 1) % n);
+    (0..roads).map(pair).collect()
+}
+
+pub fn random_tree(n: u32, random: &mut Random) -> Vec<Pair> {
+    let pair = |node| (random.below(node), node);
+    (1..n).map(pair).collect()
+}
+
+/// At most `roads` random roads; a pair that comes again is left out.
+pub fn random_pairs(n: u32, roads: u32, random: &mut Random) -> Vec<Pair> {
+    let mut pairs = BTreeSet::new();
+    for _ in 0..roads {
+        let (a, b) = (random.below(n), random.below(n));
+        if a != b {
+            pairs.insert((a.min(b), a.max(b)));
+        }
+    }
+    pairs.into_iter().collect()
+}
+
+/// Two random parts without a road between them, then nodes without any road.
+pub fn random_parts(n: u32, random: &mut Random) -> Vec<Pair> {
+    let first = random.between(1, n);
+    let second = random.between(0, n - first);
+    let mut pairs = random_tree(first, random);
+    if second > 0 {
+        let shift = |(a, b)| (a + first, b + first);
+        pairs.extend(
+            random_pairs(second, 2 * second, random)
+                .into_iter()
+                .map(shift),
+        );
+    }
+    pairs
+}
+
+/// A valid network of 1 to 60 nodes, of any shape and any weights below.
+pub fn random_network(random: &mut Random) -> OwnedNetwork {
+    let most = random.pick(&[3, 8, 20, 60]);
+    let (n, mut pairs) = random_shape(random.between(1, most), random);
+    if random.once_in(2) {
+        renumber(n, &mut pairs, random);
+    }
+    let heaviest = random.pick(&[1, 9, 65_535]);
+    weighted(n, &pairs, |_, _| random_weight(heaviest, random))
+}
+
+/// The number of nodes, which is at most n, and the roads of a random shape.
+fn random_shape(n: u32, random: &mut Random) -> (u32, Vec<Pair>) {
+    match random.below(9) {
+        0 => (n, chain(n)),
+        1 => (n, ring(n)),
+        2 => (n, star(n, random.below(n))),
+        3 => (n, complete(n)),
+        4 => (n, random_tree(n, random)),
+        5 => (n, random_pairs(n, n, random)),
+        6 => (n, random_pairs(n, 6 * n, random)),
+        7 => (n, random_parts(n, random)),
+        _ => random_grid(n, random),
+    }
+}
+
+fn random_grid(n: u32, random: &mut Random) -> (u32, Vec<Pair>) {
+    let columns = random.between(1, n);
+    let rows = n / columns;
+    (rows * columns, grid(rows, columns))
+}
+
+/// Gives the nodes other numbers.
+fn renumber(n: u32, pairs: &mut [Pair], random: &mut Random) {
+    let mut numbers: Vec<u32> = (0..n).collect();
+    random.shuffle(&mut numbers);
+    for (a, b) in pairs {
+        *a = numbers[*a as usize];
+        *b = numbers[*b as usize];
+    }
+}
+
+/// A weight from 1 to the heaviest, which itself comes often.
+fn random_weight(heaviest: u32, random: &mut Random) -> u32 {
+    if random.once_in(8) {
+        heaviest
+    } else {
+        random.between(1, heaviest)
+    }
+}
