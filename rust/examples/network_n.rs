@@ -1,5 +1,5 @@
-//! Shows network N of document 01 to the engine's network check, whole and then damaged in five
-//! ways.
+//! Shows network N of document 01 to the engine: its check, whole and then damaged in five ways, and
+//! its distances, nearest points and verdicts.
 //!
 //! Run it with `cargo run --release --example network_n`. It ends with an error if an answer is not
 //! the one that document 01 gives.
@@ -8,7 +8,7 @@
 mod common;
 
 use common::network::{network_n, OwnedNetwork, N_NODES, N_POINTS, N_ROADS};
-use overlap::{meaning, network_check};
+use overlap::{distances, meaning, nearest, network_check, scratch_len, verify, Found, NONE};
 use std::process::ExitCode;
 
 const PICTURE: &str = "
@@ -97,15 +97,86 @@ fn print_answer(variant: &Variant) -> bool {
     number == variant.expected
 }
 
-fn main() -> ExitCode {
-    print_network(&network_n());
-    println!();
+/// The points of N as the lent byte array.
+fn point_bytes() -> Vec<u8> {
+    (0..N_NODES)
+        .map(|node| u8::from(N_POINTS.contains(&node)))
+        .collect()
+}
+
+/// A distance as a person reads it.
+fn distance_text(distance: u32) -> String {
+    if distance == NONE {
+        "none".to_string()
+    } else {
+        distance.to_string()
+    }
+}
+
+/// Prints each node's distances and its two nearest points, and returns whether those of node 0 are
+/// document 01's.
+fn print_nodes(network: &OwnedNetwork) -> bool {
+    let lent = network.lend();
+    let points = point_bytes();
+    let mut scratch = vec![0; scratch_len(lent, 2)];
+    let mut right = true;
+    println!("node   distances to 0 .. 5                  two nearest points");
+    for node in 0..N_NODES {
+        let mut answers = vec![0; N_NODES as usize];
+        let number = distances(lent, node, &mut scratch, &mut answers);
+        let (mut ids, mut far) = ([0; 2], [0; 2]);
+        let found = Found {
+            ids: &mut ids,
+            distances: &mut far,
+        };
+        let listing = nearest(lent, &points, node, NONE, 2, &mut scratch, found);
+        let texts: Vec<String> = answers.iter().map(|&d| distance_text(d)).collect();
+        let near: Vec<String> = (0..listing.length)
+            .map(|i| format!("{} at {}", ids[i], far[i]))
+            .collect();
+        println!("{node:<6} {:<36} {}", texts.join(", "), near.join(", "));
+        right &= number == 0 && listing.number == 0;
+        // P8: row 0, K 2
+        right &= node != 0 || (ids, far) == ([2, 4], [7, 8]);
+    }
+    right
+}
+
+/// Prints whether a site at node 0 is among each point's nearest, and returns whether P1 and P2 come
+/// out.
+fn print_verdicts(network: &OwnedNetwork) -> bool {
+    let lent = network.lend();
+    let points = point_bytes();
+    let mut right = true;
+    println!("a site at node 0       k = 1   k = 2");
+    for (p, expected) in [(2, [1, 1]), (4, [0, 1]), (5, [0, 0])] {
+        let verdicts = [1, 2].map(|k| {
+            let mut scratch = vec![0; scratch_len(lent, k as usize)];
+            verify(lent, &points, p, 0, k, &mut scratch)
+        });
+        let words = verdicts.map(|v| if v.yes == 1 { "yes" } else { "no" });
+        println!("is near point {p}?       {:<7} {}", words[0], words[1]);
+        right &= verdicts.map(|v| v.number) == [0, 0] && verdicts.map(|v| v.yes) == expected;
+    }
+    right
+}
+
+fn print_variants() -> bool {
     println!("{:<34} {:^6}  meaning", "what is changed", "number");
-    let right = VARIANTS
-        .iter()
-        .filter(|variant| print_answer(variant))
-        .count();
-    if right == VARIANTS.len() {
+    let right = VARIANTS.iter().filter(|variant| print_answer(variant));
+    right.count() == VARIANTS.len()
+}
+
+fn main() -> ExitCode {
+    let network = network_n();
+    print_network(&network);
+    println!();
+    let nodes_right = print_nodes(&network);
+    println!();
+    let verdicts_right = print_verdicts(&network);
+    println!();
+    let variants_right = print_variants();
+    if nodes_right && verdicts_right && variants_right {
         ExitCode::SUCCESS
     } else {
         ExitCode::FAILURE

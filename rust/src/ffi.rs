@@ -4,6 +4,35 @@
 //! so a call asks only that each pointer is valid for its length, and that an array which the call
 //! writes is lent to nobody else.
 
+/// The answer of a call that lists points: `overlap_listing` of `overlap.h`.
+///
+/// Document 01: "An accepted call returns number 0; a listing or nearest call also the length of
+/// its list. A refusal returns its number, count 0 and no".
+#[repr(C)]
+#[must_use]
+#[derive(Clone, Copy, Debug, Default, PartialEq, Eq)]
+pub struct Listing {
+    /// 0, or the number of the refusal.
+    pub number: u32,
+    /// The nodes that eager expanded; 0 for the other calls and on a refusal.
+    pub count: u32,
+    /// The length of the list; 0 on a refusal.
+    pub length: usize,
+}
+
+/// The answer of a call that says yes or no: `overlap_verdict` of `overlap.h`.
+///
+/// Document 01: "A refusal returns its number, count 0 and no".
+#[repr(C)]
+#[must_use]
+#[derive(Clone, Copy, Debug, Default, PartialEq, Eq)]
+pub struct Verdict {
+    /// 0, or the number of the refusal.
+    pub number: u32,
+    /// 1 for yes; 0 for no and on a refusal.
+    pub yes: u32,
+}
+
 extern "C" {
     /// Reads the three arrays and writes nothing.
     pub(crate) fn overlap_network_check(
@@ -14,4 +43,57 @@ extern "C" {
         weights: *const u32,
         weights_len: usize,
     ) -> u32;
+
+    /// Writes `scratch` and `answers`.
+    pub(crate) fn overlap_distances(
+        starts: *const u32,
+        starts_len: usize,
+        neighbours: *const u32,
+        neighbours_len: usize,
+        weights: *const u32,
+        weights_len: usize,
+        node: u32,
+        scratch: *mut u32,
+        scratch_len: usize,
+        answers: *mut u32,
+        answers_len: usize,
+    ) -> u32;
+
+    /// Writes `scratch`, `ids` and `distances`.
+    pub(crate) fn overlap_nearest(
+        starts: *const u32,
+        starts_len: usize,
+        neighbours: *const u32,
+        neighbours_len: usize,
+        weights: *const u32,
+        weights_len: usize,
+        points: *const u8,
+        points_len: usize,
+        node: u32,
+        e: u32,
+        k: u32,
+        scratch: *mut u32,
+        scratch_len: usize,
+        ids: *mut u32,
+        ids_len: usize,
+        distances: *mut u32,
+        distances_len: usize,
+    ) -> Listing;
+
+    /// Writes `scratch`.
+    pub(crate) fn overlap_verify(
+        starts: *const u32,
+        starts_len: usize,
+        neighbours: *const u32,
+        neighbours_len: usize,
+        weights: *const u32,
+        weights_len: usize,
+        points: *const u8,
+        points_len: usize,
+        p: u32,
+        q: u32,
+        k: u32,
+        scratch: *mut u32,
+        scratch_len: usize,
+    ) -> Verdict;
 }

@@ -4,11 +4,15 @@
 //! lockers a site receives. It is written in Rattle and proved: each call of it meets a contract
 //! that says what document 01, the requirements of the build, says. This crate lends Rust slices to
 //! the engine's static library `liboverlap.a` and hands back its answers. Of the engine's calls it
-//! has the network check.
+//! has the [network check](network_check), [distances], [nearest] and [verify].
 //!
 //! Each item below quotes the sentence of document 01 that it is. No call asks anything of its
 //! input: bad input is refused by a number, and [`meaning`] gives the condition that the number
-//! stands for.
+//! stands for. A call answers its number alone, a [`Listing`] or a [`Verdict`], as the engine
+//! returns it; [`accepted`] and the methods of that name make a `Result` of it.
+//!
+//! The engine allocates nothing. A call that needs working space is lent it as scratch, whose
+//! length [`scratch_len`] gives; the arrays for its answers are lent as well.
 //!
 //! The proof covers the engine. It does not cover this crate, whose C declarations nothing checks
 //! against the library; the tests compare both with plain Rust that is written from document 01
@@ -29,12 +33,22 @@
 
 #![warn(missing_docs)]
 
+mod answer;
+mod distances;
 mod ffi;
+mod nearest;
 mod network;
 mod refusal;
+mod scratch;
+mod verify;
 
+pub use distances::distances;
+pub use ffi::{Listing, Verdict};
+pub use nearest::{nearest, Found};
 pub use network::{network_check, Network};
-pub use refusal::meaning;
+pub use refusal::{accepted, meaning, Refusal};
+pub use scratch::scratch_len;
+pub use verify::verify;
 
 /// Document 01: "NONE = 4,294,967,295 is an associated constant of the distance and stands for
 /// "can't be reached" or "empty place"."

@@ -2,6 +2,7 @@
 -- check; walks and distances; the order by distance and node; rows; P1 to P10.
 pub mod Tests
 pub mod Counts
+pub mod Tabulate
 pub mod NodeArcs
 pub mod CheckTests
 pub mod Ranges

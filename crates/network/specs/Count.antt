@@ -1,5 +1,5 @@
--- The numbers below n that pass a test: whether there is one, how many there are, and the list of them. Each grows at its end, as a loop that
--- counts up does.
+-- The numbers below n that pass a test: whether there is one, how many there are, and the list of them; and what a function gives for each number
+-- below n. Each grows at its end, as a loop that counts up does.
 -- Assumes nothing.
 use Prim.Native.Nat.{ℕ, zero, suc, _+_}
 use mathlib.Core.Bool.{Bool, true, false, _||_}
@@ -24,3 +24,7 @@ ifAny false x = []
 unfoldable pub select : (ℕ → Bool) → ℕ → List ℕ
 select t zero = []
 select t (suc n) = select t n ++ ifAny (t n) n
+
+unfoldable pub tabulate : (ℕ → ℕ) → ℕ → List ℕ
+tabulate f zero = []
+tabulate f (suc n) = tabulate f n ++ f n ∷ []

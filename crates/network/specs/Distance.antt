@@ -9,6 +9,7 @@ use mathlib.Core.List.{List, [], _∷_}
 use lib.Dec.{eqb}
 use Rattle.network.specs.Network.{Network, nodeCount, arcsOf}
 use Rattle.network.specs.Walk.{Walk}
+use Rattle.network.specs.Count.{tabulate}
 
 -- 'NONE = 4,294,967,295 [..] stands for "can't be reached" or "empty place".'
 abbrev pub NONE : ℕ
@@ -31,6 +32,10 @@ within g (suc j) a b = elim (eqb a b) [ true ↦ 0 | false ↦ least (λ c. with
 -- d(a, b), NONE where b can't be reached
 unfoldable pub dist : Network → ℕ → ℕ → ℕ
 dist g a b = within g (nodeCount g) a b
+
+-- 'Distances from a node: n entries, NONE where none.'
+unfoldable pub distancesFrom : Network → ℕ → List ℕ
+distancesFrom g a = tabulate (dist g a) (nodeCount g)
 
 -- What the distance is, on an accepted network (the theorem is `distance` of proofs/Least.antt): NONE and there is no walk, or the sum of a walk
 -- and no more than that of any. 'Every distance is at most 4,294,770,690.'

@@ -10,4 +10,5 @@ pub mod Distance
 pub mod Points
 pub mod Nearest
 pub mod Rows
+pub mod Answers
 pub mod Cases

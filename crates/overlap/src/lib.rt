@@ -2,6 +2,32 @@
 ghost use mathlib.Core.Path.{_≡_};
 ghost use Rattle.network.specs.Network.{network};
 ghost use Rattle.network.specs.Check.{networkNumber};
+ghost use Rattle.overlap.specs.Distances.{distancesOutcome};
+ghost use Rattle.overlap.specs.Nearest.{nearestOutcome, foundListing};
+ghost use Rattle.overlap.specs.Verify.{verifyOutcome, ruleVerdict};
+ghost use Rattle.overlap.specs.Exported.{NearestExported, VerifyExported};
+use nearest::Found;
+use verify::Rule;
+
+mod distances;
+mod nearest;
+mod numbers;
+mod verify;
+
+// Number 0 and the length of a list; the count is 0 but for eager.
+#[repr(C)]
+pub struct Listing {
+    pub number: u32,
+    pub count: u32,
+    pub length: usize,
+}
+
+// Number 0 and yes (1) or no (0).
+#[repr(C)]
+pub struct Verdict {
+    pub number: u32,
+    pub yes: u32,
+}
 
 // The network check. Lent: the three network arrays, of any lengths and values, and nothing is written. Returned: 0 for an accepted network, or
 // the number of the first condition met, 1 to 5. Document 01: 'Network check: the three network arrays alone; the answer is its number, 0 or 1
@@ -11,4 +37,97 @@ pub extern "C" fn overlap_network_check(starts: &[u32], neighbours: &[u32], weig
     ensures { λ r. ⌜ r ≡ networkNumber (network (now (starts .entry)) (now (neighbours .entry)) (now (weights .entry))) ⌝ }
 {
     network::check::network_number(starts, neighbours, weights)
+}
+
+// Distances from a node. Lent: the network, scratch of S entries with m = 1, and an array for n answers. Returned: 0, or 1 to 5, 7, 10. Accepted:
+// the answers are the n distances, NONE where none, then the old entries, and the whole scratch is zero. Refused: nothing is written. Document
+// 01: 'Distances from a node: n entries, NONE where none.'
+#[no_mangle]
+pub extern "C" fn overlap_distances(
+    starts: &[u32],
+    neighbours: &[u32],
+    weights: &[u32],
+    node: u32,
+    scratch: &mut [u32],
+    answers: &mut [u32],
+) -> u32
+    ensures { λ r. ⌜ record { number = r; scratch = now (scratch .exit); answers = now (answers .exit) } ≡ distancesOutcome (network (now (starts .entry)) (now (neighbours .entry)) (now (weights .entry))) node (now (scratch .entry)) (now (answers .entry)) ⌝ }
+{
+    let number = distances::number(starts, neighbours, weights, node, scratch, answers);
+    if number != 0 {
+        return number;
+    }
+    distances::run(starts, neighbours, weights, node, scratch, answers);
+    0
+}
+
+// Nearest. Lent: the network, the points, scratch of S entries with m = k, and two arrays for k answers each. Returned: number 0 and how many
+// points were found, or 1 to 5, 6, 7, 9, 10. Accepted: the ids and the distances of the points p with d(node, p) < e, by distance then node, cut
+// after the first k, then the old entries, and the whole scratch is zero. Refused: nothing is written. Document 01: 'Nearest: the points p with
+// d(node, p) < e, e any 32-bit number, by distance then node, cut after the first k; ids and distances in two arrays.'
+#[no_mangle]
+pub extern "C" fn overlap_nearest(
+    starts: &[u32],
+    neighbours: &[u32],
+    weights: &[u32],
+    points: &[u8],
+    node: u32,
+    e: u32,
+    k: u32,
+    scratch: &mut [u32],
+    ids: &mut [u32],
+    distances: &mut [u32],
+) -> Listing
+    ensures { λ r. ⌜ NearestExported (nearestOutcome (network (now (starts .entry)) (now (neighbours .entry)) (now (weights .entry))) (now (points .entry)) node e k (now (scratch .entry)) (now (ids .entry)) (now (distances .entry))) r (now (scratch .exit)) (now (ids .exit)) (now (distances .exit)) ⌝ }
+{
+    match nearest::answer(
+        starts,
+        neighbours,
+        weights,
+        points,
+        node,
+        e,
+        k,
+        scratch,
+        ids,
+        distances,
+    ) {
+        Found::Refused(number) => Listing {
+            number,
+            count: 0,
+            length: 0,
+        },
+        Found::Points(length) => Listing {
+            number: 0,
+            count: 0,
+            length,
+        },
+    }
+}
+
+// Verify. Lent: the network, the points and scratch of S entries with m = k. Returned: number 0 and yes or no, or 1 to 5, 6, 7, 9, 10, 11.
+// Accepted: the whole scratch is zero. Refused: nothing is written. Document 01: 'Verify: for a marked p and q, yes or no by the rule above.'
+#[no_mangle]
+pub extern "C" fn overlap_verify(
+    starts: &[u32],
+    neighbours: &[u32],
+    weights: &[u32],
+    points: &[u8],
+    p: u32,
+    q: u32,
+    k: u32,
+    scratch: &mut [u32],
+) -> Verdict
+    ensures { λ r. ⌜ VerifyExported (verifyOutcome (network (now (starts .entry)) (now (neighbours .entry)) (now (weights .entry))) (now (points .entry)) p q k (now (scratch .entry))) r (now (scratch .exit)) ⌝ }
+{
+    match verify::answer(starts, neighbours, weights, points, p, q, k, scratch) {
+        Rule::Refused(number) => Verdict { number, yes: 0 },
+        Rule::Answer(yes) => {
+            if yes {
+                Verdict { number: 0, yes: 1 }
+            } else {
+                Verdict { number: 0, yes: 0 }
+            }
+        }
+    }
 }

@@ -2,8 +2,10 @@
 //! with.
 
 // Each benchmark uses a part of this.
-#![allow(dead_code)]
+#![allow(dead_code, unused_imports)]
 
+mod distances;
 mod network_check;
 
+pub use distances::distances;
 pub use network_check::network_check;

@@ -4,8 +4,15 @@
 // Each program uses a part of this.
 #![allow(dead_code)]
 
+pub mod all_pairs;
 pub mod damage;
+pub mod faults;
+pub mod inputs;
+pub mod lent;
 pub mod network;
+pub mod numbers;
 pub mod plain;
 pub mod random;
+pub mod rows;
 pub mod shapes;
+pub mod tally;

@@ -80,6 +80,22 @@ pub fn shown(network: Network<'_>) -> String {
     format!("a network of {nodes} starts, {arcs} neighbours and {weights} weights")
 }
 
+/// Points in words for the message of a failed test; of many the number alone.
+pub fn shown_points(points: &[u8]) -> String {
+    if points.len() <= 100 {
+        return format!("points {points:?}");
+    }
+    let marked = points.iter().filter(|&&byte| byte != 0).count();
+    format!("{marked} points of {} bytes", points.len())
+}
+
 pub fn network_n() -> OwnedNetwork {
     OwnedNetwork::from_roads(N_NODES, &N_ROADS)
+}
+
+/// The points array of n nodes in which these are marked.
+pub fn marks(n: u32, points: &[u32]) -> Vec<u8> {
+    (0..n)
+        .map(|node| u8::from(points.contains(&node)))
+        .collect()
 }

@@ -55,6 +55,14 @@ pub fn grid(rows: u32, columns: u32) -> Vec<Pair> {
     pairs
 }
 
+/// A chain, and behind its last node a grid.
+pub fn chain_and_grid(length: u32, rows: u32, columns: u32) -> Vec<Pair> {
+    let mut pairs = chain(length + 1);
+    let behind = |(a, b)| (a + length, b + length);
+    pairs.extend(grid(rows, columns).into_iter().map(behind));
+    pairs
+}
+
 /// This many roads around a ring of n nodes: each node to the one 1 further, then each to the one 2
 /// further, and so on. No step reaches n / 2, so no pair comes twice.
 pub fn belt(n: u32, roads: u32) -> Vec<Pair> {
@@ -145,4 +153,22 @@ fn random_weight(heaviest: u32, random: &mut Random) -> u32 {
     } else {
         random.between(1, heaviest)
     }
+}
+
+/// All networks of one to four nodes in which a pair of nodes has no road or one of weight 1 or 2.
+pub fn all_small_networks() -> Vec<OwnedNetwork> {
+    (1..=4).flat_map(all_networks_of).collect()
+}
+
+/// All networks of n nodes in which a pair of nodes has no road or one of weight 1 or 2.
+fn all_networks_of(n: u32) -> Vec<OwnedNetwork> {
+    let mut lists = vec![vec![]];
+    for (a, b) in complete(n) {
+        let with_weight = |list: &Vec<_>, weight| [&list[..], &[(a, b, weight)]].concat();
+        let one = lists.iter().map(|list| with_weight(list, 1));
+        let two = lists.iter().map(|list| with_weight(list, 2));
+        lists = lists.iter().cloned().chain(one).chain(two).collect();
+    }
+    let network = |roads: &Vec<_>| OwnedNetwork::from_roads(n, roads);
+    lists.iter().map(network).collect()
 }

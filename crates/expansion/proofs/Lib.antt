@@ -1,0 +1,17 @@
+-- The theorems of this crate, from the bottom up: the queue; the law of a search and its steps (exported for the searches); the area that holds a
+-- search, and what keeps it; the three expansions.
+pub mod LentParts
+pub mod QueueLaws
+pub mod TagLaws
+pub mod Search
+pub mod Steps
+pub mod Room
+pub mod AreaLaws
+pub mod AreaSearch
+pub mod StepLaws
+pub mod Progress
+pub mod Settled
+pub mod Beside
+pub mod FoundLaws
+pub mod Finding
+pub mod VisitLaws

@@ -1,0 +1,54 @@
+-- `expansion::step::settle` meets its contract: its two stores.
+-- Assumes nothing.
+use borrow.Author.Needs.{needs}
+use Rattle.expansion.proofs.step.settle.Statement.{statement}
+use Rattle.expansion.proofs.step.settle.Tie as tie
+
+wide-requires : tie.Need-wide-requires
+wide-requires c κs = search needs
+
+add-at : tie.Need-add-at
+add-at c = search needs
+
+add-s : tie.Need-add-s
+add-s c = search needs
+
+mul-s : tie.Need-mul-s
+mul-s c = search needs
+
+slice-write-s : tie.Need-slice-write-s
+slice-write-s c = search needs
+
+add-s-2 : tie.Need-add-s-2
+add-s-2 c = search needs
+
+add-s-3 : tie.Need-add-s-3
+add-s-3 c = search needs
+
+mul-s-2 : tie.Need-mul-s-2
+mul-s-2 c = search needs
+
+slice-write-s-2 : tie.Need-slice-write-s-2
+slice-write-s-2 c = search needs
+
+same-length : tie.Need-same-length
+same-length c = search needs
+
+returns : tie.Need-returns
+returns c = rw (c .wide .ensures)
+
+pub settle-spec : {M : Type 1} → statement M
+settle-spec =
+    tie.close
+    (tie.spec
+    wide-requires
+    add-at
+    add-s
+    mul-s
+    slice-write-s
+    add-s-2
+    add-s-3
+    mul-s-2
+    slice-write-s-2
+    same-length
+    returns)

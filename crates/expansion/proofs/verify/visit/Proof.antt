@@ -1,0 +1,231 @@
+-- `expansion::verify::visit` meets its contract. The loop's invariant: the words before the area are as they were; an expansion from p is under
+-- way; and the tally counts the other points that it has settled, below the present label and at it, where every node nearer than the present
+-- label is settled, and q is not. The measure is the expansion's room, which falls with each node that is settled.
+-- Assumes nothing.
+use mathlib.Core.Path.{refl}
+use native.Mathlib.Omega.{arith}
+use lib.ListN.{length}
+use mathlib.Core.Logic.{inl, inr, ⊎-elim}
+use borrow.Author.Needs.{needs}
+use borrow.Author.Tests.{eqb-true, eqb-false}
+use Rattle.network.specs.Network.{Network, network, nodeCount, neighboursOf}
+use Rattle.network.specs.Accepted.{Accepted}
+use Rattle.network.proofs.Counts.{bit-most}
+use Rattle.expansion.specs.Area.{Kept, Took, Followed}
+use Rattle.expansion.specs.Visited.{isOther}
+use Rattle.expansion.proofs.AreaLaws.{room, settledAs, kept-less, kept-trans, area-left}
+use Rattle.expansion.proofs.AreaSearch.{label-back}
+use Rattle.expansion.proofs.Progress.{All, all-leads, Progress, progress-start, progress-nodes, took-area, took-place, took-small, took-follow, room-falls, frame-settled, progress-settled}
+use Rattle.expansion.proofs.VisitLaws.{Counted, counted-few, counted-start, labels-exact, came, came-label, counted-next, answer-taken, answer-none}
+use Rattle.expansion.proofs.verify.visit.Statement.{statement}
+use Rattle.expansion.proofs.verify.visit.Tie as tie
+
+abbrev Inv-loop : tie.InvT-loop
+Inv-loop starts neighbours weights points s₀ b p q k n tally₀ settled₀ len₀ s tally settled len =
+    Kept s₀ s b
+    × Progress (network starts neighbours weights) p All All s b settled len
+    × Counted (network starts neighbours weights) points p q s b (tally .label) (tally .below) (tally .level)
+
+abbrev μ-loop : tie.MeasureT-loop
+μ-loop starts neighbours weights points s₀ b p q k n tally₀ settled₀ len₀ s tally settled len = room (network starts neighbours weights) s b len
+
+-- the places: where the loop begins, the entry that was taken, and its node settled
+abbrev start-of : tie.At-loop Inv-loop μ-loop → tie.Start Inv-loop μ-loop
+start-of c = c .before .before .before .before .before .before .before .before .before .before
+
+abbrev loop-of : tie.After-taken Inv-loop μ-loop → tie.At-loop Inv-loop μ-loop
+loop-of c = c .before .before .before .before .before .before
+
+abbrev taken-of : tie.After-come-to Inv-loop μ-loop → tie.After-taken Inv-loop μ-loop
+taken-of c = c .before .before
+
+abbrev came-of : tie.After-open Inv-loop μ-loop → tie.After-come-to Inv-loop μ-loop
+came-of c = c .before .before .before .before .before .before .before .before .before .before .before
+
+abbrev G : tie.At-loop Inv-loop μ-loop → Network
+G l = let s = start-of l in network (s .args .starts .now) (s .args .neighbours .now) (s .args .weights .now)
+
+accepted : (l : tie.At-loop Inv-loop μ-loop) → Accepted (G l)
+accepted l = start-of l .pre .expand .accepted
+
+-- the entry that was taken
+took : (c : tie.After-taken Inv-loop μ-loop)
+    → Took (nodeCount (G (loop-of c))) (loop-of c .loop .s) (c .before .before .before .before .next .last .0) (start-of (loop-of c) .args .b)
+    (loop-of c .loop .len) (c .taken .given .0 .1 .1 .1 .0) (c .taken .given .0 .0) (c .taken .given .0 .1 .0) (c .taken .given .0 .1 .1 .0)
+took c = rw (c .taken .given .1) at (c .before .before .before .before .next .ensures)
+
+-- the words before the area, since the call
+frame : (l : tie.At-loop Inv-loop μ-loop) → Kept (start-of l .args .s .now) (l .loop .s) (start-of l .args .b)
+frame l = kept-trans (kept-less (omega arith) (l .before .before .before .start .ensures .frame)) (l .loop .inv .0)
+
+-- the tally when the expansion has come to its label
+counted : (c : tie.After-come-to Inv-loop μ-loop)
+    → Counted (G (loop-of (taken-of c))) (start-of (loop-of (taken-of c)) .args .points .now) (start-of (loop-of (taken-of c)) .args .p) (start-of (loop-of (taken-of c)) .args .q)
+    (taken-of c .before .before .before .before .next .last .0) (start-of (loop-of (taken-of c)) .args .b) (taken-of c .taken .given .0 .0) (c .come-to .result .below) (c .come-to .result .level)
+counted c =
+    let l = loop-of (taken-of c) in
+    came (accepted l) (l .loop .inv .1) (took (taken-of c)) (start-of l .pre .inside) (l .loop .inv .2) (c .come-to .ensures)
+
+-- the arcs of its node are followed
+followed : (c : tie.After-open Inv-loop μ-loop)
+    → Followed (G (loop-of (taken-of (came-of c))))
+    (settledAs (nodeCount (G (loop-of (taken-of (came-of c))))) (taken-of (came-of c) .before .before .before .before .next .last .0)
+    (start-of (loop-of (taken-of (came-of c))) .args .b) (loop-of (taken-of (came-of c)) .loop .settled) (taken-of (came-of c) .taken .given .0 .1 .0) (taken-of (came-of c) .taken .given .0 .0))
+    (c .«open» .last .1 .1 .1 .0) (start-of (loop-of (taken-of (came-of c))) .args .b) (taken-of (came-of c) .taken .given .0 .1 .1 .1 .0) (c .«open» .result)
+    (taken-of (came-of c) .taken .given .0 .1 .0) (taken-of (came-of c) .taken .given .0 .0)
+    (length (neighboursOf (G (loop-of (taken-of (came-of c)))) (taken-of (came-of c) .taken .given .0 .1 .0)))
+followed c = rw (c .before .before .before .before .settle .ensures) at (c .«open» .ensures)
+
+sub-n : tie.Need-sub-n Inv-loop μ-loop
+sub-n c = search needs
+
+start-requires : tie.Need-start-requires Inv-loop μ-loop
+start-requires c κs =
+    let p = c .before .before .before .before .before .before .pre .expand in
+    (p .blank, (omega (arith, p .size), p .inside, p .accepted .few))
+
+loop-holds : tie.Need-loop-holds Inv-loop μ-loop
+loop-holds c =
+    let s = c .before .before .before .before .before .before .before .before .before in
+    let p = s .pre .expand in
+    let begun = c .before .before .start .ensures in (
+      record { size = refl; words = λ i h. refl },
+      progress-start (p .accepted) (p .blank) (p .size) (p .inside) begun,
+      counted-start (network (s .args .starts .now) (s .args .neighbours .now) (s .args .weights .now)) (s .args .points .now) (s .args .p) (s .args .q) (s .pre .inside) (p .blank) begun,
+    )
+
+next-requires : tie.Need-next-requires Inv-loop μ-loop
+next-requires c κs =
+    let l = c .before in
+    let p = l .loop .inv .1 in
+    ((p .area .fits, p .area .queue), progress-nodes (accepted l) p)
+
+enum-known-taken : tie.Need-enum-known-taken Inv-loop μ-loop
+enum-known-taken c = search needs
+
+enum-told : tie.Need-enum-told Inv-loop μ-loop
+enum-told c = search needs
+
+same-length : tie.Need-same-length Inv-loop μ-loop
+same-length c = search needs
+
+returns : tie.Need-returns Inv-loop μ-loop
+returns c =
+    let n = c .before .before .before .before in
+    let l = n .before .before in
+    let t = rw (c .enum-told .given .1) at (n .next .ensures) in
+    let e = l .loop .inv .1 in
+    record {
+      answer = answer-none (accepted l) (start-of l .args .k) e t (l .loop .inv .2);
+      frame = kept-trans (frame l) (kept-less (omega arith) (t .leaves .frame));
+      area = area-left (e .area) (t .leaves);
+      exact = λ v m h. e .searched .exact v m (label-back (start-of l .args .b) (t .leaves .frame) v m h) tt;
+    }
+
+come-to-requires : tie.Need-come-to-requires Inv-loop μ-loop
+come-to-requires c κs = let l = loop-of (c .before) in omega (arith, counted-few (accepted l) (l .loop .inv .2))
+
+same-length-2 : tie.Need-same-length-2 Inv-loop μ-loop
+same-length-2 c = search needs
+
+returns-2 : tie.Need-returns-2 Inv-loop μ-loop
+returns-2 c =
+    let d = c .before .before .before in
+    let l = loop-of (taken-of d) in
+    let t = took (taken-of d) in
+    let e = l .loop .inv .1 in
+    record {
+      answer =
+          answer-taken (accepted l) e t (start-of l .args .k) (counted d)
+          (⊎-elim (λ a. inl (a .taken)) (λ a. inr (eqb-true (taken-of d .taken .given .0 .1 .0) (start-of l .args .q) (a .1 .taken))) (c .before .if1 .came));
+      frame = kept-trans (frame l) (kept-less (omega arith) (t .leaves .frame));
+      area = took-area (accepted l) e t;
+      exact = labels-exact (accepted l) e t;
+    }
+
+counts-requires : tie.Need-counts-requires Inv-loop μ-loop
+counts-requires c κs =
+    let d = c .before .before .before in
+    omega (arith, took (taken-of d) .inside, start-of (loop-of (taken-of d)) .pre .points)
+
+add-tally : tie.Need-add-tally Inv-loop μ-loop
+add-tally c =
+    let d = c .before .before .before .before .before in
+    let s = start-of (loop-of (taken-of d)) in
+    record {
+      fits =
+          omega (
+            arith,
+            counted-few (accepted (loop-of (taken-of d))) (counted d),
+            c .before .counts .ensures,
+            bit-most (isOther (s .args .points .now) (s .args .p) (taken-of d .taken .given .0 .1 .0)),
+          );
+    }
+
+settle-requires : tie.Need-settle-requires Inv-loop μ-loop
+settle-requires c κs =
+    let d = c .before .before .before .before .before .before in
+    let t = took (taken-of d) in
+    let l = loop-of (taken-of d) in
+    let e = l .loop .inv .1 in
+    let a = took-area (accepted l) e t in
+    (omega (arith, a .fits, took-place (accepted l) e t), omega (arith, a .fits, t .inside), omega (arith, took-small (accepted l) e t))
+
+add-settled : tie.Need-add-settled Inv-loop μ-loop
+add-settled c =
+    let d = c .before .before .before .before .before .before .before .before .before in
+    let l = loop-of (taken-of d) in
+    record { fits = omega (arith, took-place (accepted l) (l .loop .inv .1) (took (taken-of d)), accepted l .few) }
+
+open-requires : tie.Need-open-requires Inv-loop μ-loop
+open-requires c κs =
+    let d = c .before .before .before .before .before .before .before .before .before .before in
+    let l = loop-of (taken-of d) in
+    rw (c .before .before .before .settle .ensures) (took-follow (accepted l) (l .loop .inv .1) (took (taken-of d)))
+
+loop-less : tie.Need-loop-less Inv-loop μ-loop
+loop-less c =
+    let o = c .before .before in
+    let t = taken-of (came-of o) in
+    let l = loop-of t in
+    room-falls (accepted l) (l .loop .inv .1) (took t) (all-leads (accepted l) _) (followed o)
+
+loop-again : tie.Need-loop-again Inv-loop μ-loop
+loop-again c =
+    let o = c .before .before in
+    let d = came-of o in
+    let t = taken-of d in
+    let l = loop-of t in
+    let ok = accepted l in
+    let e = l .loop .inv .1 in
+    let r = o .before .before .before .before .before .before .before in (
+      kept-trans (l .loop .inv .0) (frame-settled ok e (took t) (all-leads ok _) (followed o)),
+      progress-settled ok e (took t) (all-leads ok _) (followed o),
+      counted-next ok e (took t) (start-of l .pre .inside) (eqb-false (t .taken .given .0 .1 .0) (start-of l .args .q) (r .before .if2 .left)) (counted d) (followed o)
+          (came-label ok e (took t) (start-of l .pre .inside) (l .loop .inv .2) (d .come-to .ensures)) (r .counts .ensures),
+    )
+
+pub visit-spec : {M : Type 1} → statement M
+visit-spec =
+    tie.close
+    (tie.spec
+    Inv-loop
+    μ-loop
+    sub-n
+    start-requires
+    loop-holds
+    next-requires
+    enum-known-taken
+    enum-told
+    same-length
+    returns
+    come-to-requires
+    same-length-2
+    returns-2
+    counts-requires
+    add-tally
+    settle-requires
+    add-settled
+    open-requires
+    loop-less
+    loop-again)

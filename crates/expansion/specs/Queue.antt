@@ -1,0 +1,133 @@
+-- The queue: a binary heap in a list of words. Entry i is two words, its distance at 2 i and its tag at 2 i + 1. Entries are ordered by one
+-- number, the key; the entries 2 i + 1 and 2 i + 2 are the children of entry i, and no entry has a key less than its parent's.
+-- Assumes nothing.
+use mathlib.Core.Path.{_≡_}
+use mathlib.Core.Logic.{_⊎_, _≢_, _↔_}
+use mathlib.Core.List.{List}
+use Prim.Native.Nat.{ℕ, _+_, _-_, _*_, _/_, _≤_, _<_}
+use lib.ListN.{length, getD, drop}
+
+-- the key of a distance and a tag: a tag is below 2^32, so keys go by distance and then by tag
+abbrev pub keyOf : ℕ → ℕ → ℕ
+keyOf distance tag = distance * 4294967296 + tag
+
+-- the key of entry i
+unfoldable pub keyAt : List ℕ → ℕ → ℕ
+keyAt xs i = keyOf (getD xs (2 * i) 0) (getD xs (2 * i + 1) 0)
+
+-- the index of entry i's parent
+abbrev pub parentOf : ℕ → ℕ
+parentOf i = (i - 1) / 2
+
+-- one of the first len entries has the key
+pub record Holds (xs : List ℕ) (len key : ℕ) : Type 0 where
+  pub index : ℕ
+  pub inside : index < len
+  pub is : keyAt xs index ≡ key
+
+-- one of the first len entries, other than entry i, has the key
+pub record HoldsBeside (xs : List ℕ) (len i key : ℕ) : Type 0 where
+  pub index : ℕ
+  pub inside : index < len
+  pub other : index ≢ i
+  pub is : keyAt xs index ≡ key
+
+-- no entry has a key less than its parent's
+abbrev pub Ordered : List ℕ → ℕ → Type 0
+Ordered xs len = (i : ℕ) → 0 < i → i < len → keyAt xs (parentOf i) ≤ keyAt xs i
+
+-- every word behind the first len entries is 0
+abbrev pub ZeroFrom : List ℕ → ℕ → Type 0
+ZeroFrom xs len = (j : ℕ) → 2 * len ≤ j → getD xs j 0 ≡ 0
+
+-- what a queue of len entries is between calls
+pub record Queue (xs : List ℕ) (len : ℕ) : Type 0 where
+  pub room : 2 * len ≤ length xs
+  pub ordered : Ordered xs len
+  pub zeros : ZeroFrom xs len
+
+-- push: ys is the queue xs with an entry of the key added
+pub record Pushed (xs ys : List ℕ) (len key : ℕ) : Type 0 where
+  pub queue : Queue ys (len + 1)
+  pub size : length ys ≡ length xs
+  pub holds : (k : ℕ) → Holds ys (len + 1) k ↔ (Holds xs len k ⊎ (k ≡ key))
+
+-- pop: ys is the queue xs without an entry of the key, which is a least one. What is held in ys was held in xs, and what was held in xs is kept
+-- or has that key.
+pub record Popped (xs ys : List ℕ) (len key : ℕ) : Type 0 where
+  pub queue : Queue ys (len - 1)
+  pub size : length ys ≡ length xs
+  pub was : Holds xs len key
+  pub least : (k : ℕ) → Holds xs len k → key ≤ k
+  pub old : (k : ℕ) → Holds ys (len - 1) k → Holds xs len k
+  pub kept : (k : ℕ) → Holds xs len k → Holds ys (len - 1) k ⊎ (k ≡ key)
+
+-- clear: ys is as long as xs, and all its words are 0
+pub record Cleared (xs ys : List ℕ) : Type 0 where
+  pub size : length ys ≡ length xs
+  pub zero : (j : ℕ) → getD ys j 0 ≡ 0
+
+-- The same of a queue that starts at the word `at` of a longer list and reaches to its end: what stands before it stays as it is.
+pub record PushedAt (xs ys : List ℕ) (at len key : ℕ) : Type 0 where
+  pub size : length ys ≡ length xs
+  pub before : (i : ℕ) → i < at → getD ys i 0 ≡ getD xs i 0
+  pub queue : Pushed (drop at xs) (drop at ys) len key
+
+pub record PoppedAt (xs ys : List ℕ) (at len key : ℕ) : Type 0 where
+  pub size : length ys ≡ length xs
+  pub before : (i : ℕ) → i < at → getD ys i 0 ≡ getD xs i 0
+  pub queue : Popped (drop at xs) (drop at ys) len key
+
+pub record ClearedAt (xs ys : List ℕ) (at : ℕ) : Type 0 where
+  pub size : length ys ≡ length xs
+  pub before : (i : ℕ) → i < at → getD ys i 0 ≡ getD xs i 0
+  pub queue : Cleared (drop at xs) (drop at ys)
+
+-- ---- What the inner functions promise.
+
+-- ys is xs with entry i made (distance, tag)
+pub record Put (xs ys : List ℕ) (i distance tag : ℕ) : Type 0 where
+  pub size : length ys ≡ length xs
+  pub first : getD ys (2 * i) 0 ≡ distance
+  pub second : getD ys (2 * i + 1) 0 ≡ tag
+  pub words : (j : ℕ) → j ≢ 2 * i → j ≢ 2 * i + 1 → getD ys j 0 ≡ getD xs j 0
+  pub here : keyAt ys i ≡ keyOf distance tag
+  pub other : (j : ℕ) → j ≢ i → keyAt ys j ≡ keyAt xs j
+
+-- c is the child of entry i with the least key
+pub record LeastChild (xs : List ℕ) (len i c : ℕ) : Type 0 where
+  pub inside : c < len
+  pub low : 2 * i < c
+  pub high : c ≤ 2 * i + 2
+  pub least : (j : ℕ) → 0 < j → j < len → parentOf j ≡ i → keyAt xs c ≤ keyAt xs j
+
+-- A hole, as Rust's BinaryHeap calls it: an index whose entry is out of the queue, so that its words mean nothing, until an entry is stored
+-- there. All other entries are in order, and so are the hole's children with the hole's parent.
+pub record Hole (xs : List ℕ) (len hole : ℕ) : Type 0 where
+  pub fits : 2 * len ≤ length xs
+  pub inside : hole < len
+  pub order : (i : ℕ) → 0 < i → i < len → i ≢ hole → parentOf i ≢ hole → keyAt xs (parentOf i) ≤ keyAt xs i
+  pub across : (i : ℕ) → 0 < hole → i < len → parentOf i ≡ hole → keyAt xs (parentOf hole) ≤ keyAt xs i
+
+-- an entry of the key is in order with the hole's parent; with the hole's children
+abbrev pub AtLeastParent : List ℕ → ℕ → ℕ → Type 0
+AtLeastParent xs hole key = 0 < hole → keyAt xs (parentOf hole) ≤ key
+
+abbrev pub AtMostChildren : List ℕ → ℕ → ℕ → ℕ → Type 0
+AtMostChildren xs len hole key = (i : ℕ) → 0 < i → i < len → parentOf i ≡ hole → key ≤ keyAt xs i
+
+-- an entry of the key may go into the hole or below it; into the hole or above it
+pub record CanSink (xs : List ℕ) (len hole key : ℕ) : Type 0 where
+  pub is-hole : Hole xs len hole
+  pub at-least : AtLeastParent xs hole key
+
+pub record CanRise (xs : List ℕ) (len hole key : ℕ) : Type 0 where
+  pub is-hole : Hole xs len hole
+  pub at-most : AtMostChildren xs len hole key
+
+-- ys is xs with the hole filled by an entry of the key: it is in order, and holds the key and what xs holds beside the hole
+pub record Filled (xs ys : List ℕ) (len hole key : ℕ) : Type 0 where
+  pub ordered : Ordered ys len
+  pub size : length ys ≡ length xs
+  pub behind : (j : ℕ) → 2 * len ≤ j → getD ys j 0 ≡ getD xs j 0
+  pub holds : (k : ℕ) → Holds ys len k ↔ ((k ≡ key) ⊎ HoldsBeside xs len hole k)

@@ -1,0 +1,13 @@
+-- The tag of a search's entry: its node and its parent, the node whose arc led there, in one word. Both are below 65,536, so tags go by node and
+-- then by parent.
+-- Assumes nothing.
+use Prim.Native.Nat.{ℕ, _+_, _*_, _/_, _%_}
+
+abbrev pub tagOf : ℕ → ℕ → ℕ
+tagOf node parent = node * 65536 + parent
+
+abbrev pub tagNode : ℕ → ℕ
+tagNode tag = tag / 65536
+
+abbrev pub tagParent : ℕ → ℕ
+tagParent tag = tag % 65536

@@ -1,0 +1,88 @@
+// The expansion of everything: document 01, 'Distances from a node'.
+ghost use mathlib.Core.Path.{_≡_};
+ghost use Prim.Native.Nat.{_+_, _-_, _≤_, _<_};
+ghost use lib.ListN.{length, getD, replicate};
+ghost use Rattle.network.specs.Network.{network, nodeCount};
+ghost use Rattle.network.specs.Count.{tabulate};
+ghost use Rattle.network.specs.Answers.{answered};
+ghost use Rattle.network.specs.Distance.{distancesFrom};
+ghost use Rattle.expansion.specs.Expand.{CanExpand, SettledAll, wordDistance};
+ghost use Rattle.expansion.specs.Distances.{DistancesLeft};
+use crate::step;
+use crate::step::Taken;
+use network::distance::Distance;
+
+// Settles every node that can be reached from the source, each with its distance. Returns how many.
+pub fn settle_all(
+    starts: &[u32],
+    neighbours: &[u32],
+    weights: &[u32],
+    s: &mut [u32],
+    b: usize,
+    source: u32,
+) -> usize
+    requires { ⌜ CanExpand (network (now starts) (now neighbours) (now weights)) (now s) b source ⌝ }
+    ensures { λ r. ⌜ SettledAll (network (now (starts .entry)) (now (neighbours .entry)) (now (weights .entry))) (now (s .entry)) (now (s .exit)) b source r ⌝ }
+{
+    let n = starts.len() - 1;
+    step::start(s, b, n, source);
+    let mut settled = 0;
+    let mut len = 1;
+    loop {
+        let taken = step::next(s, b, n, len);
+        let Taken::Node {
+            label,
+            node,
+            parent: _,
+            left,
+        } = taken
+        else {
+            return settled;
+        };
+        step::settle(s, b, n, settled, node, label);
+        settled += 1;
+        len = step::open(starts, neighbours, weights, s, b, left, node, label);
+    }
+}
+
+// Writes the distances that n label words stand for.
+fn write_distances(words: &[u32], answers: &mut [u32], n: usize)
+    requires { ⌜ (n ≤ length (now words)) × (n ≤ length (now answers)) ⌝ }
+    ensures { λ _. ⌜ now (answers .exit) ≡ answered (tabulate (λ v. wordDistance (getD (now (words .entry)) v 0)) n) (now (answers .entry)) ⌝ }
+{
+    let mut v = 0;
+    while v < n {
+        let word = words[v];
+        answers[v] = distance_of(word);
+        v += 1;
+    }
+}
+
+// The distance that a label word stands for.
+fn distance_of(word: u32) -> u32
+    ensures { λ r. ⌜ r ≡ wordDistance word ⌝ }
+{
+    if word == 0 {
+        return Distance::NONE;
+    }
+    word - 1
+}
+
+// The distances from a node. The area is blank before and after.
+pub fn distances(
+    starts: &[u32],
+    neighbours: &[u32],
+    weights: &[u32],
+    s: &mut [u32],
+    answers: &mut [u32],
+    source: u32,
+)
+    requires { ⌜ CanExpand (network (now starts) (now neighbours) (now weights)) (now s) 0 source ⌝ }
+    requires { ⌜ length (now starts) ≤ length (now answers) + 1 ⌝ }
+    ensures { λ _. ⌜ DistancesLeft (network (now (starts .entry)) (now (neighbours .entry)) (now (weights .entry))) source (now (s .entry)) (now (s .exit)) (now (answers .entry)) (now (answers .exit)) ⌝ }
+{
+    let n = starts.len() - 1;
+    let settled = settle_all(starts, neighbours, weights, s, 0, source);
+    write_distances(s, answers, n);
+    step::clear(s, 0, n, settled, 0);
+}

@@ -1,0 +1,172 @@
+// The queue: a binary heap in a lent slice of words, least entry first. Entry i is two words, its distance at 2 i and its tag at 2 i + 1, and
+// entries are ordered by one number, the key: distance * 2^32 + tag. Words behind the queue's entries are zero, so that a queue
+// that is popped empty or cleared is all zero.
+ghost use mathlib.Core.Path.{_≡_};
+ghost use Prim.Native.Nat.{_+_, _*_, _≤_, _<_};
+ghost use lib.ListN.{length, getD, drop};
+ghost use Rattle.expansion.specs.Queue.{keyOf, keyAt, Queue, Pushed, Popped, Cleared, PushedAt, PoppedAt, ClearedAt, Put, LeastChild, CanSink, CanRise, Filled};
+
+// An entry of a queue.
+pub struct Entry {
+    pub distance: u32,
+    pub tag: u32,
+}
+
+// The number that entries are ordered by.
+pub fn key_of(distance: u32, tag: u32) -> u64
+    ensures { λ r. ⌜ r ≡ keyOf distance tag ⌝ }
+{
+    (distance as u64) * 4294967296 + (tag as u64)
+}
+
+// The key of entry i.
+fn key_at(q: &[u32], i: usize) -> u64
+    requires { ⌜ 2 * i + 2 ≤ length (now q) ⌝ }
+    ensures { λ r. ⌜ r ≡ keyAt (now (q .entry)) i ⌝ }
+{
+    key_of(q[2 * i], q[2 * i + 1])
+}
+
+// Stores an entry as entry i.
+fn put(q: &mut [u32], i: usize, distance: u32, tag: u32)
+    requires { ⌜ 2 * i + 2 ≤ length (now q) ⌝ }
+    ensures { λ _. ⌜ Put (now (q .entry)) (now (q .exit)) i distance tag ⌝ }
+{
+    q[2 * i] = distance;
+    q[2 * i + 1] = tag;
+}
+
+// Copies the entry at `from` over the one at `to`.
+fn copy(q: &mut [u32], from: usize, to: usize)
+    requires { ⌜ (2 * to + 2 ≤ length (now q)) × (2 * from + 2 ≤ length (now q)) ⌝ }
+    ensures { λ _. ⌜ Put (now (q .entry)) (now (q .exit)) to (getD (now (q .entry)) (2 * from) 0) (getD (now (q .entry)) (2 * from + 1) 0) ⌝ }
+{
+    let distance = q[2 * from];
+    let tag = q[2 * from + 1];
+    put(q, to, distance, tag);
+}
+
+// The child of entry i with the lesser key. It has one.
+fn lesser_child(q: &[u32], len: usize, i: usize) -> usize
+    requires { ⌜ (2 * len ≤ length (now q)) × (2 * i + 1 < len) ⌝ }
+    ensures { λ r. ⌜ LeastChild (now (q .entry)) len i r ⌝ }
+{
+    let left = 2 * i + 1;
+    let right = 2 * i + 2;
+    if right < len {
+        let a = key_at(q, left);
+        let b = key_at(q, right);
+        if b < a { right } else { left }
+    } else {
+        left
+    }
+}
+
+// Fills the hole with an entry: children with lesser keys move up, and the entry is stored once, in its final place.
+fn sink(q: &mut [u32], len: usize, hole: usize, distance: u32, tag: u32)
+    requires { ⌜ CanSink (now q) len hole (keyOf distance tag) ⌝ }
+    ensures { λ _. ⌜ Filled (now (q .entry)) (now (q .exit)) len hole (keyOf distance tag) ⌝ }
+{
+    let left = 2 * hole + 1;
+    if left < len {
+        let child = lesser_child(q, len, hole);
+        let k = key_at(q, child);
+        let key = key_of(distance, tag);
+        if k < key {
+            copy(q, child, hole);
+            sink(q, len, child, distance, tag);
+        } else {
+            put(q, hole, distance, tag);
+        }
+    } else {
+        put(q, hole, distance, tag);
+    }
+}
+
+// Fills the hole at `start` with an entry: parents with greater keys move down, and the entry is stored once, in its final place.
+fn rise(q: &mut [u32], len: usize, start: usize, distance: u32, tag: u32)
+    requires { ⌜ CanRise (now q) len start (keyOf distance tag) ⌝ }
+    ensures { λ _. ⌜ Filled (now (q .entry)) (now (q .exit)) len start (keyOf distance tag) ⌝ }
+{
+    let key = key_of(distance, tag);
+    let mut hole = start;
+    while 0 < hole {
+        let parent = (hole - 1) / 2;
+        let k = key_at(q, parent);
+        if k <= key {
+            put(q, hole, distance, tag);
+            return;
+        }
+        copy(q, parent, hole);
+        hole = parent;
+    }
+    put(q, hole, distance, tag);
+}
+
+// Adds an entry to a queue of `len` entries.
+pub fn push(q: &mut [u32], len: usize, distance: u32, tag: u32)
+    requires { ⌜ Queue (now q) len ⌝ }
+    requires { ⌜ 2 * len + 2 ≤ length (now q) ⌝ }
+    ensures { λ _. ⌜ Pushed (now (q .entry)) (now (q .exit)) len (keyOf distance tag) ⌝ }
+{
+    rise(q, len + 1, len, distance, tag);
+}
+
+// Takes an entry with the least key out of a queue of `len` entries.
+pub fn pop(q: &mut [u32], len: usize) -> Entry
+    requires { ⌜ Queue (now q) len ⌝ }
+    requires { ⌜ 0 < len ⌝ }
+    ensures { λ r. ⌜ Popped (now (q .entry)) (now (q .exit)) len (keyOf (r .distance) (r .tag)) ⌝ }
+{
+    let distance = q[0];
+    let tag = q[1];
+    let last = len - 1;
+    let last_distance = q[2 * last];
+    let last_tag = q[2 * last + 1];
+    put(q, last, 0, 0);
+    if last == 0 {
+        return Entry { distance, tag };
+    }
+    sink(q, last, 0, last_distance, last_tag);
+    Entry { distance, tag }
+}
+
+// Zeroes the words of a queue of `len` entries.
+pub fn clear(q: &mut [u32], len: usize)
+    requires { ⌜ Queue (now q) len ⌝ }
+    ensures { λ _. ⌜ Cleared (now (q .entry)) (now (q .exit)) ⌝ }
+{
+    let end = 2 * len;
+    let mut i = 0;
+    while i < end {
+        q[i] = 0;
+        i += 1;
+    }
+}
+
+// Adds an entry to a queue of `len` entries that starts at the word `at` of a longer slice.
+pub fn push_at(s: &mut [u32], at: usize, len: usize, distance: u32, tag: u32)
+    requires { ⌜ Queue (drop at (now s)) len ⌝ }
+    requires { ⌜ at + (2 * len + 2) ≤ length (now s) ⌝ }
+    ensures { λ _. ⌜ PushedAt (now (s .entry)) (now (s .exit)) at len (keyOf distance tag) ⌝ }
+{
+    push(&mut s[at..], len, distance, tag);
+}
+
+// Takes an entry with the least key out of a queue of `len` entries that starts at the word `at` of a longer slice.
+pub fn pop_at(s: &mut [u32], at: usize, len: usize) -> Entry
+    requires { ⌜ Queue (drop at (now s)) len ⌝ }
+    requires { ⌜ 0 < len ⌝ }
+    ensures { λ r. ⌜ PoppedAt (now (s .entry)) (now (s .exit)) at len (keyOf (r .distance) (r .tag)) ⌝ }
+{
+    pop(&mut s[at..], len)
+}
+
+// Zeroes the words of a queue of `len` entries that starts at the word `at` of a longer slice.
+pub fn clear_at(s: &mut [u32], at: usize, len: usize)
+    requires { ⌜ Queue (drop at (now s)) len ⌝ }
+    requires { ⌜ at ≤ length (now s) ⌝ }
+    ensures { λ _. ⌜ ClearedAt (now (s .entry)) (now (s .exit)) at ⌝ }
+{
+    clear(&mut s[at..], len);
+}

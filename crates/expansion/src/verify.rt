@@ -1,0 +1,132 @@
+// Verify: document 01, 'What a site receives': whether fewer than k other points are strictly nearer to p than q, and q can be reached.
+ghost use mathlib.Core.Path.{_≡_};
+ghost use Prim.Native.Nat.{_+_, _<_};
+ghost use lib.ListN.{length};
+ghost use Rattle.network.specs.Network.{network};
+ghost use Rattle.network.specs.Count.{bit};
+ghost use Rattle.expansion.specs.Visited.{CanVisit, CameTo, isOther, Visited, VerifyLeft};
+use crate::step;
+use crate::step::Taken;
+use network::arcs::wide;
+
+// Whether the rule holds, and what stands in the area: how many nodes are settled, and how many entries wait.
+pub struct Verdict {
+    pub yes: bool,
+    pub settled: usize,
+    pub len: usize,
+}
+
+// The label that the expansion has come to, and the other points that it has settled: below that label, and at it.
+struct Tally {
+    label: u32,
+    below: usize,
+    level: usize,
+}
+
+// The tally when the expansion comes to a label.
+fn come_to(t: Tally, label: u32) -> Tally
+    requires { ⌜ t .below + t .level < 4294967296 ⌝ }
+    ensures { λ r. ⌜ CameTo t label r ⌝ }
+{
+    if label <= t.label {
+        return t;
+    }
+    Tally {
+        label,
+        below: t.below + t.level,
+        level: 0,
+    }
+}
+
+// 1 where the node is a point other than p, else 0.
+fn counts(points: &[u8], p: u32, node: u32) -> usize
+    requires { ⌜ node < length (now points) ⌝ }
+    ensures { λ r. ⌜ r ≡ bit (isOther (now (points .entry)) p node) ⌝ }
+{
+    if node == p {
+        return 0;
+    }
+    let at = wide(node);
+    let mark = points[at];
+    if mark == 1 {
+        return 1;
+    }
+    0
+}
+
+// Expands from p until it is known whether fewer than k other points are strictly nearer to p than q, and leaves what it settled.
+pub fn visit(
+    starts: &[u32],
+    neighbours: &[u32],
+    weights: &[u32],
+    points: &[u8],
+    s: &mut [u32],
+    b: usize,
+    p: u32,
+    q: u32,
+    k: usize,
+) -> Verdict
+    requires { ⌜ CanVisit (network (now starts) (now neighbours) (now weights)) (now points) (now s) b p q ⌝ }
+    ensures { λ r. ⌜ Visited (network (now (starts .entry)) (now (neighbours .entry)) (now (weights .entry))) (now (points .entry)) p q k (now (s .entry)) (now (s .exit)) b r ⌝ }
+{
+    let n = starts.len() - 1;
+    step::start(s, b, n, p);
+    let mut tally = Tally {
+        label: 0,
+        below: 0,
+        level: 0,
+    };
+    let mut settled = 0;
+    let mut len = 1;
+    loop {
+        let taken = step::next(s, b, n, len);
+        let Taken::Node {
+            label,
+            node,
+            parent: _,
+            left,
+        } = taken
+        else {
+            return Verdict {
+                yes: false,
+                settled,
+                len: 0,
+            };
+        };
+        tally = come_to(tally, label);
+        if k <= tally.below || node == q {
+            return Verdict {
+                yes: tally.below < k,
+                settled,
+                len: left,
+            };
+        }
+        tally.level += counts(points, p, node);
+        step::settle(s, b, n, settled, node, label);
+        settled += 1;
+        len = step::open(starts, neighbours, weights, s, b, left, node, label);
+    }
+}
+
+// The same, with the area blank before and after.
+pub fn verify(
+    starts: &[u32],
+    neighbours: &[u32],
+    weights: &[u32],
+    points: &[u8],
+    s: &mut [u32],
+    b: usize,
+    p: u32,
+    q: u32,
+    k: usize,
+) -> bool
+    requires { ⌜ CanVisit (network (now starts) (now neighbours) (now weights)) (now points) (now s) b p q ⌝ }
+    ensures { λ r. ⌜ VerifyLeft (network (now (starts .entry)) (now (neighbours .entry)) (now (weights .entry))) (now (points .entry)) p q k (now (s .entry)) (now (s .exit)) b r ⌝ }
+{
+    let n = starts.len() - 1;
+    let v = visit(starts, neighbours, weights, points, s, b, p, q, k);
+    let settled = v.settled;
+    let len = v.len;
+    step::clear(s, b, n, settled, len);
+    v.yes
+}

@@ -1,0 +1,56 @@
+-- The outcomes of the calls: refused with its number, and accepted.
+-- Assumes nothing.
+use Prim.Native.Nat.{ℕ}
+use mathlib.Core.Path.{_≡_}
+use mathlib.Core.Logic.{_≢_}
+use mathlib.Core.Bool.{Bool}
+use mathlib.Core.List.{List}
+use lib.ListN.{length, replicate}
+use borrow.Author.Tests.{eq-eqb, ne-eqb}
+use Rattle.network.specs.Network.{Network}
+use Rattle.network.specs.Distance.{distancesFrom}
+use Rattle.network.specs.Answers.{answered}
+use Rattle.network.specs.Points.{verified}
+use Rattle.overlap.specs.declared.nearest.Found.the-variants.{Refused, Points}
+use Rattle.overlap.specs.declared.verify.Rule.{Rule}
+use Rattle.overlap.specs.declared.verify.Rule.the-variants.{Answer}
+use Rattle.overlap.specs.Distances.{DistancesOutcome, distancesNumber, distancesOutcome}
+use Rattle.overlap.specs.Nearest.{NearestOutcome, nearestNumber, nearestOutcome, NearestDone}
+use Rattle.overlap.specs.Verify.{VerifyOutcome, verifyNumber, verifyOutcome}
+
+module _ (g : Network) (node : ℕ) (scratch answers : List ℕ) where
+  pub distances-refused : (number : ℕ) → number ≡ distancesNumber g node scratch answers → number ≢ 0
+      → _≡_ {A = DistancesOutcome} (record { number = number; scratch = scratch; answers = answers }) (distancesOutcome g node scratch answers)
+  unfolding distancesOutcome
+  distances-refused number e n = rw (← e, ne-eqb number 0 n)
+
+  pub distances-done : {s a : List ℕ} → distancesNumber g node scratch answers ≡ 0 → s ≡ replicate (length scratch) 0
+      → a ≡ answered (distancesFrom g node) answers
+      → _≡_ {A = DistancesOutcome} (record { number = 0; scratch = s; answers = a }) (distancesOutcome g node scratch answers)
+  unfolding distancesOutcome
+  distances-done e p q = rw (eq-eqb (distancesNumber g node scratch answers) 0 e, p, q)
+
+module _ (g : Network) (P : List ℕ) (node e k : ℕ) (scratch ids distances : List ℕ) where
+  pub nearest-refused : (number : ℕ) → number ≡ nearestNumber g P node k scratch ids distances → number ≢ 0
+      → _≡_ {A = NearestOutcome} (record { answer = Refused number; scratch = scratch; ids = ids; distances = distances })
+      (nearestOutcome g P node e k scratch ids distances)
+  unfolding nearestOutcome
+  nearest-refused number q n = rw (← q, ne-eqb number 0 n)
+
+  pub nearest-done : {s i d : List ℕ} {r : ℕ} → nearestNumber g P node k scratch ids distances ≡ 0 → s ≡ replicate (length scratch) 0
+      → NearestDone g P node e k ids i distances d r
+      → _≡_ {A = NearestOutcome} (record { answer = Points r; scratch = s; ids = i; distances = d })
+      (nearestOutcome g P node e k scratch ids distances)
+  unfolding nearestOutcome
+  nearest-done q z h = rw (eq-eqb (nearestNumber g P node k scratch ids distances) 0 q, z, h .count, h .id-answers, h .distance-answers)
+
+module _ (g : Network) (P : List ℕ) (p q k : ℕ) (scratch : List ℕ) where
+  pub verify-refused : (number : ℕ) → number ≡ verifyNumber g P p q k scratch → number ≢ 0
+      → _≡_ {A = VerifyOutcome} (record { answer = Rule.Refused number; scratch = scratch }) (verifyOutcome g P p q k scratch)
+  unfolding verifyOutcome
+  verify-refused number e n = rw (← e, ne-eqb number 0 n)
+
+  pub verify-done : {s : List ℕ} {r : Bool} → verifyNumber g P p q k scratch ≡ 0 → s ≡ replicate (length scratch) 0 → r ≡ verified g P p q k
+      → _≡_ {A = VerifyOutcome} (record { answer = Answer r; scratch = s }) (verifyOutcome g P p q k scratch)
+  unfolding verifyOutcome
+  verify-done e z h = rw (eq-eqb (verifyNumber g P p q k scratch) 0 e, z, h)

@@ -1,0 +1,147 @@
+-- The numbers of the conditions: the first of several, and what a number 0 leaves: no condition of the call is met.
+-- Assumes nothing.
+use Prim.Native.Nat.{ℕ, _+_, _*_, _≤_, _<_}
+use mathlib.Core.Path.{_≡_, refl, sym, ap, _∙_}
+use mathlib.Core.Bool.{Bool, true, false, cond, not, _||_}
+use mathlib.Core.List.{List, [], _∷_}
+use mathlib.Core.Logic.{_≢_}
+use native.Mathlib.Nat.{mul-le-mul-left, mul-le-mul-right}
+use native.Mathlib.Decide.{ℕ-discrete}
+use native.Mathlib.Omega.{arith}
+use lib.Dec.{eqb, leb, ltb}
+use lib.ListN.{length, replicate, length-replicate}
+use borrow.Author.Tests.{eq-eqb, ne-eqb, eqb-true, eqb-false, leb-false, ltb-false, not-false}
+use Rattle.network.specs.Count.{any}
+use Rattle.network.specs.Network.{Network, nodeCount, arcCount}
+use Rattle.network.specs.Check.{networkNumber}
+use Rattle.network.proofs.Tests.{or-parts}
+use Rattle.network.proofs.NumberZero.{number-zero}
+use Rattle.overlap.specs.Numbers.{firstNumber, badByteAt, pointsNumber, nodeNumber, kNumber, scratchWords, shortNumber}
+use Rattle.overlap.specs.Distances.{distancesNumber, DistancesReady}
+use Rattle.overlap.specs.Nearest.{nearestNumber, NearestReady}
+use Rattle.overlap.specs.Verify.{verifyNumber, VerifyReady}
+
+-- the clauses of `firstNumber`: the first number is not 0; it is
+pub first-is : (x : ℕ) (xs : List ℕ) (r : ℕ) → r ≡ x → r ≢ 0 → r ≡ firstNumber (x ∷ xs)
+unfolding firstNumber
+first-is x xs r e n = e ∙ rw (ne-eqb x 0 (λ z. n (e ∙ z)))
+
+pub first-later : (x : ℕ) (xs : List ℕ) (r y : ℕ) → r ≡ x → r ≡ 0 → y ≡ firstNumber xs → y ≡ firstNumber (x ∷ xs)
+unfolding firstNumber
+first-later x xs r y e z h = h ∙ rw (eq-eqb x 0 (sym e ∙ z))
+
+first-none : 0 ≡ firstNumber []
+unfolding firstNumber
+first-none = refl
+
+pub first-last : (x r : ℕ) → r ≡ x → r ≡ firstNumber (x ∷ [])
+first-last x r e =
+    elim (ℕ-discrete r 0) [
+      | yes z ↦ first-later x [] r r e z (z ∙ first-none)
+      | no n ↦ first-is x [] r e n
+    ]
+
+-- a first number of 0: every number is 0
+pub first-zero : (x : ℕ) (xs : List ℕ) → firstNumber (x ∷ xs) ≡ 0 → (x ≡ 0) × (firstNumber xs ≡ 0)
+unfolding firstNumber
+first-zero x xs e =
+    elim (ℕ-discrete x 0) [
+      | yes q ↦ (q, rw (eq-eqb x 0 q) at e)
+      | no n ↦ absurd (n (rw (ne-eqb x 0 n) at e))
+    ]
+
+-- a condition's number of 0: its test did not pass
+number-none : (b : Bool) (number : ℕ) → number ≢ 0 → cond b number 0 ≡ 0 → b ≡ false
+number-none true number n e = absurd (n e)
+number-none false number n e = refl
+
+pub points-ready : (n : ℕ) (P : List ℕ) → pointsNumber n P ≡ 0 → length P ≡ n
+unfolding pointsNumber
+points-ready n P e =
+    let r = or-parts (not (eqb (length P) n)) _ (number-none (not (eqb (length P) n) || any (badByteAt P) (length P)) 6 (omega arith) e) in
+    eqb-true (length P) n (not-false (eqb (length P) n) (r .0))
+
+pub node-ready : (n v : ℕ) → nodeNumber n v ≡ 0 → v < n
+unfolding nodeNumber
+node-ready n v e = leb-false n v (number-none (leb n v) 7 (omega arith) e)
+
+pub k-ready : (k : ℕ) → kNumber k ≡ 0 → (1 ≤ k) × (k ≤ 16)
+unfolding kNumber
+k-ready k e =
+    let r = or-parts (eqb k 0) _ (number-none (eqb k 0 || ltb 16 k) 9 (omega arith) e) in
+    let n = eqb-false k 0 (r .0) in
+    (omega arith, ltb-false 16 k (r .1))
+
+pub short-ready : (have need : ℕ) → shortNumber have need ≡ 0 → need ≤ have
+unfolding shortNumber
+short-ready have need e = ltb-false have need (number-none (ltb have need) 10 (omega arith) e)
+
+pub distances-ready : (g : Network) (node : ℕ) (scratch answers : List ℕ) → distancesNumber g node scratch answers ≡ 0 → DistancesReady g node scratch answers
+unfolding distancesNumber
+distances-ready g node scratch answers e =
+    let a = first-zero (networkNumber g) _ e in
+    let b = first-zero (nodeNumber (nodeCount g) node) _ (a .1) in
+    let c = first-zero (shortNumber (length scratch) (scratchWords g 1)) _ (b .1) in
+    let d = first-zero (shortNumber (length answers) (nodeCount g)) [] (c .1) in
+    record {
+      accepted = number-zero g .0 (a .0);
+      inside = node-ready (nodeCount g) node (b .0);
+      room = short-ready (length scratch) (scratchWords g 1) (c .0);
+      places = short-ready (length answers) (nodeCount g) (d .0);
+    }
+
+pub nearest-ready : (g : Network) (P : List ℕ) (node k : ℕ) (scratch ids distances : List ℕ) → nearestNumber g P node k scratch ids distances ≡ 0
+    → NearestReady g P node k scratch ids distances
+unfolding nearestNumber
+nearest-ready g P node k scratch ids distances e =
+    let a = first-zero (networkNumber g) _ e in
+    let b = first-zero (pointsNumber (nodeCount g) P) _ (a .1) in
+    let c = first-zero (nodeNumber (nodeCount g) node) _ (b .1) in
+    let d = first-zero (kNumber k) _ (c .1) in
+    let f = first-zero (shortNumber (length scratch) (scratchWords g k)) _ (d .1) in
+    let h = first-zero (shortNumber (length ids) k) _ (f .1) in
+    let i = first-zero (shortNumber (length distances) k) [] (h .1) in
+    record {
+      accepted = number-zero g .0 (a .0);
+      points = points-ready (nodeCount g) P (b .0);
+      inside = node-ready (nodeCount g) node (c .0);
+      some = k-ready k (d .0) .0;
+      few = k-ready k (d .0) .1;
+      room = short-ready (length scratch) (scratchWords g k) (f .0);
+      id-places = short-ready (length ids) k (h .0);
+      distance-places = short-ready (length distances) k (i .0);
+    }
+
+pub verify-ready : (g : Network) (P : List ℕ) (p q k : ℕ) (scratch : List ℕ) → verifyNumber g P p q k scratch ≡ 0 → VerifyReady g P p q k scratch
+unfolding verifyNumber
+verify-ready g P p q k scratch e =
+    let a = first-zero (networkNumber g) _ e in
+    let b = first-zero (pointsNumber (nodeCount g) P) _ (a .1) in
+    let c = first-zero (nodeNumber (nodeCount g) p) _ (b .1) in
+    let d = first-zero (nodeNumber (nodeCount g) q) _ (c .1) in
+    let f = first-zero (kNumber k) _ (d .1) in
+    let h = first-zero (shortNumber (length scratch) (scratchWords g k)) _ (f .1) in
+    record {
+      accepted = number-zero g .0 (a .0);
+      points = points-ready (nodeCount g) P (b .0);
+      inside-p = node-ready (nodeCount g) p (c .0);
+      inside-q = node-ready (nodeCount g) q (d .0);
+      some = k-ready k (f .0) .0;
+      few = k-ready k (f .0) .1;
+      room = short-ready (length scratch) (scratchWords g k) (h .0);
+    }
+
+-- words that are all 0, as many as they are
+pub all-zero : {xs : List ℕ} (l m : ℕ) → xs ≡ replicate l 0 → length xs ≡ m → xs ≡ replicate m 0
+all-zero l m e h =
+    let q : l ≡ m = sym (ap length e ∙ length-replicate l 0) ∙ h in
+    e ∙ ap (λ n. replicate n 0) q
+
+-- S is enough for the words that are used: 2 k + 2 n + 2 (A + 1), since k and n are at least 1
+pub words-enough : (g : Network) (k : ℕ) → 1 ≤ k → 16 * nodeCount g + 8 * (arcCount g + nodeCount g) ≤ scratchWords g k
+words-enough g k h = omega (arith, mul-le-mul-left (8 * (arcCount g + nodeCount g)) h)
+
+pub words-for-found : (g : Network) (k : ℕ) → 1 ≤ k → k ≤ 16 → 1 ≤ nodeCount g → 2 * k + 2 * nodeCount g + 2 * (arcCount g + 1) ≤ scratchWords g k
+words-for-found g k h few some =
+    let low : 8 ≤ 8 * (arcCount g + nodeCount g) = omega arith in
+    omega (arith, words-enough g k h, mul-le-mul-right k low)

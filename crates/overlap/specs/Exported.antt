@@ -1,0 +1,19 @@
+-- What the exported calls return and leave: overlap.h's struct of the answer, and the final contents of the lent arrays.
+-- Assumes nothing.
+use Prim.Native.Nat.{ℕ}
+use mathlib.Core.Path.{_≡_}
+use mathlib.Core.List.{List}
+use Rattle.overlap.specs.declared.Listing.{Listing}
+use Rattle.overlap.specs.declared.Verdict.{Verdict}
+use Rattle.overlap.specs.Nearest.{NearestOutcome, foundListing}
+use Rattle.overlap.specs.Verify.{VerifyOutcome, ruleVerdict}
+
+pub record NearestExported (outcome : NearestOutcome) (r : Listing) (scratch ids distances : List ℕ) : Type 0 where
+  pub answer : r ≡ foundListing (outcome .answer)
+  pub scratch-left : scratch ≡ outcome .scratch
+  pub ids-left : ids ≡ outcome .ids
+  pub distances-left : distances ≡ outcome .distances
+
+pub record VerifyExported (outcome : VerifyOutcome) (r : Verdict) (scratch : List ℕ) : Type 0 where
+  pub answer : r ≡ ruleVerdict (outcome .answer)
+  pub scratch-left : scratch ≡ outcome .scratch

@@ -1,0 +1,6 @@
+-- What the public calls answer and leave, by the definitions of document 01: the numbers of refusal, and for each call one outcome.
+pub mod Numbers
+pub mod Distances
+pub mod Nearest
+pub mod Verify
+pub mod Exported

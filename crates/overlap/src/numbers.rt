@@ -1,0 +1,88 @@
+// The conditions of refusal 6 to 11, each with its own number; 0 where it is not met. Document 01, 'Numbers of refusal'.
+ghost use mathlib.Core.Path.{_≡_};
+ghost use Prim.Native.Nat.{_+_, _*_, _≤_, _<_};
+ghost use lib.ListN.{length};
+ghost use Rattle.network.specs.Count.{any};
+ghost use Rattle.overlap.specs.Numbers.{badByteAt, pointsNumber, nodeNumber, kNumber, shortNumber, unmarkedNumber};
+use network::arcs::wide;
+
+// Of 6: a byte above 1.
+fn bad_byte(points: &[u8]) -> bool
+    ensures { λ r. ⌜ r ≡ any (badByteAt (now (points .entry))) (length (now (points .entry))) ⌝ }
+{
+    let mut i = 0;
+    while i < points.len() {
+        let mark = points[i];
+        if 1 < mark {
+            return true;
+        }
+        i += 1;
+    }
+    false
+}
+
+// 6: points has not n entries, or a byte above 1.
+pub fn points_number(n: usize, points: &[u8]) -> u32
+    ensures { λ r. ⌜ r ≡ pointsNumber n (now (points .entry)) ⌝ }
+{
+    if points.len() != n {
+        return 6;
+    }
+    if bad_byte(points) {
+        return 6;
+    }
+    0
+}
+
+// 7: a node given is n or more.
+pub fn node_number(n: usize, node: u32) -> u32
+    ensures { λ r. ⌜ r ≡ nodeNumber n node ⌝ }
+{
+    if n <= wide(node) {
+        return 7;
+    }
+    0
+}
+
+// 9: k is 0 or above 16.
+pub fn k_number(k: u32) -> u32
+    ensures { λ r. ⌜ r ≡ kNumber k ⌝ }
+{
+    if k == 0 {
+        return 9;
+    }
+    if 16 < k {
+        return 9;
+    }
+    0
+}
+
+// S, the words of scratch that a call asks, for m from 1 to 17.
+pub fn scratch_words(n: usize, arcs: usize, m: u32) -> usize
+    requires { ⌜ (n ≤ 65535) × (arcs ≤ 524288) × (m ≤ 17) ⌝ }
+    ensures { λ r. ⌜ r ≡ 16 * n + 8 * (arcs + n) * m ⌝ }
+{
+    16 * n + 8 * (arcs + n) * wide(m)
+}
+
+// 10: an array has fewer entries than are asked.
+pub fn short_number(have: usize, need: usize) -> u32
+    ensures { λ r. ⌜ r ≡ shortNumber have need ⌝ }
+{
+    if have < need {
+        return 10;
+    }
+    0
+}
+
+// 11: verify of an unmarked node.
+pub fn unmarked_number(points: &[u8], p: u32) -> u32
+    requires { ⌜ p < length (now points) ⌝ }
+    ensures { λ r. ⌜ r ≡ unmarkedNumber (now (points .entry)) p ⌝ }
+{
+    let mark = points[wide(p)];
+    if mark == 1 {
+        return 0;
+    }
+    11
+}

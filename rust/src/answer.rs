@@ -1,0 +1,41 @@
+//! From the answer of a call to a `Result`.
+
+use crate::{accepted, Listing, Refusal, Verdict};
+
+impl Listing {
+    /// The listing of an accepted call.
+    ///
+    /// ```
+    /// use overlap::Listing;
+    ///
+    /// let two_points = Listing { number: 0, count: 0, length: 2 };
+    /// assert_eq!(two_points.accepted().unwrap().length, 2);
+    /// assert!(Listing { number: 9, count: 0, length: 0 }.accepted().is_err());
+    /// ```
+    ///
+    /// # Errors
+    ///
+    /// The refusal, where the number is not 0.
+    pub fn accepted(self) -> Result<Self, Refusal> {
+        accepted(self.number).map(|()| self)
+    }
+}
+
+impl Verdict {
+    /// The yes (`true`) or no (`false`) of an accepted call.
+    ///
+    /// ```
+    /// use overlap::Verdict;
+    ///
+    /// assert_eq!(Verdict { number: 0, yes: 1 }.accepted(), Ok(true));
+    /// assert_eq!(Verdict { number: 0, yes: 0 }.accepted(), Ok(false));
+    /// assert!(Verdict { number: 11, yes: 0 }.accepted().is_err());
+    /// ```
+    ///
+    /// # Errors
+    ///
+    /// The refusal, where the number is not 0.
+    pub fn accepted(self) -> Result<bool, Refusal> {
+        accepted(self.number).map(|()| self.yes == 1)
+    }
+}

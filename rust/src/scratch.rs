@@ -1,0 +1,30 @@
+//! The length of the scratch.
+
+use crate::Network;
+
+/// Document 01: "Scratch is a lent array of 32-bit numbers. Length S = 16 × n + 8 × (A + n) × m
+/// entries; m is the k of a search, verify or nearest call (1 for the short query), K for build,
+/// insert and remove, and 1 for distances."
+///
+/// This is S for any arrays and any m, the largest `usize` where S is larger than that. n is one
+/// less than the length of starts, or 0 where starts is empty; A is the length of neighbours.
+///
+/// ```
+/// use overlap::{scratch_len, Network};
+///
+/// // Three nodes, the roads 0-1 of 4 and 1-2 of 3: n = 3 and A = 4.
+/// let network = Network {
+///     starts: &[0, 1, 3, 4],
+///     neighbours: &[1, 0, 2, 1],
+///     weights: &[4, 4, 3, 3],
+/// };
+/// assert_eq!(scratch_len(network, 1), 16 * 3 + 8 * (4 + 3));
+/// assert_eq!(scratch_len(network, 16), 16 * 3 + 8 * (4 + 3) * 16);
+/// ```
+#[must_use]
+pub fn scratch_len(network: Network<'_>, m: usize) -> usize {
+    let n = network.starts.len().saturating_sub(1);
+    let arcs_and_nodes = network.neighbours.len().saturating_add(n);
+    let by_m = arcs_and_nodes.saturating_mul(8).saturating_mul(m);
+    n.saturating_mul(16).saturating_add(by_m)
+}

@@ -1,0 +1,75 @@
+//! The verification of one point.
+
+use crate::{ffi, Network, Verdict};
+
+/// Document 01: "Verify: for a marked p and q, yes or no by the rule above."
+///
+/// The rule: "For query node q and k, point p is listed if it can be reached from q and fewer than
+/// k other points p' have d(p, p') < d(p, q). The point p itself doesn't count. A point on q is
+/// listed."
+///
+/// The answer is number 0 with yes or no, or the first condition met of 1 to 7 and 9 to 11. Scratch
+/// has at least [`scratch_len`](crate::scratch_len)`(network, k)` entries of any contents.
+///
+/// "An accepted call with scratch leaves it all zero." "A refusal returns its number, count 0 and
+/// no, and changes no buffer".
+///
+/// ```
+/// use overlap::{scratch_len, verify, Network};
+///
+/// # fn main() -> Result<(), overlap::Refusal> {
+/// // Network N of document 01.
+/// let network = Network {
+///     starts: &[0, 2, 4, 6, 8, 10, 10],
+///     neighbours: &[1, 3, 0, 2, 1, 4, 0, 4, 2, 3],
+///     weights: &[4, 5, 4, 3, 3, 7, 5, 3, 7, 3],
+/// };
+/// let points = [0, 0, 1, 0, 1, 1];
+/// let mut scratch = vec![0; scratch_len(network, 2)];
+///
+/// // "Equal distances: 4 is no nearer to 2 than site 0 is in P1."
+/// assert!(verify(network, &points, 2, 0, 1, &mut scratch).accepted()?);
+///
+/// // Point 2 is nearer to 4 (7) than site 0 is (8): no for k = 1, yes for k = 2.
+/// assert!(!verify(network, &points, 4, 0, 1, &mut scratch).accepted()?);
+/// assert!(verify(network, &points, 4, 0, 2, &mut scratch).accepted()?);
+///
+/// // Node 3 is not marked.
+/// assert_eq!(verify(network, &points, 3, 0, 1, &mut scratch).number, 11);
+/// # Ok(())
+/// # }
+/// ```
+pub fn verify(
+    network: Network<'_>,
+    points: &[u8],
+    p: u32,
+    q: u32,
+    k: u32,
+    scratch: &mut [u32],
+) -> Verdict {
+    let Network {
+        starts,
+        neighbours,
+        weights,
+    } = network;
+    // SAFETY: each pointer and length are those of one slice, lent for the whole call; scratch, the
+    // one that the call writes, is lent to it alone. It touches no word outside the slices. An
+    // empty slice has a pointer that is not null.
+    unsafe {
+        ffi::overlap_verify(
+            starts.as_ptr(),
+            starts.len(),
+            neighbours.as_ptr(),
+            neighbours.len(),
+            weights.as_ptr(),
+            weights.len(),
+            points.as_ptr(),
+            points.len(),
+            p,
+            q,
+            k,
+            scratch.as_mut_ptr(),
+            scratch.len(),
+        )
+    }
+}

@@ -1,0 +1,91 @@
+//! All distances of a small network, by a plain all-pairs calculation in 64-bit numbers, and what
+//! document 01 says by them.
+
+use super::rows::{distances_in, expanded_in, nearest_in, verify_in, Near, Row};
+use overlap::Network;
+
+/// The row of each node.
+pub struct AllPairs {
+    rows: Vec<Row>,
+}
+
+impl AllPairs {
+    /// "d(a, b) is the smallest sum of weights over all walks from a to b; d(a, a) = 0; without a
+    /// walk b can't be reached." The network is an accepted one.
+    ///
+    /// Floyd and Warshall: behind the round of a node, an entry is the smallest sum over the walks
+    /// that pass through no node above it.
+    pub fn of(network: Network<'_>) -> Self {
+        let mut rows = single_arcs(network);
+        for via in 0..rows.len() {
+            let onward = rows[via].clone();
+            for row in &mut rows {
+                pass_through(row, via, &onward);
+            }
+        }
+        Self { rows }
+    }
+
+    pub fn row(&self, node: u32) -> &Row {
+        &self.rows[node as usize]
+    }
+
+    /// "Distances from a node: n entries, NONE where none."
+    pub fn plain_distances(&self, node: u32) -> Vec<u32> {
+        distances_in(self.row(node))
+    }
+
+    /// "Nearest: the points p with d(node, p) < e, e any 32-bit number, by distance then node, cut
+    /// after the first k".
+    pub fn plain_nearest(&self, points: &[u8], node: u32, e: u32, k: u32) -> Vec<Near> {
+        nearest_in(self.row(node), points, e, k)
+    }
+
+    /// "Verify: for a marked p and q, yes or no by the rule above."
+    pub fn plain_verify(&self, points: &[u8], p: u32, q: u32, k: u32) -> bool {
+        verify_in(self.row(p), points, p, q, k)
+    }
+
+    /// The points that are listed for q and k. "Lists are ascending by node."
+    pub fn plain_listed(&self, points: &[u8], q: u32, k: u32) -> Vec<u32> {
+        let is_listed = |&p: &u32| points[p as usize] == 1 && self.plain_verify(points, p, q, k);
+        self.nodes().filter(is_listed).collect()
+    }
+
+    /// "the number of nodes m that can be reached from q and have fewer than k points p (one on m
+    /// included) with d(m, p) < d(m, q)".
+    pub fn plain_expanded(&self, points: &[u8], q: u32, k: u32) -> u32 {
+        let is_counted = |&m: &u32| expanded_in(self.row(m), points, q, k);
+        self.nodes().filter(is_counted).count() as u32
+    }
+
+    fn nodes(&self) -> std::ops::Range<u32> {
+        0..self.rows.len() as u32
+    }
+}
+
+/// The rows by walks of at most one arc.
+fn single_arcs(network: Network<'_>) -> Vec<Row> {
+    let n = network.starts.len() - 1;
+    let mut rows = vec![vec![None; n]; n];
+    for (node, row) in rows.iter_mut().enumerate() {
+        row[node] = Some(0);
+        for arc in network.starts[node] as usize..network.starts[node + 1] as usize {
+            row[network.neighbours[arc] as usize] = Some(u64::from(network.weights[arc]));
+        }
+    }
+    rows
+}
+
+/// Makes each entry the smaller of itself and the way through `via`, whose own row is `onward`.
+fn pass_through(row: &mut Row, via: usize, onward: &Row) {
+    let Some(there) = row[via] else {
+        return;
+    };
+    for (entry, &rest) in row.iter_mut().zip(onward) {
+        if let Some(rest) = rest {
+            let sum = there + rest;
+            *entry = Some(entry.map_or(sum, |known| known.min(sum)));
+        }
+    }
+}

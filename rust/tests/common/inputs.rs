@@ -1,0 +1,90 @@
+//! Random inputs of calls: those that are accepted, and those that meet a condition of document
+//! 01's table of refusals.
+
+use super::network::OwnedNetwork;
+use super::random::Random;
+use super::rows::Row;
+
+/// A length that is at least this one, and often just this one.
+pub fn enough(least: usize, random: &mut Random) -> usize {
+    least + random.pick(&[0, 0, 0, 1, 2, 7, 60])
+}
+
+/// A length below this one, and often just below.
+pub fn too_short(least: usize, random: &mut Random) -> usize {
+    let shorter = [least.saturating_sub(1), random.index(least).unwrap_or(0), 0];
+    random.pick(&[shorter[0], shorter[0], shorter[1], shorter[2]])
+}
+
+/// A node, and often the last one.
+pub fn some_node(network: &OwnedNetwork, random: &mut Random) -> u32 {
+    let last = last_node(network);
+    if random.once_in(8) {
+        last
+    } else {
+        random.between(0, last)
+    }
+}
+
+/// 7: "a node given is n or more".
+pub fn no_node(network: &OwnedNetwork, random: &mut Random) -> u32 {
+    let n = network.starts.len().saturating_sub(1) as u32;
+    let larger = random.between(n, u32::MAX);
+    random.pick(&[n, n, n + 1, 65_536 + n / 2, u32::MAX - 1, u32::MAX, larger])
+}
+
+/// A k from 1 to 16, small ones more often.
+pub fn some_k(random: &mut Random) -> u32 {
+    let most = random.pick(&[1, 3, 16, 16]);
+    random.between(1, most)
+}
+
+/// 9: "k is 0 or above 16".
+pub fn no_k(random: &mut Random) -> u32 {
+    let large = random.between(17, u32::MAX);
+    let wraps = [(1 << 16) + 1, (1 << 28) + 1, (1 << 29) + 1, (1 << 31) + 1];
+    let wrap = random.pick(&wraps);
+    random.pick(&[0, 0, 17, 17, 18, 32, wrap, u32::MAX, large])
+}
+
+/// Points of any density, from none to all.
+pub fn some_points(network: &OwnedNetwork, random: &mut Random) -> Vec<u8> {
+    let n = network.starts.len() - 1;
+    let one_in = random.pick(&[1, 2, 3, 8, u32::MAX, u32::MAX]);
+    let mut points: Vec<u8> = (0..n).map(|_| u8::from(random.once_in(one_in))).collect();
+    if random.once_in(2) {
+        points[some_node(network, random) as usize] = 1;
+    }
+    points
+}
+
+/// 6: "points has not n entries, or a byte above 1".
+pub fn spoil_points(points: &mut Vec<u8>, random: &mut Random) {
+    let place = random.index(points.len());
+    match (random.below(5), place) {
+        (0, Some(_)) => drop(points.pop()),
+        (1, _) => points.push(random.pick(&[0, 1, 2])),
+        (2, Some(_)) => points.clear(),
+        (3, Some(place)) => points[place] = random.pick(&[2, 3, 128, 255]),
+        (_, Some(_)) => *points.last_mut().unwrap() = 2,
+        (_, None) => points.push(1),
+    }
+}
+
+/// A bound e: 0, 1, the largest number, any, or one at or next to a distance of the row.
+pub fn some_e(row: &Row, random: &mut Random) -> u32 {
+    let reached: Vec<u64> = row.iter().copied().flatten().collect();
+    let distance = reached[random.index(reached.len()).unwrap()] as u32;
+    match random.below(6) {
+        0 => 0,
+        1 => 1,
+        2 => u32::MAX,
+        3 => random.word(),
+        4 => distance,
+        _ => distance + 1,
+    }
+}
+
+fn last_node(network: &OwnedNetwork) -> u32 {
+    network.starts.len() as u32 - 2
+}

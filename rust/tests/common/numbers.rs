@@ -1,0 +1,100 @@
+//! The number of each call: the first condition met of document 01's table of refusals.
+
+use super::plain::plain_check;
+use overlap::Network;
+
+/// "Length S = 16 × n + 8 × (A + n) × m entries". The network is an accepted one and m at most 17.
+pub fn plain_scratch_len(network: Network<'_>, m: u32) -> usize {
+    let (n, arcs) = (node_count(network), network.neighbours.len());
+    16 * n + 8 * (arcs + n) * m as usize
+}
+
+/// Distances: the conditions 1 to 5, 7 and 10. Scratch and answers are given by their lengths.
+pub fn distances_number(network: Network<'_>, node: u32, scratch: usize, answers: usize) -> u32 {
+    let of_network = plain_check(network);
+    if of_network != 0 {
+        of_network
+    } else if is_no_node(network, node) {
+        7
+    } else if scratch < plain_scratch_len(network, 1) || answers < node_count(network) {
+        10
+    } else {
+        0
+    }
+}
+
+/// Nearest: the conditions 1 to 7, 9 and 10. Scratch and both answer arrays are given by their
+/// lengths.
+pub fn nearest_number(
+    network: Network<'_>,
+    points: &[u8],
+    node: u32,
+    k: u32,
+    scratch: usize,
+    answers: [usize; 2],
+) -> u32 {
+    let of_points = points_number(network, points);
+    if of_points != 0 {
+        of_points
+    } else if is_no_node(network, node) {
+        7
+    } else if is_no_k(k) {
+        9
+    } else if scratch < plain_scratch_len(network, k) || answers.iter().any(|&a| a < k as usize) {
+        10
+    } else {
+        0
+    }
+}
+
+/// Verify: the conditions 1 to 7 and 9 to 11. Scratch is given by its length.
+pub fn verify_number(
+    network: Network<'_>,
+    points: &[u8],
+    p: u32,
+    q: u32,
+    k: u32,
+    scratch: usize,
+) -> u32 {
+    let of_points = points_number(network, points);
+    if of_points != 0 {
+        of_points
+    } else if is_no_node(network, p) || is_no_node(network, q) {
+        7
+    } else if is_no_k(k) {
+        9
+    } else if scratch < plain_scratch_len(network, k) {
+        10
+    } else if points[p as usize] == 0 {
+        11
+    } else {
+        0
+    }
+}
+
+/// The first condition met of 1 to 6, or 0.
+fn points_number(network: Network<'_>, points: &[u8]) -> u32 {
+    let of_network = plain_check(network);
+    if of_network != 0 {
+        of_network
+    } else if points.len() != node_count(network) || points.iter().any(|&byte| byte > 1) {
+        6
+    } else {
+        0
+    }
+}
+
+/// 7: "a node given is n or more".
+fn is_no_node(network: Network<'_>, node: u32) -> bool {
+    node as usize >= node_count(network)
+}
+
+/// 9: "k is 0 or above 16".
+fn is_no_k(k: u32) -> bool {
+    k == 0 || k > 16
+}
+
+/// n of a network that passes condition 1.
+fn node_count(network: Network<'_>) -> usize {
+    network.starts.len() - 1
+}

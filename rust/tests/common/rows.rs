@@ -1,0 +1,90 @@
+//! The distances of one node, and what document 01 says by them alone.
+
+use overlap::{Network, NONE};
+use std::collections::VecDeque;
+
+/// Document 01: "Every distance is at most 4,294,770,690."
+pub const LARGEST_DISTANCE: u64 = 4_294_770_690;
+
+/// The distance of one node to each node, nothing where a node can't be reached.
+pub type Row = Vec<Option<u64>>;
+
+/// A point and its distance.
+pub type Near = (u32, u32);
+
+/// The row that an array of distances stands for: "NONE [...] stands for "can't be reached"".
+pub fn row_of(distances: &[u32]) -> Row {
+    let entry = |&distance: &u32| (distance != NONE).then_some(u64::from(distance));
+    distances.iter().map(entry).collect()
+}
+
+/// "n entries, NONE where none".
+pub fn distances_in(row: &Row) -> Vec<u32> {
+    let word = |entry: &Option<u64>| entry.map_or(NONE, distance_word);
+    row.iter().map(word).collect()
+}
+
+fn distance_word(distance: u64) -> u32 {
+    assert!(distance <= LARGEST_DISTANCE);
+    distance as u32
+}
+
+/// The row's node has "the points p with d(node, p) < e, e any 32-bit number, by distance then
+/// node, cut after the first k".
+pub fn nearest_in(row: &Row, points: &[u8], e: u32, k: u32) -> Vec<Near> {
+    let mut found: Vec<(u64, usize)> = nearer_points(row, points, u64::from(e)).collect();
+    found.sort_unstable();
+    found.truncate(k as usize);
+    let near = |&(distance, p): &(u64, usize)| (p as u32, distance_word(distance));
+    found.iter().map(near).collect()
+}
+
+/// The row is that of p: "point p is listed if it can be reached from q and fewer than k other
+/// points p' have d(p, p') < d(p, q). The point p itself doesn't count." Each road is two arcs, so
+/// p can be reached from q where q can be from p.
+pub fn verify_in(row: &Row, points: &[u8], p: u32, q: u32, k: u32) -> bool {
+    let Some(to_q) = row[q as usize] else {
+        return false;
+    };
+    let others = nearer_points(row, points, to_q).filter(|&(_, other)| other != p as usize);
+    others.count() < k as usize
+}
+
+/// The row is that of m, which is counted if it "can be reached from q" and has "fewer than k
+/// points p (one on m included) with d(m, p) < d(m, q)".
+pub fn expanded_in(row: &Row, points: &[u8], q: u32, k: u32) -> bool {
+    let Some(to_q) = row[q as usize] else {
+        return false;
+    };
+    nearer_points(row, points, to_q).count() < k as usize
+}
+
+/// The points whose distance is strictly below the bound, each with its distance.
+fn nearer_points<'a>(
+    row: &'a Row,
+    points: &'a [u8],
+    bound: u64,
+) -> impl Iterator<Item = (u64, usize)> + 'a {
+    let marked = (0..row.len()).filter(|&p| points[p] == 1);
+    let reached = marked.filter_map(|p| row[p].map(|distance| (distance, p)));
+    reached.filter(move |&(distance, _)| distance < bound)
+}
+
+/// The row of a node of an accepted network that may be too large for all pairs, by repeated
+/// relaxation: an entry that becomes smaller is handed on to its neighbours, until none does.
+pub fn relaxed_row(network: Network<'_>, node: u32) -> Row {
+    let mut row = vec![None; network.starts.len() - 1];
+    row[node as usize] = Some(0);
+    let mut smaller = VecDeque::from([node as usize]);
+    while let Some(a) = smaller.pop_front() {
+        for arc in network.starts[a] as usize..network.starts[a + 1] as usize {
+            let b = network.neighbours[arc] as usize;
+            let sum = row[a].map(|to_a: u64| to_a + u64::from(network.weights[arc]));
+            if row[b].is_none() || sum < row[b] {
+                row[b] = sum;
+                smaller.push_back(b);
+            }
+        }
+    }
+    row
+}

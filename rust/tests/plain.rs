@@ -1,0 +1,162 @@
+//! The plain calculation that the other tests compare with, tried on what document 01 says of
+//! network N, and on itself. The wrapper's own helpers are tried here as well.
+
+mod common;
+
+use common::all_pairs::AllPairs;
+use common::network::{marks, network_n, OwnedNetwork, N_NODES, N_POINTS};
+use common::numbers::plain_scratch_len;
+use common::random::Random;
+use common::rows::{relaxed_row, row_of};
+use common::shapes::random_network;
+use overlap::{accepted, meaning, scratch_len, Listing, Network, Verdict, NONE};
+
+/// The cases of document 01.
+mod cases {
+    use super::*;
+
+    /// A case: q, k, the list and the expanded count.
+    type Case = (u32, u32, &'static [u32], u32);
+
+    const P1_TO_P5: [Case; 5] = [
+        (0, 1, &[2], 1),
+        (0, 2, &[2, 4], 4),
+        (1, 1, &[2], 2),
+        (2, 1, &[2, 4], 3),
+        (5, 1, &[5], 1),
+    ];
+
+    fn pairs_of_n() -> AllPairs {
+        AllPairs::of(network_n().lend())
+    }
+
+    #[test]
+    fn p1_to_p5() {
+        let (pairs, points) = (pairs_of_n(), marks(N_NODES, &N_POINTS));
+        for (q, k, listed, expanded) in P1_TO_P5 {
+            assert_eq!(pairs.plain_listed(&points, q, k), listed);
+            assert_eq!(pairs.plain_expanded(&points, q, k), expanded);
+        }
+    }
+
+    #[test]
+    fn p6_without_points() {
+        let (pairs, points) = (pairs_of_n(), marks(N_NODES, &[]));
+        assert!(pairs.plain_listed(&points, 0, 1).is_empty());
+        assert_eq!(pairs.plain_expanded(&points, 0, 1), 5);
+    }
+
+    #[test]
+    fn p7_with_the_road_2_4_of_6() {
+        let roads = [(0, 1, 4), (0, 3, 5), (1, 2, 3), (2, 4, 6), (3, 4, 3)];
+        let network = OwnedNetwork::from_roads(N_NODES, &roads);
+        let pairs = AllPairs::of(network.lend());
+        let points = marks(N_NODES, &N_POINTS);
+        assert!(pairs.plain_listed(&points, 0, 1).is_empty());
+    }
+
+    /// A row is what nearest finds with e = NONE, and then empty places.
+    #[test]
+    fn p8_to_p10_by_nearest() {
+        let (pairs, points) = (pairs_of_n(), marks(N_NODES, &N_POINTS));
+        assert_eq!(pairs.plain_nearest(&points, 0, NONE, 2), [(2, 7), (4, 8)]);
+        assert_eq!(pairs.plain_nearest(&points, 5, NONE, 2), [(5, 0)]);
+        let inserted = marks(N_NODES, &[0, 2, 4, 5]);
+        assert_eq!(pairs.plain_nearest(&inserted, 2, NONE, 2), [(2, 0), (0, 7)]);
+        let row = |points, node| pairs.plain_nearest(points, node, NONE, 2);
+        let changed = (0..N_NODES).filter(|&node| row(&points, node) != row(&inserted, node));
+        assert_eq!(changed.count(), 4);
+    }
+}
+
+/// The distances of one node.
+mod rows {
+    use super::*;
+
+    #[test]
+    fn by_relaxation_are_those_by_all_pairs() {
+        for seed in 0..2_000 {
+            let network = random_network(&mut Random::new(seed));
+            let pairs = AllPairs::of(network.lend());
+            for node in 0..network.starts.len() as u32 - 1 {
+                let row = relaxed_row(network.lend(), node);
+                assert_eq!(row, *pairs.row(node), "{network:?}");
+                assert_eq!(row, row_of(&pairs.plain_distances(node)));
+            }
+        }
+    }
+}
+
+/// The length of scratch.
+mod scratch {
+    use super::*;
+
+    #[test]
+    fn is_s_of_document_01() {
+        let mut random = Random::new(1);
+        for _ in 0..2_000 {
+            let network = random_network(&mut random);
+            for m in 1..=17 {
+                let length = plain_scratch_len(network.lend(), m);
+                assert_eq!(scratch_len(network.lend(), m as usize), length);
+            }
+        }
+        assert_eq!(scratch_len(network_n().lend(), 1), 224);
+        assert_eq!(scratch_len(network_n().lend(), 16), 2_144);
+    }
+
+    #[test]
+    fn has_an_answer_for_any_arrays_and_any_m() {
+        let empty = Network {
+            starts: &[],
+            neighbours: &[],
+            weights: &[],
+        };
+        for m in [0, 1, usize::MAX] {
+            assert_eq!(scratch_len(empty, m), 0);
+        }
+        let network = network_n();
+        assert_eq!(scratch_len(network.lend(), 0), 96);
+        let fits = usize::MAX / 128;
+        assert_eq!(scratch_len(network.lend(), fits), 96 + 128 * fits);
+        for m in [fits + 1, usize::MAX] {
+            assert_eq!(scratch_len(network.lend(), m), usize::MAX);
+        }
+        let alone = OwnedNetwork::from_roads(6, &[]);
+        assert_eq!(scratch_len(alone.lend(), usize::MAX / 48), usize::MAX);
+    }
+}
+
+/// The answers as a `Result`.
+mod answers {
+    use super::*;
+
+    #[test]
+    fn number_0_is_accepted() {
+        assert_eq!(accepted(0), Ok(()));
+        let listing = Listing {
+            number: 0,
+            count: 3,
+            length: 2,
+        };
+        assert_eq!(listing.accepted(), Ok(listing));
+        for (yes, answer) in [(0, false), (1, true)] {
+            assert_eq!(Verdict { number: 0, yes }.accepted(), Ok(answer));
+        }
+    }
+
+    #[test]
+    fn another_number_is_a_refusal() {
+        for number in (1..=13).chain([u32::MAX]) {
+            let refusal = accepted(number).unwrap_err();
+            assert_eq!(refusal.number(), number);
+            assert!(refusal.to_string().contains(meaning(number)));
+            let listing = Listing {
+                number,
+                ..Listing::default()
+            };
+            assert_eq!(listing.accepted(), Err(refusal));
+            assert_eq!(Verdict { number, yes: 0 }.accepted(), Err(refusal));
+        }
+    }
+}
