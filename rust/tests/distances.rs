@@ -3,32 +3,32 @@
 mod common;
 
 use common::all_pairs::AllPairs;
-use common::damage::damage;
-use common::faults::{assert_order, Fault, NETWORK_FAULTS};
+use common::call::{
+    assert_lower_numbers_first, assert_outcome, assert_random_calls, assert_refused,
+};
+use common::call::{compare, Call, Outcome};
+use common::faults::Fault;
 use common::inputs::{enough, no_node, some_node, too_short};
 use common::lent::Lent;
-use common::network::{network_n, shown, OwnedNetwork, N_NODES};
+use common::network::{network_n, OwnedNetwork, N_NODES};
 use common::numbers::{distances_number, plain_scratch_len};
 use common::random::Random;
 use common::rows::{distances_in, relaxed_row, LARGEST_DISTANCE};
-use common::shapes::{all_small_networks, random_network};
+use common::shapes::all_small_networks;
 use common::shapes::{belt, chain, chain_and_grid, grid, star, weight_by_product, weighted};
 use common::tally::Tally;
 use overlap::{distances, NONE};
 
 /// Everything that a call is lent.
 #[derive(Clone)]
-struct Call {
+struct Distances {
     network: OwnedNetwork,
     node: u32,
     scratch: Lent,
     answers: Lent,
 }
 
-/// What a call returns, and all that it leaves.
-type Outcome = (u32, Call);
-
-impl Call {
+impl Distances {
     /// A call of an accepted network, with arrays that are just long enough and full of junk.
     fn exact(network: &OwnedNetwork, node: u32, random: &mut Random) -> Self {
         let n = network.starts.len() - 1;
@@ -40,94 +40,81 @@ impl Call {
         }
     }
 
-    /// A call that is accepted, with arrays that are long enough.
-    fn random(network: &OwnedNetwork, random: &mut Random) -> Self {
+    /// "An accepted call with scratch leaves it all zero. Answer arrays hold the answer, then their
+    /// old entries."
+    fn accepted(&self, distances: &[u32]) -> Outcome<Self> {
+        let mut left = self.clone();
+        left.scratch = left.scratch.cleared();
+        left.answers = left.answers.with_answer(distances);
+        (0, left)
+    }
+}
+
+impl Call for Distances {
+    type Answer = u32;
+
+    const OWN_FAULTS: &'static [(u32, Fault<Self>)] = &[
+        (7, |c, r| c.node = no_node(&c.network, r)),
+        (10, shorten_answers),
+    ];
+
+    fn random(network: &OwnedNetwork, _: &AllPairs, random: &mut Random) -> Self {
         let mut call = Self::exact(network, some_node(network, random), random);
         call.scratch = Lent::junk(enough(call.scratch.len(), random), random);
         call.answers = Lent::junk(enough(call.answers.len(), random), random);
         call
     }
 
-    /// Lends everything to the engine; the arrays are then what it leaves.
     fn run(&mut self) -> u32 {
         let (scratch, answers) = (self.scratch.part_mut(), self.answers.part_mut());
         distances(self.network.lend(), self.node, scratch, answers)
     }
 
-    /// "A refusal returns its number [...] and changes no buffer".
-    fn refused(&self, number: u32) -> Outcome {
-        (number, self.clone())
+    fn number(&self) -> u32 {
+        let (scratch, answers) = (self.scratch.len(), self.answers.len());
+        distances_number(self.network.lend(), self.node, scratch, answers)
     }
 
-    /// "An accepted call with scratch leaves it all zero. Answer arrays hold the answer, then their
-    /// old entries."
-    fn accepted(&self, distances: &[u32]) -> Outcome {
-        let mut left = self.clone();
-        left.scratch = left.scratch.cleared();
-        left.answers = left.answers.with_answer(distances);
-        (0, left)
+    fn refusal(number: u32) -> u32 {
+        number
     }
 
-    /// The outcome of a call that is accepted, by all distances of its network.
-    fn accepted_by(&self, pairs: &AllPairs) -> Outcome {
+    fn accepted_by(&self, pairs: &AllPairs) -> Outcome<Self> {
         self.accepted(&pairs.plain_distances(self.node))
     }
 
-    /// The outcome by document 01.
-    fn expected(&self) -> Outcome {
-        let network = self.network.lend();
-        let (scratch, answers) = (self.scratch.len(), self.answers.len());
-        match distances_number(network, self.node, scratch, answers) {
-            0 => self.accepted_by(&AllPairs::of(network)),
-            number => self.refused(number),
-        }
+    fn network(&self) -> &OwnedNetwork {
+        &self.network
     }
 
-    /// The inputs, for the message of a failed test.
-    fn story(&self) -> String {
-        let (node, network) = (self.node, shown(self.network.lend()));
-        let (scratch, answers) = (self.scratch.len(), self.answers.len());
-        format!("node {node}, {scratch} words of scratch, {answers} answer places, {network}")
+    fn network_mut(&mut self) -> &mut OwnedNetwork {
+        &mut self.network
+    }
+
+    fn m(&self) -> u32 {
+        1
+    }
+
+    fn scratch_mut(&mut self) -> &mut Lent {
+        &mut self.scratch
+    }
+
+    fn arrays(&self) -> Vec<(&'static str, &Lent)> {
+        vec![("scratch", &self.scratch), ("answers", &self.answers)]
+    }
+
+    fn asked(&self) -> String {
+        format!("node {}", self.node)
+    }
+
+    fn tally(&self, tally: &mut Tally, pairs: &AllPairs) {
+        let distances = pairs.plain_distances(self.node);
+        tally.add_if(self.answers.len() > distances.len(), "longer answers");
+        tally.add_if(distances.contains(&NONE), "a node that can't be reached");
     }
 }
 
-/// Runs the call and sees that the number and every lent array are the expected ones.
-fn assert_outcome(mut call: Call, (number, left): &Outcome) {
-    assert_eq!(call.run(), *number, "{}", left.story());
-    assert_eq!(call.network, left.network, "{}", left.story());
-    for (name, is, wanted) in [
-        ("scratch", &call.scratch, &left.scratch),
-        ("answers", &call.answers, &left.answers),
-    ] {
-        assert_eq!(is.difference(wanted), None, "{name}, {}", left.story());
-    }
-}
-
-/// Runs the call, sees that all is as document 01 says, and returns the number.
-fn compare(call: Call) -> u32 {
-    let outcome = call.expected();
-    assert_outcome(call, &outcome);
-    outcome.0
-}
-
-/// Faults of each condition that the call tests.
-const FAULTS: &[(u32, Fault<Call>)] = &[
-    (1, |c, _| NETWORK_FAULTS[0](&mut c.network)),
-    (2, |c, _| NETWORK_FAULTS[1](&mut c.network)),
-    (3, |c, _| NETWORK_FAULTS[2](&mut c.network)),
-    (4, |c, _| NETWORK_FAULTS[3](&mut c.network)),
-    (5, |c, _| NETWORK_FAULTS[4](&mut c.network)),
-    (7, |c, r| c.node = no_node(&c.network, r)),
-    (10, shorten_scratch),
-    (10, shorten_answers),
-];
-
-fn shorten_scratch(call: &mut Call, random: &mut Random) {
-    let least = plain_scratch_len(call.network.lend(), 1);
-    call.scratch = Lent::junk(too_short(least, random), random);
-}
-
-fn shorten_answers(call: &mut Call, random: &mut Random) {
+fn shorten_answers(call: &mut Distances, random: &mut Random) {
     let n = call.network.starts.len() - 1;
     call.answers = Lent::junk(too_short(n, random), random);
 }
@@ -145,8 +132,8 @@ mod network_n {
         [NONE, NONE, NONE, NONE, NONE, 0],
     ];
 
-    fn call(node: u32) -> Call {
-        Call::exact(&network_n(), node, &mut Random::new(u64::from(node)))
+    fn call(node: u32) -> Distances {
+        Distances::exact(&network_n(), node, &mut Random::new(u64::from(node)))
     }
 
     #[test]
@@ -162,8 +149,7 @@ mod network_n {
     fn the_node_6_is_refused() {
         for node in [N_NODES, N_NODES + 1, 65_535, 65_536, u32::MAX] {
             let call = call(node);
-            let outcome = call.refused(7);
-            assert_outcome(call, &outcome);
+            assert_refused(call, 7);
         }
     }
 
@@ -171,8 +157,7 @@ mod network_n {
     fn five_answer_places_are_refused() {
         let mut call = call(0);
         call.answers = Lent::junk(5, &mut Random::new(0));
-        let outcome = call.refused(10);
-        assert_outcome(call, &outcome);
+        assert_refused(call, 10);
     }
 
     /// S is 16 × 6 + 8 × (10 + 6) × 1.
@@ -202,11 +187,7 @@ mod order {
 
     #[test]
     fn two_conditions_give_the_lower_number() {
-        let mut random = Random::new(3);
-        for _ in 0..200 {
-            let base = Call::random(&network_n(), &mut random);
-            assert_order(&base, FAULTS, &mut random, compare);
-        }
+        assert_lower_numbers_first::<Distances>();
     }
 }
 
@@ -214,67 +195,10 @@ mod order {
 mod random {
     use super::*;
 
-    const ROUNDS: u64 = 10_000;
-    const ACCEPTED_OF_A_NETWORK: u32 = 4;
-    const FAULTY_OF_A_NETWORK: u32 = 8;
-    const LEAST_OF_EACH: usize = 2_000;
-
-    /// The faults that are not of the network.
-    const OWN_FAULTS: &[(u32, Fault<Call>)] = FAULTS.split_at(5).1;
-
-    /// A call with up to two faults of its own and up to two of the network.
-    fn faulty(network: &OwnedNetwork, random: &mut Random) -> Call {
-        let mut call = Call::random(network, random);
-        for _ in 0..random.below(3) {
-            random.pick(OWN_FAULTS).1(&mut call, random);
-        }
-        let times = random.pick(&[0, 0, 1, 2]);
-        damage(&mut call.network, times, random);
-        call
-    }
-
-    /// Counts what makes an accepted call telling.
-    fn tally_call(tally: &mut Tally, call: &Call, pairs: &AllPairs) {
-        let least = plain_scratch_len(call.network.lend(), 1);
-        let distances = pairs.plain_distances(call.node);
-        tally.add_if(call.scratch.len() == least, "scratch of S words");
-        tally.add_if(call.scratch.len() > least, "longer scratch");
-        tally.add_if(call.answers.len() > distances.len(), "longer answers");
-        tally.add_if(distances.contains(&NONE), "a node that can't be reached");
-    }
-
-    fn try_network(seed: u64, tally: &mut Tally) {
-        let mut random = Random::new(seed);
-        let network = random_network(&mut random);
-        let pairs = AllPairs::of(network.lend());
-        for _ in 0..ACCEPTED_OF_A_NETWORK {
-            let call = Call::random(&network, &mut random);
-            tally_call(tally, &call, &pairs);
-            let outcome = call.accepted_by(&pairs);
-            assert_outcome(call, &outcome);
-            tally.add_number(0);
-        }
-        for _ in 0..FAULTY_OF_A_NETWORK {
-            tally.add_number(compare(faulty(&network, &mut random)));
-        }
-    }
-
     #[test]
     fn engine_and_plain_calculation_agree() {
-        let mut tally = Tally::default();
-        for seed in 0..ROUNDS {
-            try_network(seed, &mut tally);
-        }
-        tally.print();
-        tally.assert_numbers(LEAST_OF_EACH, &[0, 1, 2, 3, 4, 5, 7, 10]);
-        for name in [
-            "a node that can't be reached",
-            "scratch of S words",
-            "longer scratch",
-            "longer answers",
-        ] {
-            tally.assert_at_least(LEAST_OF_EACH, name);
-        }
+        let names = ["a node that can't be reached", "longer answers"];
+        assert_random_calls::<Distances>(&[0, 1, 2, 3, 4, 5, 7, 10], &names);
     }
 }
 
@@ -287,7 +211,7 @@ mod exhaustive {
         let mut random = Random::new(4);
         for network in all_small_networks() {
             for node in 0..network.starts.len() as u32 - 1 {
-                assert_eq!(compare(Call::exact(&network, node, &mut random)), 0);
+                assert_eq!(compare(Distances::exact(&network, node, &mut random)), 0);
             }
         }
     }
@@ -301,7 +225,7 @@ mod limits {
     const MOST_ROADS: u32 = 262_144;
 
     fn assert_distances(network: &OwnedNetwork, node: u32, distance: impl Fn(u32) -> u32) {
-        let call = Call::exact(network, node, &mut Random::new(5));
+        let call = Distances::exact(network, node, &mut Random::new(5));
         let n = network.starts.len() as u32 - 1;
         let distances: Vec<u32> = (0..n).map(distance).collect();
         let outcome = call.accepted(&distances);
@@ -347,7 +271,7 @@ mod limits {
         assert_distances(&network, 0, |_| 0);
         for (scratch, answers, number) in [(23, 1, 10), (24, 0, 10), (24, 1, 0)] {
             let mut random = Random::new(7);
-            let mut call = Call::exact(&network, 0, &mut random);
+            let mut call = Distances::exact(&network, 0, &mut random);
             call.scratch = Lent::junk(scratch, &mut random);
             call.answers = Lent::junk(answers, &mut random);
             assert_eq!(compare(call), number);
@@ -393,19 +317,17 @@ mod limits {
     fn scratch_of_one_word_less_is_refused() {
         let mut random = Random::new(8);
         let network = weighted(MOST_NODES, &belt(MOST_NODES, MOST_ROADS), |_, _| 1);
-        let mut call = Call::exact(&network, 0, &mut random);
+        let mut call = Distances::exact(&network, 0, &mut random);
         call.scratch = Lent::junk(call.scratch.len() - 1, &mut random);
-        let outcome = call.refused(10);
-        assert_outcome(call, &outcome);
+        assert_refused(call, 10);
     }
 
     #[test]
     fn the_first_number_that_is_no_node_is_refused() {
         let network = weighted(MOST_NODES, &star(MOST_NODES, 0), |_, _| 1);
         for node in [MOST_NODES, MOST_NODES + 1, u32::MAX] {
-            let call = Call::exact(&network, node, &mut Random::new(9));
-            let outcome = call.refused(7);
-            assert_outcome(call, &outcome);
+            let call = Distances::exact(&network, node, &mut Random::new(9));
+            assert_refused(call, 7);
         }
     }
 }

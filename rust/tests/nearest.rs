@@ -3,23 +3,26 @@
 mod common;
 
 use common::all_pairs::AllPairs;
-use common::damage::damage;
-use common::faults::{assert_order, Fault, NETWORK_FAULTS};
+use common::call::{
+    assert_lower_numbers_first, assert_outcome, assert_random_calls, assert_refused,
+};
+use common::call::{compare, Call, Outcome, LEAST_OF_EACH};
+use common::faults::Fault;
 use common::inputs::{enough, no_k, no_node, some_e, some_k, some_node};
 use common::inputs::{some_points, spoil_points, too_short};
 use common::lent::Lent;
-use common::network::{marks, network_n, shown, shown_points, OwnedNetwork, N_NODES, N_POINTS};
+use common::network::{marks, network_n, OwnedNetwork, N_NODES, N_POINTS};
 use common::numbers::{nearest_number, plain_scratch_len};
 use common::random::Random;
 use common::rows::{nearest_in, relaxed_row, Near, LARGEST_DISTANCE};
-use common::shapes::{all_small_networks, random_network};
+use common::shapes::try_all_small_points;
 use common::shapes::{chain, grid, star, weight_by_product, weighted};
 use common::tally::Tally;
 use overlap::{nearest, Found, Listing, NONE};
 
 /// Everything that a call is lent.
 #[derive(Clone)]
-struct Call {
+struct Nearest {
     network: OwnedNetwork,
     points: Vec<u8>,
     node: u32,
@@ -30,13 +33,10 @@ struct Call {
     distances: Lent,
 }
 
-/// What a call returns, and all that it leaves.
-type Outcome = (Listing, Call);
-
 /// The numbers that a call asks for: its node, e and k.
 type Asked = (u32, u32, u32);
 
-impl Call {
+impl Nearest {
     /// A call with arrays that are just long enough and full of junk. The network is an accepted
     /// one and k at most 16.
     fn exact(network: &OwnedNetwork, points: &[u8], asked: Asked, random: &mut Random) -> Self {
@@ -53,42 +53,10 @@ impl Call {
         }
     }
 
-    /// A call that is accepted, with arrays that are long enough.
-    fn random(network: &OwnedNetwork, pairs: &AllPairs, random: &mut Random) -> Self {
-        let (points, node) = (some_points(network, random), some_node(network, random));
-        let asked = (node, some_e(pairs.row(node), random), some_k(random));
-        let mut call = Self::exact(network, &points, asked, random);
-        for array in [&mut call.scratch, &mut call.ids, &mut call.distances] {
-            *array = Lent::junk(enough(array.len(), random), random);
-        }
-        call
-    }
-
-    /// Lends everything to the engine; the arrays are then what it leaves.
-    fn run(&mut self) -> Listing {
-        let (node, e, k) = (self.node, self.e, self.k);
-        let found = Found {
-            ids: self.ids.part_mut(),
-            distances: self.distances.part_mut(),
-        };
-        let (network, scratch) = (self.network.lend(), self.scratch.part_mut());
-        nearest(network, &self.points, node, e, k, scratch, found)
-    }
-
-    /// "A refusal returns its number, count 0 and no, and changes no buffer".
-    fn refused(&self, number: u32) -> Outcome {
-        let listing = Listing {
-            number,
-            count: 0,
-            length: 0,
-        };
-        (listing, self.clone())
-    }
-
     /// "An accepted call returns number 0; a listing or nearest call also the length of its list."
     /// "An accepted call with scratch leaves it all zero. Answer arrays hold the answer, then their
     /// old entries."
-    fn accepted(&self, found: &[Near]) -> Outcome {
+    fn accepted(&self, found: &[Near]) -> Outcome<Self> {
         let (ids, distances): (Vec<u32>, Vec<u32>) = found.iter().copied().unzip();
         let mut left = self.clone();
         left.scratch = left.scratch.cleared();
@@ -101,75 +69,108 @@ impl Call {
         };
         (listing, left)
     }
+}
 
-    /// The outcome of a call that is accepted, by all distances of its network.
-    fn accepted_by(&self, pairs: &AllPairs) -> Outcome {
-        self.accepted(&pairs.plain_nearest(&self.points, self.node, self.e, self.k))
+impl Call for Nearest {
+    type Answer = Listing;
+
+    const OWN_FAULTS: &'static [(u32, Fault<Self>)] = &[
+        (6, |c, r| spoil_points(&mut c.points, r)),
+        (7, |c, r| c.node = no_node(&c.network, r)),
+        (9, |c, r| c.k = no_k(r)),
+        (10, |c, r| c.ids = shortened(c.k, r)),
+        (10, |c, r| c.distances = shortened(c.k, r)),
+    ];
+
+    fn random(network: &OwnedNetwork, pairs: &AllPairs, random: &mut Random) -> Self {
+        let (points, node) = (some_points(network, random), some_node(network, random));
+        let asked = (node, some_e(pairs.row(node), random), some_k(random));
+        let mut call = Self::exact(network, &points, asked, random);
+        for array in [&mut call.scratch, &mut call.ids, &mut call.distances] {
+            *array = Lent::junk(enough(array.len(), random), random);
+        }
+        call
     }
 
-    /// The number by document 01.
+    fn run(&mut self) -> Listing {
+        let (node, e, k) = (self.node, self.e, self.k);
+        let found = Found {
+            ids: self.ids.part_mut(),
+            distances: self.distances.part_mut(),
+        };
+        let (network, scratch) = (self.network.lend(), self.scratch.part_mut());
+        nearest(network, &self.points, node, e, k, scratch, found)
+    }
+
     fn number(&self) -> u32 {
         let (network, answers) = (self.network.lend(), [self.ids.len(), self.distances.len()]);
         let scratch = self.scratch.len();
         nearest_number(network, &self.points, self.node, self.k, scratch, answers)
     }
 
-    /// The outcome by document 01.
-    fn expected(&self) -> Outcome {
-        match self.number() {
-            0 => self.accepted_by(&AllPairs::of(self.network.lend())),
-            number => self.refused(number),
+    fn refusal(number: u32) -> Listing {
+        Listing {
+            number,
+            count: 0,
+            length: 0,
         }
     }
 
-    /// The inputs, for the message of a failed test.
-    fn story(&self) -> String {
+    fn accepted_by(&self, pairs: &AllPairs) -> Outcome<Self> {
+        self.accepted(&pairs.plain_nearest(&self.points, self.node, self.e, self.k))
+    }
+
+    fn network(&self) -> &OwnedNetwork {
+        &self.network
+    }
+
+    fn network_mut(&mut self) -> &mut OwnedNetwork {
+        &mut self.network
+    }
+
+    fn points(&self) -> &[u8] {
+        &self.points
+    }
+
+    fn m(&self) -> u32 {
+        self.k
+    }
+
+    fn scratch_mut(&mut self) -> &mut Lent {
+        &mut self.scratch
+    }
+
+    fn arrays(&self) -> Vec<(&'static str, &Lent)> {
+        vec![
+            ("scratch", &self.scratch),
+            ("ids", &self.ids),
+            ("distances", &self.distances),
+        ]
+    }
+
+    fn asked(&self) -> String {
         let (node, e, k) = (self.node, self.e, self.k);
-        let lengths = [&self.scratch, &self.ids, &self.distances].map(Lent::len);
-        let (points, network) = (shown_points(&self.points), shown(self.network.lend()));
-        format!("node {node}, e {e}, k {k}, lengths {lengths:?}, {points}, {network}")
+        format!("node {node}, e {e}, k {k}")
     }
-}
 
-/// Runs the call and sees that the listing and every lent array are the expected ones.
-fn assert_outcome(mut call: Call, (listing, left): &Outcome) {
-    assert_eq!(call.run(), *listing, "{}", left.story());
-    assert_eq!(call.network, left.network, "{}", left.story());
-    assert_eq!(call.points, left.points, "{}", left.story());
-    for (name, is, wanted) in [
-        ("scratch", &call.scratch, &left.scratch),
-        ("ids", &call.ids, &left.ids),
-        ("distances", &call.distances, &left.distances),
-    ] {
-        assert_eq!(is.difference(wanted), None, "{name}, {}", left.story());
+    fn tally(&self, tally: &mut Tally, pairs: &AllPairs) {
+        let (points, node, e, k) = (&self.points, self.node, self.e, self.k);
+        let found = pairs.plain_nearest(points, node, e, k);
+        let uncut = pairs.plain_nearest(points, node, e, NONE);
+        let not_farther = pairs.plain_nearest(points, node, e.saturating_add(1), k);
+        let tie = |pair: &[Near]| pair[0].1 == pair[1].1;
+        tally.add_k(k);
+        tally.add_if(e == 0, "e of 0");
+        tally.add_if(e == 1, "e of 1");
+        tally.add_if(e == u32::MAX, "e of 4,294,967,295");
+        tally.add_if(found.is_empty(), "nothing found");
+        tally.add_if(found.len() < uncut.len(), "cut after k");
+        tally.add_if(found.len() < k as usize, "fewer than k found");
+        tally.add_if(not_farther != found, "a point at e that would be found");
+        tally.add_if(uncut.windows(2).any(tie), "equal distances");
+        tally.add_if(self.ids.len() > k as usize, "longer ids");
+        tally.add_if(self.distances.len() > k as usize, "longer distances");
     }
-}
-
-/// Runs the call, sees that all is as document 01 says, and returns the number.
-fn compare(call: Call) -> u32 {
-    let outcome = call.expected();
-    assert_outcome(call, &outcome);
-    outcome.0.number
-}
-
-/// Faults of each condition that the call tests.
-const FAULTS: &[(u32, Fault<Call>)] = &[
-    (1, |c, _| NETWORK_FAULTS[0](&mut c.network)),
-    (2, |c, _| NETWORK_FAULTS[1](&mut c.network)),
-    (3, |c, _| NETWORK_FAULTS[2](&mut c.network)),
-    (4, |c, _| NETWORK_FAULTS[3](&mut c.network)),
-    (5, |c, _| NETWORK_FAULTS[4](&mut c.network)),
-    (6, |c, r| spoil_points(&mut c.points, r)),
-    (7, |c, r| c.node = no_node(&c.network, r)),
-    (9, |c, r| c.k = no_k(r)),
-    (10, shorten_scratch),
-    (10, |c, r| c.ids = shortened(c.k, r)),
-    (10, |c, r| c.distances = shortened(c.k, r)),
-];
-
-fn shorten_scratch(call: &mut Call, random: &mut Random) {
-    let least = plain_scratch_len(call.network.lend(), call.k.min(16));
-    call.scratch = Lent::junk(too_short(least, random), random);
 }
 
 /// An answer array with fewer than k places.
@@ -181,10 +182,10 @@ fn shortened(k: u32, random: &mut Random) -> Lent {
 mod network_n {
     use super::*;
 
-    fn call(node: u32, e: u32, k: u32) -> Call {
+    fn call(node: u32, e: u32, k: u32) -> Nearest {
         let points = marks(N_NODES, &N_POINTS);
         let seed = u64::from(node) + u64::from(k);
-        Call::exact(&network_n(), &points, (node, e, k), &mut Random::new(seed))
+        Nearest::exact(&network_n(), &points, (node, e, k), &mut Random::new(seed))
     }
 
     fn assert_found(node: u32, e: u32, k: u32, found: &[Near]) {
@@ -243,11 +244,10 @@ mod network_n {
 
     #[test]
     fn each_condition_of_its_own() {
-        let assert_number = |number, change: fn(&mut Call)| {
+        let assert_number = |number, change: fn(&mut Nearest)| {
             let mut call = call(0, NONE, 2);
             change(&mut call);
-            let outcome = call.refused(number);
-            assert_outcome(call, &outcome);
+            assert_refused(call, number);
         };
         assert_number(6, |c| c.points[3] = 2);
         assert_number(6, |c| c.points[5] = 255);
@@ -292,13 +292,7 @@ mod order {
 
     #[test]
     fn two_conditions_give_the_lower_number() {
-        let mut random = Random::new(3);
-        let network = network_n();
-        let pairs = AllPairs::of(network.lend());
-        for _ in 0..200 {
-            let base = Call::random(&network, &pairs, &mut random);
-            assert_order(&base, FAULTS, &mut random, compare);
-        }
+        assert_lower_numbers_first::<Nearest>();
     }
 
     /// With k = 17 the arrays would be too short as well, and 9 comes before 10.
@@ -307,10 +301,9 @@ mod order {
         let points = marks(N_NODES, &N_POINTS);
         for k in [17, 18, 1 << 29, u32::MAX] {
             let asked = (0, NONE, 16);
-            let mut call = Call::exact(&network_n(), &points, asked, &mut Random::new(4));
+            let mut call = Nearest::exact(&network_n(), &points, asked, &mut Random::new(4));
             call.k = k;
-            let outcome = call.refused(9);
-            assert_outcome(call, &outcome);
+            assert_refused(call, 9);
         }
     }
 }
@@ -319,74 +312,10 @@ mod order {
 mod random {
     use super::*;
 
-    const ROUNDS: u64 = 10_000;
-    const ACCEPTED_OF_A_NETWORK: u32 = 8;
-    const FAULTY_OF_A_NETWORK: u32 = 8;
-    const LEAST_OF_EACH: usize = 2_000;
-
-    /// The faults that are not of the network.
-    const OWN_FAULTS: &[(u32, Fault<Call>)] = FAULTS.split_at(5).1;
-
-    /// A call with up to two faults of its own and up to two of the network.
-    fn faulty(network: &OwnedNetwork, pairs: &AllPairs, random: &mut Random) -> Call {
-        let mut call = Call::random(network, pairs, random);
-        for _ in 0..random.below(3) {
-            random.pick(OWN_FAULTS).1(&mut call, random);
-        }
-        let times = random.pick(&[0, 0, 1, 2]);
-        damage(&mut call.network, times, random);
-        call
-    }
-
-    /// Counts what makes an accepted call telling.
-    fn tally_call(tally: &mut Tally, call: &Call, pairs: &AllPairs) {
-        let (points, node, e, k) = (&call.points, call.node, call.e, call.k);
-        let found = pairs.plain_nearest(points, node, e, k);
-        let uncut = pairs.plain_nearest(points, node, e, NONE);
-        let not_farther = pairs.plain_nearest(points, node, e.saturating_add(1), k);
-        let least = plain_scratch_len(call.network.lend(), k);
-        let tie = |pair: &[Near]| pair[0].1 == pair[1].1;
-        tally.add(&format!("k {k:>2}"));
-        tally.add_if(e == 0, "e of 0");
-        tally.add_if(e == 1, "e of 1");
-        tally.add_if(e == u32::MAX, "e of 4,294,967,295");
-        tally.add_if(found.is_empty(), "nothing found");
-        tally.add_if(found.len() < uncut.len(), "cut after k");
-        tally.add_if(found.len() < k as usize, "fewer than k found");
-        tally.add_if(not_farther != found, "a point at e that would be found");
-        tally.add_if(uncut.windows(2).any(tie), "equal distances");
-        tally.add_if(call.scratch.len() == least, "scratch of S words");
-        tally.add_if(call.scratch.len() > least, "longer scratch");
-        tally.add_if(call.ids.len() > k as usize, "longer ids");
-        tally.add_if(call.distances.len() > k as usize, "longer distances");
-    }
-
-    fn try_network(seed: u64, tally: &mut Tally) {
-        let mut random = Random::new(seed);
-        let network = random_network(&mut random);
-        let pairs = AllPairs::of(network.lend());
-        for _ in 0..ACCEPTED_OF_A_NETWORK {
-            let call = Call::random(&network, &pairs, &mut random);
-            tally_call(tally, &call, &pairs);
-            let outcome = call.accepted_by(&pairs);
-            assert_outcome(call, &outcome);
-            tally.add_number(0);
-        }
-        for _ in 0..FAULTY_OF_A_NETWORK {
-            let call = faulty(&network, &pairs, &mut random);
-            tally.add_number(compare(call));
-        }
-    }
-
     #[test]
     fn engine_and_plain_calculation_agree() {
-        let mut tally = Tally::default();
-        for seed in 0..ROUNDS {
-            try_network(seed, &mut tally);
-        }
-        tally.print();
-        tally.assert_numbers(LEAST_OF_EACH, &[0, 1, 2, 3, 4, 5, 6, 7, 9, 10]);
-        for name in [
+        let numbers = [0, 1, 2, 3, 4, 5, 6, 7, 9, 10];
+        let names = [
             "e of 0",
             "e of 1",
             "e of 4,294,967,295",
@@ -395,16 +324,10 @@ mod random {
             "fewer than k found",
             "a point at e that would be found",
             "equal distances",
-            "scratch of S words",
-            "longer scratch",
             "longer ids",
             "longer distances",
-        ] {
-            tally.assert_at_least(LEAST_OF_EACH, name);
-        }
-        for k in 1..=16 {
-            tally.assert_at_least(LEAST_OF_EACH, &format!("k {k:>2}"));
-        }
+        ];
+        assert_random_calls::<Nearest>(&numbers, &names).assert_each_k(LEAST_OF_EACH);
     }
 }
 
@@ -417,7 +340,7 @@ mod exhaustive {
         for node in 0..points.len() as u32 {
             for e in [0, 1, 2, 3, 4, NONE] {
                 for k in 1..=3 {
-                    let call = Call::exact(network, points, (node, e, k), random);
+                    let call = Nearest::exact(network, points, (node, e, k), random);
                     assert_eq!(compare(call), 0);
                 }
             }
@@ -427,13 +350,7 @@ mod exhaustive {
     #[test]
     fn up_to_four_nodes() {
         let mut random = Random::new(5);
-        for network in all_small_networks() {
-            let n = network.starts.len() as u32 - 1;
-            for set in 0..1_u32 << n {
-                let points: Vec<u8> = (0..n).map(|p| (set >> p & 1) as u8).collect();
-                try_points(&network, &points, &mut random);
-            }
-        }
+        try_all_small_points(|network, points| try_points(network, points, &mut random));
     }
 }
 
@@ -446,7 +363,7 @@ mod limits {
     const FARTHEST: u32 = LARGEST_DISTANCE as u32;
 
     fn assert_found(network: &OwnedNetwork, points: &[u8], asked: Asked, found: &[Near]) {
-        let call = Call::exact(network, points, asked, &mut Random::new(6));
+        let call = Nearest::exact(network, points, asked, &mut Random::new(6));
         let outcome = call.accepted(found);
         assert_outcome(call, &outcome);
     }

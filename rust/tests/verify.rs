@@ -3,23 +3,26 @@
 mod common;
 
 use common::all_pairs::AllPairs;
-use common::damage::damage;
-use common::faults::{assert_order, Fault, NETWORK_FAULTS};
+use common::call::{
+    assert_lower_numbers_first, assert_outcome, assert_random_calls, assert_refused,
+};
+use common::call::{compare, Call, Outcome, LEAST_OF_EACH};
+use common::faults::Fault;
 use common::inputs::{enough, no_k, no_node, some_k, some_node};
-use common::inputs::{some_points, spoil_points, too_short};
+use common::inputs::{some_points, spoil_points};
 use common::lent::Lent;
-use common::network::{marks, network_n, shown, shown_points, OwnedNetwork, N_NODES, N_POINTS};
+use common::network::{marks, network_n, OwnedNetwork, N_NODES, N_POINTS};
 use common::numbers::{plain_scratch_len, verify_number};
 use common::random::Random;
 use common::rows::{relaxed_row, verify_in};
-use common::shapes::{all_small_networks, random_network};
+use common::shapes::try_all_small_points;
 use common::shapes::{chain, grid, star, weight_by_product, weighted};
 use common::tally::Tally;
 use overlap::{verify, Verdict};
 
 /// Everything that a call is lent.
 #[derive(Clone)]
-struct Call {
+struct Verify {
     network: OwnedNetwork,
     points: Vec<u8>,
     p: u32,
@@ -28,13 +31,10 @@ struct Call {
     scratch: Lent,
 }
 
-/// What a call returns, and all that it leaves.
-type Outcome = (Verdict, Call);
-
 /// The numbers that a call asks for: its p, q and k.
 type Asked = (u32, u32, u32);
 
-impl Call {
+impl Verify {
     /// A call with scratch that is just long enough and full of junk. The network is an accepted
     /// one and k at most 16.
     fn exact(network: &OwnedNetwork, points: &[u8], asked: Asked, random: &mut Random) -> Self {
@@ -49,30 +49,8 @@ impl Call {
         }
     }
 
-    /// A call that is accepted, with scratch that is long enough.
-    fn random(network: &OwnedNetwork, random: &mut Random) -> Self {
-        let mut points = some_points(network, random);
-        let (p, q) = (some_node(network, random), some_node(network, random));
-        points[p as usize] = 1;
-        let mut call = Self::exact(network, &points, (p, q, some_k(random)), random);
-        call.scratch = Lent::junk(enough(call.scratch.len(), random), random);
-        call
-    }
-
-    /// Lends everything to the engine; scratch is then what it leaves.
-    fn run(&mut self) -> Verdict {
-        let (p, q, k) = (self.p, self.q, self.k);
-        let (network, scratch) = (self.network.lend(), self.scratch.part_mut());
-        verify(network, &self.points, p, q, k, scratch)
-    }
-
-    /// "A refusal returns its number, count 0 and no, and changes no buffer".
-    fn refused(&self, number: u32) -> Outcome {
-        (Verdict { number, yes: 0 }, self.clone())
-    }
-
     /// "An accepted call returns number 0". "An accepted call with scratch leaves it all zero."
-    fn accepted(&self, yes: bool) -> Outcome {
+    fn accepted(&self, yes: bool) -> Outcome<Self> {
         let mut left = self.clone();
         left.scratch = left.scratch.cleared();
         let verdict = Verdict {
@@ -82,71 +60,106 @@ impl Call {
         (verdict, left)
     }
 
-    /// The outcome of a call that is accepted, by all distances of its network.
-    fn accepted_by(&self, pairs: &AllPairs) -> Outcome {
-        self.accepted(pairs.plain_verify(&self.points, self.p, self.q, self.k))
+    /// How many other points are at most as far from p as q is, equal distances counted.
+    fn others_not_farther(&self, pairs: &AllPairs) -> usize {
+        let to_q = pairs.plain_distances(self.p)[self.q as usize];
+        let e = to_q.saturating_add(1);
+        let near = pairs.plain_nearest(&self.points, self.p, e, u32::MAX);
+        near.len() - 1
+    }
+}
+
+impl Call for Verify {
+    type Answer = Verdict;
+
+    const OWN_FAULTS: &'static [(u32, Fault<Self>)] = &[
+        (6, |c, r| spoil_points(&mut c.points, r)),
+        (7, |c, r| c.p = no_node(&c.network, r)),
+        (7, |c, r| c.q = no_node(&c.network, r)),
+        (9, |c, r| c.k = no_k(r)),
+        (11, unmark),
+    ];
+
+    fn random(network: &OwnedNetwork, _: &AllPairs, random: &mut Random) -> Self {
+        let mut points = some_points(network, random);
+        let (p, q) = (some_node(network, random), some_node(network, random));
+        points[p as usize] = 1;
+        let mut call = Self::exact(network, &points, (p, q, some_k(random)), random);
+        call.scratch = Lent::junk(enough(call.scratch.len(), random), random);
+        call
     }
 
-    /// The number by document 01.
+    fn run(&mut self) -> Verdict {
+        let (p, q, k) = (self.p, self.q, self.k);
+        let (network, scratch) = (self.network.lend(), self.scratch.part_mut());
+        verify(network, &self.points, p, q, k, scratch)
+    }
+
     fn number(&self) -> u32 {
         let (network, scratch) = (self.network.lend(), self.scratch.len());
         verify_number(network, &self.points, self.p, self.q, self.k, scratch)
     }
 
-    /// The outcome by document 01.
-    fn expected(&self) -> Outcome {
-        match self.number() {
-            0 => self.accepted_by(&AllPairs::of(self.network.lend())),
-            number => self.refused(number),
-        }
+    fn refusal(number: u32) -> Verdict {
+        Verdict { number, yes: 0 }
     }
 
-    /// The inputs, for the message of a failed test.
-    fn story(&self) -> String {
-        let (p, q, k, scratch) = (self.p, self.q, self.k, self.scratch.len());
-        let (points, network) = (shown_points(&self.points), shown(self.network.lend()));
-        format!("p {p}, q {q}, k {k}, {scratch} words of scratch, {points}, {network}")
+    fn accepted_by(&self, pairs: &AllPairs) -> Outcome<Self> {
+        self.accepted(pairs.plain_verify(&self.points, self.p, self.q, self.k))
     }
-}
 
-/// Runs the call and sees that the verdict and every lent array are the expected ones.
-fn assert_outcome(mut call: Call, (verdict, left): &Outcome) {
-    assert_eq!(call.run(), *verdict, "{}", left.story());
-    assert_eq!(call.network, left.network, "{}", left.story());
-    assert_eq!(call.points, left.points, "{}", left.story());
-    let difference = call.scratch.difference(&left.scratch);
-    assert_eq!(difference, None, "scratch, {}", left.story());
-}
+    fn network(&self) -> &OwnedNetwork {
+        &self.network
+    }
 
-/// Runs the call, sees that all is as document 01 says, and returns the number.
-fn compare(call: Call) -> u32 {
-    let outcome = call.expected();
-    assert_outcome(call, &outcome);
-    outcome.0.number
-}
+    fn network_mut(&mut self) -> &mut OwnedNetwork {
+        &mut self.network
+    }
 
-/// Faults of each condition that the call tests.
-const FAULTS: &[(u32, Fault<Call>)] = &[
-    (1, |c, _| NETWORK_FAULTS[0](&mut c.network)),
-    (2, |c, _| NETWORK_FAULTS[1](&mut c.network)),
-    (3, |c, _| NETWORK_FAULTS[2](&mut c.network)),
-    (4, |c, _| NETWORK_FAULTS[3](&mut c.network)),
-    (5, |c, _| NETWORK_FAULTS[4](&mut c.network)),
-    (6, |c, r| spoil_points(&mut c.points, r)),
-    (7, |c, r| c.p = no_node(&c.network, r)),
-    (7, |c, r| c.q = no_node(&c.network, r)),
-    (9, |c, r| c.k = no_k(r)),
-    (10, shorten_scratch),
-    (11, unmark),
-];
+    fn points(&self) -> &[u8] {
+        &self.points
+    }
 
-fn shorten_scratch(call: &mut Call, random: &mut Random) {
-    let least = plain_scratch_len(call.network.lend(), call.k.min(16));
-    call.scratch = Lent::junk(too_short(least, random), random);
+    fn m(&self) -> u32 {
+        self.k
+    }
+
+    fn scratch_mut(&mut self) -> &mut Lent {
+        &mut self.scratch
+    }
+
+    fn arrays(&self) -> Vec<(&'static str, &Lent)> {
+        vec![("scratch", &self.scratch)]
+    }
+
+    fn asked(&self) -> String {
+        let (p, q, k) = (self.p, self.q, self.k);
+        format!("p {p}, q {q}, k {k}")
+    }
+
+    fn tally(&self, tally: &mut Tally, pairs: &AllPairs) {
+        let (p, q, k) = (self.p, self.q, self.k);
+        let verdict = |p, q, k| pairs.plain_verify(&self.points, p, q, k);
+        let yes = verdict(p, q, k);
+        let reached = pairs.row(p)[q as usize].is_some();
+        let equal = self.others_not_farther(pairs) >= k as usize;
+        tally.add_k(k);
+        tally.add_if(yes, "yes");
+        tally.add_if(!reached, "no, as q can't be reached");
+        tally.add_if(reached && !yes, "no, as k others are nearer");
+        tally.add_if(p == q, "p on q");
+        tally.add_if(
+            p != q && yes && equal,
+            "yes, as equal distances don't count",
+        );
+        let without_place = p != q && yes && !verdict(p, q, k - 1);
+        tally.add_if(without_place, "yes, as p doesn't count");
+        tally.add_if(yes != verdict(q, p, k), "another answer from q");
+    }
 }
 
 /// Takes the mark of p away, where p has one.
-fn unmark(call: &mut Call, _: &mut Random) {
+fn unmark(call: &mut Verify, _: &mut Random) {
     if let Some(mark) = call.points.get_mut(call.p as usize) {
         *mark = 0;
     }
@@ -156,13 +169,13 @@ fn unmark(call: &mut Call, _: &mut Random) {
 mod network_n {
     use super::*;
 
-    fn call(p: u32, q: u32, k: u32) -> Call {
+    fn call(p: u32, q: u32, k: u32) -> Verify {
         let points = marks(N_NODES, &N_POINTS);
         let seed = u64::from(p) + u64::from(q) + u64::from(k);
-        Call::exact(&network_n(), &points, (p, q, k), &mut Random::new(seed))
+        Verify::exact(&network_n(), &points, (p, q, k), &mut Random::new(seed))
     }
 
-    fn assert_verdict(call: Call, yes: bool) {
+    fn assert_verdict(call: Verify, yes: bool) {
         let outcome = call.accepted(yes);
         assert_outcome(call, &outcome);
     }
@@ -223,11 +236,10 @@ mod network_n {
 
     #[test]
     fn each_condition_of_its_own() {
-        let assert_number = |number, change: fn(&mut Call)| {
+        let assert_number = |number, change: fn(&mut Verify)| {
             let mut call = call(2, 0, 2);
             change(&mut call);
-            let outcome = call.refused(number);
-            assert_outcome(call, &outcome);
+            assert_refused(call, number);
         };
         assert_number(6, |c| c.points[3] = 2);
         assert_number(6, |c| c.points[2] = 255);
@@ -263,11 +275,7 @@ mod order {
 
     #[test]
     fn two_conditions_give_the_lower_number() {
-        let mut random = Random::new(3);
-        for _ in 0..200 {
-            let base = Call::random(&network_n(), &mut random);
-            assert_order(&base, FAULTS, &mut random, compare);
-        }
+        assert_lower_numbers_first::<Verify>();
     }
 
     /// With k = 17 scratch would be too short as well, and 9 comes before 10.
@@ -275,10 +283,9 @@ mod order {
     fn a_wrong_k_comes_before_short_scratch() {
         let points = marks(N_NODES, &N_POINTS);
         for k in [17, 18, 1 << 29, u32::MAX] {
-            let mut call = Call::exact(&network_n(), &points, (2, 0, 16), &mut Random::new(4));
+            let mut call = Verify::exact(&network_n(), &points, (2, 0, 16), &mut Random::new(4));
             call.k = k;
-            let outcome = call.refused(9);
-            assert_outcome(call, &outcome);
+            assert_refused(call, 9);
         }
     }
 }
@@ -287,82 +294,10 @@ mod order {
 mod random {
     use super::*;
 
-    const ROUNDS: u64 = 10_000;
-    const ACCEPTED_OF_A_NETWORK: u32 = 8;
-    const FAULTY_OF_A_NETWORK: u32 = 8;
-    const LEAST_OF_EACH: usize = 2_000;
-
-    /// The faults that are not of the network.
-    const OWN_FAULTS: &[(u32, Fault<Call>)] = FAULTS.split_at(5).1;
-
-    /// A call with up to two faults of its own and up to two of the network.
-    fn faulty(network: &OwnedNetwork, random: &mut Random) -> Call {
-        let mut call = Call::random(network, random);
-        for _ in 0..random.below(3) {
-            random.pick(OWN_FAULTS).1(&mut call, random);
-        }
-        let times = random.pick(&[0, 0, 1, 2]);
-        damage(&mut call.network, times, random);
-        call
-    }
-
-    /// How many other points are at most as far from p as q is, equal distances counted.
-    fn others_not_farther(call: &Call, pairs: &AllPairs) -> usize {
-        let to_q = pairs.plain_distances(call.p)[call.q as usize];
-        let e = to_q.saturating_add(1);
-        let near = pairs.plain_nearest(&call.points, call.p, e, u32::MAX);
-        near.len() - 1
-    }
-
-    /// Counts what makes an accepted call telling.
-    fn tally_call(tally: &mut Tally, call: &Call, pairs: &AllPairs) {
-        let (p, q, k) = (call.p, call.q, call.k);
-        let least = plain_scratch_len(call.network.lend(), k);
-        let verdict = |p, q, k| pairs.plain_verify(&call.points, p, q, k);
-        let yes = verdict(p, q, k);
-        let reached = pairs.row(p)[q as usize].is_some();
-        let equal = others_not_farther(call, pairs) >= k as usize;
-        tally.add(&format!("k {k:>2}"));
-        tally.add_if(yes, "yes");
-        tally.add_if(!reached, "no, as q can't be reached");
-        tally.add_if(reached && !yes, "no, as k others are nearer");
-        tally.add_if(p == q, "p on q");
-        tally.add_if(
-            p != q && yes && equal,
-            "yes, as equal distances don't count",
-        );
-        let without_place = p != q && yes && !verdict(p, q, k - 1);
-        tally.add_if(without_place, "yes, as p doesn't count");
-        tally.add_if(yes != verdict(q, p, k), "another answer from q");
-        tally.add_if(call.scratch.len() == least, "scratch of S words");
-        tally.add_if(call.scratch.len() > least, "longer scratch");
-    }
-
-    fn try_network(seed: u64, tally: &mut Tally) {
-        let mut random = Random::new(seed);
-        let network = random_network(&mut random);
-        let pairs = AllPairs::of(network.lend());
-        for _ in 0..ACCEPTED_OF_A_NETWORK {
-            let call = Call::random(&network, &mut random);
-            tally_call(tally, &call, &pairs);
-            let outcome = call.accepted_by(&pairs);
-            assert_outcome(call, &outcome);
-            tally.add_number(0);
-        }
-        for _ in 0..FAULTY_OF_A_NETWORK {
-            tally.add_number(compare(faulty(&network, &mut random)));
-        }
-    }
-
     #[test]
     fn engine_and_plain_calculation_agree() {
-        let mut tally = Tally::default();
-        for seed in 0..ROUNDS {
-            try_network(seed, &mut tally);
-        }
-        tally.print();
-        tally.assert_numbers(LEAST_OF_EACH, &[0, 1, 2, 3, 4, 5, 6, 7, 9, 10, 11]);
-        for name in [
+        let numbers = [0, 1, 2, 3, 4, 5, 6, 7, 9, 10, 11];
+        let names = [
             "yes",
             "no, as q can't be reached",
             "no, as k others are nearer",
@@ -370,14 +305,8 @@ mod random {
             "yes, as equal distances don't count",
             "yes, as p doesn't count",
             "another answer from q",
-            "scratch of S words",
-            "longer scratch",
-        ] {
-            tally.assert_at_least(LEAST_OF_EACH, name);
-        }
-        for k in 1..=16 {
-            tally.assert_at_least(LEAST_OF_EACH, &format!("k {k:>2}"));
-        }
+        ];
+        assert_random_calls::<Verify>(&numbers, &names).assert_each_k(LEAST_OF_EACH);
     }
 }
 
@@ -391,7 +320,7 @@ mod exhaustive {
             let number = if points[p as usize] == 1 { 0 } else { 11 };
             for q in 0..points.len() as u32 {
                 for k in 1..=3 {
-                    let call = Call::exact(network, points, (p, q, k), random);
+                    let call = Verify::exact(network, points, (p, q, k), random);
                     assert_eq!(compare(call), number);
                 }
             }
@@ -401,13 +330,7 @@ mod exhaustive {
     #[test]
     fn up_to_four_nodes() {
         let mut random = Random::new(5);
-        for network in all_small_networks() {
-            let n = network.starts.len() as u32 - 1;
-            for set in 0..1_u32 << n {
-                let points: Vec<u8> = (0..n).map(|p| (set >> p & 1) as u8).collect();
-                try_points(&network, &points, &mut random);
-            }
-        }
+        try_all_small_points(|network, points| try_points(network, points, &mut random));
     }
 }
 
@@ -419,7 +342,7 @@ mod limits {
     const LAST: u32 = MOST_NODES - 1;
 
     fn assert_verdict(network: &OwnedNetwork, points: &[u8], asked: Asked, yes: bool) {
-        let call = Call::exact(network, points, asked, &mut Random::new(6));
+        let call = Verify::exact(network, points, asked, &mut Random::new(6));
         let outcome = call.accepted(yes);
         assert_outcome(call, &outcome);
     }
@@ -457,9 +380,8 @@ mod limits {
         let network = OwnedNetwork::from_roads(1, &[]);
         for k in [1, 16] {
             assert_verdict(&network, &[1], (0, 0, k), true);
-            let call = Call::exact(&network, &[0], (0, 0, k), &mut Random::new(7));
-            let outcome = call.refused(11);
-            assert_outcome(call, &outcome);
+            let call = Verify::exact(&network, &[0], (0, 0, k), &mut Random::new(7));
+            assert_refused(call, 11);
         }
     }
 

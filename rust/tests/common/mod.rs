@@ -5,6 +5,7 @@
 #![allow(dead_code)]
 
 pub mod all_pairs;
+pub mod call;
 pub mod damage;
 pub mod faults;
 pub mod inputs;

@@ -172,3 +172,14 @@ fn all_networks_of(n: u32) -> Vec<OwnedNetwork> {
     let network = |roads: &Vec<_>| OwnedNetwork::from_roads(n, roads);
     lists.iter().map(network).collect()
 }
+
+/// Tries every set of points of each of these networks.
+pub fn try_all_small_points(mut try_points: impl FnMut(&OwnedNetwork, &[u8])) {
+    for network in all_small_networks() {
+        let n = network.starts.len() as u32 - 1;
+        for set in 0..1_u32 << n {
+            let points: Vec<u8> = (0..n).map(|p| (set >> p & 1) as u8).collect();
+            try_points(&network, &points);
+        }
+    }
+}

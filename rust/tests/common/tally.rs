@@ -25,6 +25,11 @@ impl Tally {
         self.add(&number_name(number));
     }
 
+    /// Counts a call by its k.
+    pub fn add_k(&mut self, k: u32) {
+        self.add(&k_name(k));
+    }
+
     pub fn assert_at_least(&self, least: usize, name: &str) {
         let count = self.counts.get(name).copied().unwrap_or(0);
         assert!(count >= least, "{name}: {count} of at least {least}");
@@ -37,6 +42,13 @@ impl Tally {
         }
     }
 
+    /// Sees that each k from 1 to 16 came often enough.
+    pub fn assert_each_k(&self, least: usize) {
+        for k in 1..=16 {
+            self.assert_at_least(least, &k_name(k));
+        }
+    }
+
     pub fn print(&self) {
         for (name, count) in &self.counts {
             println!("{count:>9} {name}");
@@ -46,4 +58,8 @@ impl Tally {
 
 fn number_name(number: u32) -> String {
     format!("number {number:>2}")
+}
+
+fn k_name(k: u32) -> String {
+    format!("k {k:>2}")
 }
