@@ -36,5 +36,8 @@ overlap_listing overlap_nearest(OVERLAP_NETWORK, OVERLAP_POINTS, uint32_t node, 
                          OVERLAP_SCRATCH, uint32_t *ids, size_t ids_len,
                          uint32_t *distances, size_t distances_len);
 overlap_verdict overlap_verify(OVERLAP_NETWORK, OVERLAP_POINTS, uint32_t p, uint32_t q, uint32_t k, OVERLAP_SCRATCH);
+overlap_listing overlap_eager(OVERLAP_NETWORK, OVERLAP_POINTS, uint32_t q, uint32_t k, uint32_t limit,
+                       OVERLAP_SCRATCH, OVERLAP_ANSWERS);
+overlap_listing overlap_short_query(OVERLAP_NETWORK, OVERLAP_POINTS, uint32_t q, OVERLAP_SCRATCH, OVERLAP_ANSWERS);
 
 #endif

@@ -96,4 +96,40 @@ extern "C" {
         scratch: *mut u32,
         scratch_len: usize,
     ) -> Verdict;
+
+    /// Writes `scratch` and `answers`.
+    pub(crate) fn overlap_eager(
+        starts: *const u32,
+        starts_len: usize,
+        neighbours: *const u32,
+        neighbours_len: usize,
+        weights: *const u32,
+        weights_len: usize,
+        points: *const u8,
+        points_len: usize,
+        q: u32,
+        k: u32,
+        limit: u32,
+        scratch: *mut u32,
+        scratch_len: usize,
+        answers: *mut u32,
+        answers_len: usize,
+    ) -> Listing;
+
+    /// Writes `scratch` and `answers`.
+    pub(crate) fn overlap_short_query(
+        starts: *const u32,
+        starts_len: usize,
+        neighbours: *const u32,
+        neighbours_len: usize,
+        weights: *const u32,
+        weights_len: usize,
+        points: *const u8,
+        points_len: usize,
+        q: u32,
+        scratch: *mut u32,
+        scratch_len: usize,
+        answers: *mut u32,
+        answers_len: usize,
+    ) -> Listing;
 }

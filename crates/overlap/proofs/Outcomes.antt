@@ -1,22 +1,24 @@
 -- The outcomes of the calls: refused with its number, and accepted.
 -- Assumes nothing.
-use Prim.Native.Nat.{ℕ}
+use Prim.Native.Nat.{ℕ, _≤_, _<_}
 use mathlib.Core.Path.{_≡_}
 use mathlib.Core.Logic.{_≢_}
 use mathlib.Core.Bool.{Bool}
 use mathlib.Core.List.{List}
 use lib.ListN.{length, replicate}
-use borrow.Author.Tests.{eq-eqb, ne-eqb}
+use borrow.Author.Tests.{eq-eqb, ne-eqb, lt-ltb, le-ltb}
 use Rattle.network.specs.Network.{Network}
 use Rattle.network.specs.Distance.{distancesFrom}
 use Rattle.network.specs.Answers.{answered}
-use Rattle.network.specs.Points.{verified}
+use Rattle.network.specs.Points.{verified, listed, expanded, exceedsLimit}
 use Rattle.overlap.specs.declared.nearest.Found.the-variants.{Refused, Points}
 use Rattle.overlap.specs.declared.verify.Rule.{Rule}
 use Rattle.overlap.specs.declared.verify.Rule.the-variants.{Answer}
 use Rattle.overlap.specs.Distances.{DistancesOutcome, distancesNumber, distancesOutcome}
 use Rattle.overlap.specs.Nearest.{NearestOutcome, nearestNumber, nearestOutcome, NearestDone}
 use Rattle.overlap.specs.Verify.{VerifyOutcome, verifyNumber, verifyOutcome}
+use Rattle.overlap.specs.Eager.{EagerOutcome, eagerNumber, eagerOutcome}
+use Rattle.overlap.specs.declared.eager.Listed.the-variants as is
 
 module _ (g : Network) (node : ℕ) (scratch answers : List ℕ) where
   pub distances-refused : (number : ℕ) → number ≡ distancesNumber g node scratch answers → number ≢ 0
@@ -54,3 +56,21 @@ module _ (g : Network) (P : List ℕ) (p q k : ℕ) (scratch : List ℕ) where
       → _≡_ {A = VerifyOutcome} (record { answer = Answer r; scratch = s }) (verifyOutcome g P p q k scratch)
   unfolding verifyOutcome
   verify-done e z h = rw (eq-eqb (verifyNumber g P p q k scratch) 0 e, z, h)
+
+module _ (g : Network) (P : List ℕ) (q k limit : ℕ) (scratch answers : List ℕ) where
+  pub eager-refused : (number : ℕ) → number ≡ eagerNumber g P q k scratch answers → number ≢ 0
+      → _≡_ {A = EagerOutcome} (record { answer = is.Refused number; scratch = scratch; answers = answers }) (eagerOutcome g P q k limit scratch answers)
+  unfolding eagerOutcome
+  eager-refused number e n = rw (← e, ne-eqb number 0 n)
+
+  pub eager-beyond : {s a : List ℕ} → eagerNumber g P q k scratch answers ≡ 0 → s ≡ replicate (length scratch) 0 → limit < expanded g P q k
+      → a ≡ answers
+      → _≡_ {A = EagerOutcome} (record { answer = is.Refused 12; scratch = s; answers = a }) (eagerOutcome g P q k limit scratch answers)
+  unfolding eagerOutcome exceedsLimit
+  eager-beyond e z l h = rw (eq-eqb (eagerNumber g P q k scratch answers) 0 e, lt-ltb limit (expanded g P q k) l, z, h)
+
+  pub eager-done : {s a : List ℕ} {size count : ℕ} → eagerNumber g P q k scratch answers ≡ 0 → s ≡ replicate (length scratch) 0
+      → expanded g P q k ≤ limit → size ≡ length (listed g P q k) → count ≡ expanded g P q k → a ≡ answered (listed g P q k) answers
+      → _≡_ {A = EagerOutcome} (record { answer = is.Points size count; scratch = s; answers = a }) (eagerOutcome g P q k limit scratch answers)
+  unfolding eagerOutcome exceedsLimit
+  eager-done e z l m n h = rw (eq-eqb (eagerNumber g P q k scratch answers) 0 e, le-ltb limit (expanded g P q k) l, z, m, n, h)

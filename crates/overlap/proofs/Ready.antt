@@ -13,13 +13,15 @@ use lib.ListN.{length, replicate, length-replicate}
 use borrow.Author.Tests.{eq-eqb, ne-eqb, eqb-true, eqb-false, leb-false, ltb-false, not-false}
 use Rattle.network.specs.Count.{any}
 use Rattle.network.specs.Network.{Network, nodeCount, arcCount}
+use Rattle.network.specs.Accepted.{Accepted}
 use Rattle.network.specs.Check.{networkNumber}
 use Rattle.network.proofs.Tests.{or-parts}
 use Rattle.network.proofs.NumberZero.{number-zero}
-use Rattle.overlap.specs.Numbers.{firstNumber, badByteAt, pointsNumber, nodeNumber, kNumber, scratchWords, shortNumber}
+use Rattle.overlap.specs.Numbers.{firstNumber, badByteAt, pointsNumber, nodeNumber, kNumber, scratchWords, shortNumber, queryNumber}
 use Rattle.overlap.specs.Distances.{distancesNumber, DistancesReady}
 use Rattle.overlap.specs.Nearest.{nearestNumber, NearestReady}
 use Rattle.overlap.specs.Verify.{verifyNumber, VerifyReady}
+use Rattle.overlap.specs.Eager.{eagerNumber, EagerReady}
 
 -- the clauses of `firstNumber`: the first number is not 0; it is
 pub first-is : (x : ℕ) (xs : List ℕ) (r : ℕ) → r ≡ x → r ≢ 0 → r ≡ firstNumber (x ∷ xs)
@@ -90,17 +92,22 @@ distances-ready g node scratch answers e =
       places = short-ready (length answers) (nodeCount g) (d .0);
     }
 
-pub nearest-ready : (g : Network) (P : List ℕ) (node k : ℕ) (scratch ids distances : List ℕ) → nearestNumber g P node k scratch ids distances ≡ 0
-    → NearestReady g P node k scratch ids distances
-unfolding nearestNumber
-nearest-ready g P node k scratch ids distances e =
+pub record QueryReady (g : Network) (P : List ℕ) (node k : ℕ) (scratch : List ℕ) : Type 0 where
+  pub accepted : Accepted g
+  pub points : length P ≡ nodeCount g
+  pub inside : node < nodeCount g
+  pub some : 1 ≤ k
+  pub few : k ≤ 16
+  pub room : scratchWords g k ≤ length scratch
+
+pub query-ready : (g : Network) (P : List ℕ) (node k : ℕ) (scratch : List ℕ) → queryNumber g P node k scratch ≡ 0 → QueryReady g P node k scratch
+unfolding queryNumber
+query-ready g P node k scratch e =
     let a = first-zero (networkNumber g) _ e in
     let b = first-zero (pointsNumber (nodeCount g) P) _ (a .1) in
     let c = first-zero (nodeNumber (nodeCount g) node) _ (b .1) in
     let d = first-zero (kNumber k) _ (c .1) in
-    let f = first-zero (shortNumber (length scratch) (scratchWords g k)) _ (d .1) in
-    let h = first-zero (shortNumber (length ids) k) _ (f .1) in
-    let i = first-zero (shortNumber (length distances) k) [] (h .1) in
+    let f = first-zero (shortNumber (length scratch) (scratchWords g k)) [] (d .1) in
     record {
       accepted = number-zero g .0 (a .0);
       points = points-ready (nodeCount g) P (b .0);
@@ -108,8 +115,42 @@ nearest-ready g P node k scratch ids distances e =
       some = k-ready k (d .0) .0;
       few = k-ready k (d .0) .1;
       room = short-ready (length scratch) (scratchWords g k) (f .0);
-      id-places = short-ready (length ids) k (h .0);
-      distance-places = short-ready (length distances) k (i .0);
+    }
+
+pub nearest-ready : (g : Network) (P : List ℕ) (node k : ℕ) (scratch ids distances : List ℕ) → nearestNumber g P node k scratch ids distances ≡ 0
+    → NearestReady g P node k scratch ids distances
+unfolding nearestNumber
+nearest-ready g P node k scratch ids distances e =
+    let a = first-zero (queryNumber g P node k scratch) _ e in
+    let b = first-zero (shortNumber (length ids) k) _ (a .1) in
+    let c = first-zero (shortNumber (length distances) k) [] (b .1) in
+    let ready = query-ready g P node k scratch (a .0) in
+    record {
+      accepted = ready .accepted;
+      points = ready .points;
+      inside = ready .inside;
+      some = ready .some;
+      few = ready .few;
+      room = ready .room;
+      id-places = short-ready (length ids) k (b .0);
+      distance-places = short-ready (length distances) k (c .0);
+    }
+
+pub eager-ready : (g : Network) (P : List ℕ) (q k : ℕ) (scratch answers : List ℕ) → eagerNumber g P q k scratch answers ≡ 0
+    → EagerReady g P q k scratch answers
+unfolding eagerNumber
+eager-ready g P q k scratch answers e =
+    let a = first-zero (queryNumber g P q k scratch) _ e in
+    let b = first-zero (shortNumber (length answers) (nodeCount g)) [] (a .1) in
+    let ready = query-ready g P q k scratch (a .0) in
+    record {
+      accepted = ready .accepted;
+      points = ready .points;
+      site = ready .inside;
+      some = ready .some;
+      few = ready .few;
+      room = ready .room;
+      places = short-ready (length answers) (nodeCount g) (b .0);
     }
 
 pub verify-ready : (g : Network) (P : List ℕ) (p q k : ℕ) (scratch : List ℕ) → verifyNumber g P p q k scratch ≡ 0 → VerifyReady g P p q k scratch
@@ -143,5 +184,11 @@ words-enough g k h = omega (arith, mul-le-mul-left (8 * (arcCount g + nodeCount 
 
 pub words-for-found : (g : Network) (k : ℕ) → 1 ≤ k → k ≤ 16 → 1 ≤ nodeCount g → 2 * k + 2 * nodeCount g + 2 * (arcCount g + 1) ≤ scratchWords g k
 words-for-found g k h few some =
+    let low : 8 ≤ 8 * (arcCount g + nodeCount g) = omega arith in
+    omega (arith, words-enough g k h, mul-le-mul-right k low)
+
+-- eager uses 2 k + 6 n + 4 (A + 1)
+pub words-for-eager : (g : Network) (k : ℕ) → 1 ≤ k → k ≤ 16 → 1 ≤ nodeCount g → 2 * k + 6 * nodeCount g + 4 * (arcCount g + 1) ≤ scratchWords g k
+words-for-eager g k h few some =
     let low : 8 ≤ 8 * (arcCount g + nodeCount g) = omega arith in
     omega (arith, words-enough g k h, mul-le-mul-right k low)

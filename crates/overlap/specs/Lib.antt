@@ -3,4 +3,5 @@ pub mod Numbers
 pub mod Distances
 pub mod Nearest
 pub mod Verify
+pub mod Eager
 pub mod Exported

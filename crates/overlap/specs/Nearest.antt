@@ -8,22 +8,17 @@ use lib.Dec.{eqb}
 use lib.ListN.{length, replicate}
 use Rattle.network.specs.Network.{Network, nodeCount, arcCount}
 use Rattle.network.specs.Accepted.{Accepted}
-use Rattle.network.specs.Check.{networkNumber}
 use Rattle.network.specs.Nearest.{nearest}
 use Rattle.network.specs.Answers.{answered}
 use Rattle.overlap.specs.declared.nearest.Found.{Found}
 use Rattle.overlap.specs.declared.nearest.Found.the-variants.{Refused, Points}
 use Rattle.overlap.specs.declared.Listing.{Listing}
-use Rattle.overlap.specs.Numbers.{firstNumber, pointsNumber, nodeNumber, kNumber, scratchWords, shortNumber}
+use Rattle.overlap.specs.Numbers.{firstNumber, queryNumber, scratchWords, shortNumber}
 
 unfoldable pub nearestNumber : Network → List ℕ → ℕ → ℕ → List ℕ → List ℕ → List ℕ → ℕ
 nearestNumber g P node k scratch ids distances =
     firstNumber
-    (networkNumber g
-    ∷ pointsNumber (nodeCount g) P
-    ∷ nodeNumber (nodeCount g) node
-    ∷ kNumber k
-    ∷ shortNumber (length scratch) (scratchWords g k)
+    (queryNumber g P node k scratch
     ∷ shortNumber (length ids) k
     ∷ shortNumber (length distances) k
     ∷ [])

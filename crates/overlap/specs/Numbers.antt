@@ -7,6 +7,7 @@ use lib.Dec.{eqb, ltb, leb}
 use lib.ListN.{length, getD}
 use Rattle.network.specs.Count.{any}
 use Rattle.network.specs.Network.{Network, nodeCount, arcCount}
+use Rattle.network.specs.Check.{networkNumber}
 use Rattle.network.specs.Points.{marked}
 
 -- 'Conditions are tried from 1 upward, those whose subject the call has; the first met is returned'
@@ -40,3 +41,14 @@ shortNumber have need = cond (ltb have need) 10 0
 -- 11: 'verify of an unmarked one'
 unfoldable pub unmarkedNumber : List ℕ → ℕ → ℕ
 unmarkedNumber P p = cond (marked P p) 0 11
+
+-- what nearest and the searches test first: 1 to 5, 6, 7, 9, and 10 of scratch, where m is k
+unfoldable pub queryNumber : Network → List ℕ → ℕ → ℕ → List ℕ → ℕ
+queryNumber g P node k scratch =
+    firstNumber
+    (networkNumber g
+    ∷ pointsNumber (nodeCount g) P
+    ∷ nodeNumber (nodeCount g) node
+    ∷ kNumber k
+    ∷ shortNumber (length scratch) (scratchWords g k)
+    ∷ [])

@@ -5,11 +5,14 @@ ghost use Rattle.network.specs.Check.{networkNumber};
 ghost use Rattle.overlap.specs.Distances.{distancesOutcome};
 ghost use Rattle.overlap.specs.Nearest.{nearestOutcome, foundListing};
 ghost use Rattle.overlap.specs.Verify.{verifyOutcome, ruleVerdict};
-ghost use Rattle.overlap.specs.Exported.{NearestExported, VerifyExported};
+ghost use Rattle.overlap.specs.Eager.{eagerOutcome};
+ghost use Rattle.overlap.specs.Exported.{NearestExported, VerifyExported, EagerExported};
+use eager::Listed;
 use nearest::Found;
 use verify::Rule;
 
 mod distances;
+mod eager;
 mod nearest;
 mod numbers;
 mod verify;
@@ -130,4 +133,73 @@ pub extern "C" fn overlap_verify(
             }
         }
     }
+}
+
+// Eager. Lent: the network, the points, scratch of S entries with m = k, and an array for n answers. Returned: number 0, the length of the list and
+// the nodes expanded, or 1 to 5, 6, 7, 9, 10, 12. Accepted: the answers are the listed points, ascending, then the old entries, and the whole
+// scratch is zero. Refused: nothing is written, but 12 leaves the whole scratch zero. Document 01: 'Eager (000, Fig. 4): expands outward from q,
+// stops behind a node with k points strictly nearer than q. It takes a 32-bit limit and returns the list and the count of nodes expanded.'
+#[no_mangle]
+pub extern "C" fn overlap_eager(
+    starts: &[u32],
+    neighbours: &[u32],
+    weights: &[u32],
+    points: &[u8],
+    q: u32,
+    k: u32,
+    limit: u32,
+    scratch: &mut [u32],
+    answers: &mut [u32],
+) -> Listing
+    ensures { λ r. ⌜ EagerExported (eagerOutcome (network (now (starts .entry)) (now (neighbours .entry)) (now (weights .entry))) (now (points .entry)) q k limit (now (scratch .entry)) (now (answers .entry))) r (now (scratch .exit)) (now (answers .exit)) ⌝ }
+{
+    match eager::answer(
+        starts,
+        neighbours,
+        weights,
+        points,
+        q,
+        k,
+        limit,
+        scratch,
+        answers,
+    ) {
+        Listed::Refused(number) => Listing {
+            number,
+            count: 0,
+            length: 0,
+        },
+        Listed::Points { length, count } => Listing {
+            number: 0,
+            count,
+            length,
+        },
+    }
+}
+
+// The short query. Lent: the network, the points, scratch of S entries with m = 1, and an array for n answers. Returned and left: as eager with k =
+// 1 and limit 65,535, which no count exceeds. Document 01: 'The short query: no k and no limit; eager with k = 1 and limit 65,535.'
+#[no_mangle]
+pub extern "C" fn overlap_short_query(
+    starts: &[u32],
+    neighbours: &[u32],
+    weights: &[u32],
+    points: &[u8],
+    q: u32,
+    scratch: &mut [u32],
+    answers: &mut [u32],
+) -> Listing
+    ensures { λ r. ⌜ EagerExported (eagerOutcome (network (now (starts .entry)) (now (neighbours .entry)) (now (weights .entry))) (now (points .entry)) q 1 65535 (now (scratch .entry)) (now (answers .entry))) r (now (scratch .exit)) (now (answers .exit)) ⌝ }
+{
+    overlap_eager(
+        starts,
+        neighbours,
+        weights,
+        points,
+        q,
+        1,
+        65535,
+        scratch,
+        answers,
+    )
 }

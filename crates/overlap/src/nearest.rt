@@ -30,25 +30,7 @@ fn number(
 ) -> u32
     ensures { λ r. ⌜ r ≡ nearestNumber (network (now (starts .entry)) (now (neighbours .entry)) (now (weights .entry))) (now (points .entry)) node k (now (scratch .entry)) (now (ids .entry)) (now (distances .entry)) ⌝ }
 {
-    let number = network::check::network_number(starts, neighbours, weights);
-    if number != 0 {
-        return number;
-    }
-    let n = starts.len() - 1;
-    let number = numbers::points_number(n, points);
-    if number != 0 {
-        return number;
-    }
-    let number = numbers::node_number(n, node);
-    if number != 0 {
-        return number;
-    }
-    let number = numbers::k_number(k);
-    if number != 0 {
-        return number;
-    }
-    let need = numbers::scratch_words(n, neighbours.len(), k);
-    let number = numbers::short_number(scratch.len(), need);
+    let number = numbers::query_number(starts, neighbours, weights, points, node, k, scratch);
     if number != 0 {
         return number;
     }

@@ -3,7 +3,8 @@ ghost use mathlib.Core.Path.{_≡_};
 ghost use Prim.Native.Nat.{_+_, _*_, _≤_, _<_};
 ghost use lib.ListN.{length};
 ghost use Rattle.network.specs.Count.{any};
-ghost use Rattle.overlap.specs.Numbers.{badByteAt, pointsNumber, nodeNumber, kNumber, shortNumber, unmarkedNumber};
+ghost use Rattle.network.specs.Network.{network};
+ghost use Rattle.overlap.specs.Numbers.{badByteAt, pointsNumber, nodeNumber, kNumber, shortNumber, unmarkedNumber, queryNumber};
 use network::arcs::wide;
 
 // Of 6: a byte above 1.
@@ -85,4 +86,37 @@ pub fn unmarked_number(points: &[u8], p: u32) -> u32
         return 0;
     }
     11
+}
+
+// What nearest and the searches test first: 1 to 5, 6, 7, 9, and 10 of scratch. S is computed where n, A and k are known to be in range.
+pub fn query_number(
+    starts: &[u32],
+    neighbours: &[u32],
+    weights: &[u32],
+    points: &[u8],
+    node: u32,
+    k: u32,
+    scratch: &[u32],
+) -> u32
+    ensures { λ r. ⌜ r ≡ queryNumber (network (now (starts .entry)) (now (neighbours .entry)) (now (weights .entry))) (now (points .entry)) node k (now (scratch .entry)) ⌝ }
+{
+    let number = network::check::network_number(starts, neighbours, weights);
+    if number != 0 {
+        return number;
+    }
+    let n = starts.len() - 1;
+    let number = points_number(n, points);
+    if number != 0 {
+        return number;
+    }
+    let number = node_number(n, node);
+    if number != 0 {
+        return number;
+    }
+    let number = k_number(k);
+    if number != 0 {
+        return number;
+    }
+    let need = scratch_words(n, neighbours.len(), k);
+    short_number(scratch.len(), need)
 }

@@ -72,6 +72,30 @@ pub fn verify_number(
     }
 }
 
+/// Eager but for 12: the conditions 1 to 7, 9 and 10. Scratch and answers are given by their
+/// lengths.
+pub fn eager_number(
+    network: Network<'_>,
+    points: &[u8],
+    q: u32,
+    k: u32,
+    scratch: usize,
+    answers: usize,
+) -> u32 {
+    let of_points = points_number(network, points);
+    if of_points != 0 {
+        of_points
+    } else if is_no_node(network, q) {
+        7
+    } else if is_no_k(k) {
+        9
+    } else if scratch < plain_scratch_len(network, k) || answers < node_count(network) {
+        10
+    } else {
+        0
+    }
+}
+
 /// The first condition met of 1 to 6, or 0.
 fn points_number(network: Network<'_>, points: &[u8]) -> u32 {
     let of_network = plain_check(network);

@@ -1,0 +1,70 @@
+-- What a search from q has found where it has settled all that it comes to: with all the marks, and with some of them.
+-- Assumes nothing.
+use Prim.Native.Nat.{ℕ, _<_}
+use mathlib.Core.Path.{_≡_, ap, _∙_}
+use mathlib.Core.Bool.{true, false}
+use mathlib.Core.Logic.{_≢_, inl}
+use mathlib.Core.List.{List}
+use native.Mathlib.Omega.{arith}
+use Rattle.network.specs.Network.{Network, nodeCount}
+use Rattle.network.specs.Accepted.{Accepted}
+use Rattle.network.specs.Walk.{Walk}
+use Rattle.network.specs.Distance.{NONE, dist}
+use Rattle.network.specs.Points.{marked, isNearer, countNearer, isListed, isExpanded}
+use Rattle.network.specs.Nearest.{key}
+use Rattle.network.proofs.Counts.{count-mono, without, without-other, count-without}
+use Rattle.network.proofs.Distances.{dist-walk, dist-symmetric}
+use Rattle.network.proofs.Rank.{Nearer, Near, before, isBefore, nearer-passes, passes-before}
+use Rattle.expansion.proofs.Search.{Explored, closed-leads, finished}
+use Rattle.searches.proofs.Beaten.{Unbeaten, Part, unbeaten-closed, expanded-unbeaten}
+use Rattle.searches.proofs.Listed.{listed-parts, lazy-open}
+use Rattle.searches.proofs.Finds.{Met, eager-finds}
+
+-- a point does not come before itself
+pub before-less : {g : Network} {P : List ℕ} {i e p : ℕ} → Nearer g P i e p → before g P i e (key (p, dist g i p)) < countNearer g P i e
+unfolding before countNearer
+before-less {g} {P} {i} {e} {p} h =
+    omega (
+      arith,
+      count-mono (isBefore g P i e (key (p, dist g i p))) (without (isNearer g P i e) p) (nodeCount g)
+          (λ x l a.
+          let b = passes-before (key (p, dist g i p)) l a in
+          without-other (isNearer g P i e) p x (λ s. omega (arith, b .first, ap (λ (y : ℕ). key (y, dist g i y)) s)) ∙ nearer-passes (b .nearer)),
+      count-without (isNearer g P i e) p (nodeCount g) (h .inside) (nearer-passes h),
+    )
+
+-- with the marks P: each point that is listed, but for one on q, is among the k that are found from a node that is settled at its distance
+pub record Found (g : Network) (P : List ℕ) (Settled : ℕ → ℕ → Type 0) (q k p : ℕ) : Type 0 where
+  pub node : ℕ
+  pub settled : Settled node (dist g q node)
+  pub near : Near g P node (dist g q node) k p
+
+module _ {g : Network} (ok : Accepted g) (P : List ℕ) (q k : ℕ) (Settled : ℕ → ℕ → Type 0)
+    (all : (v : ℕ) → Met g P q k v → dist g q v ≢ NONE → Settled v (dist g q v)) where
+  pub eager-finished : (p : ℕ) → p < nodeCount g → isListed g P q k p ≡ true → p ≢ q → Found g P Settled q k p
+  eager-finished p low h ne =
+      let f = eager-finds ok P q k p h ne in
+      let e = dist-symmetric ok q (f .node) in
+      let n : Nearer g P (f .node) (dist g q (f .node)) p = record { inside = low; point = listed-parts g P q k p .0 h .mark; less = omega (arith, f .nearer) } in
+      record {
+        node = f .node;
+        settled = all (f .node) (f .met) (omega (arith, f .reach));
+        near = record { nearer = n; few = omega (arith, before-less n, rw (← e) at (f .few)) };
+      }
+
+  -- the nodes that the search goes through are settled
+  pub expanded-settled : (m : ℕ) → isExpanded g P q k m ≡ true → Settled m (dist g q m)
+  expanded-settled m h =
+      let r = expanded-unbeaten g P q k m .0 h in
+      all m (inl (r .1)) (omega (arith, r .0, dist-symmetric ok q m))
+
+-- and those of the nodes come to that are unbeaten are they
+pub come-expanded : {g : Network} → Accepted g → (P : List ℕ) (q k m : ℕ) {l : ℕ} → Walk g q m l → Unbeaten g P q k m → isExpanded g P q k m ≡ true
+come-expanded {g} ok P q k m walk n =
+    expanded-unbeaten g P q k m .1 (omega (arith, dist-walk ok walk .some, dist-symmetric ok q m), n)
+
+-- with some of the marks, M: each point that is listed is among them, or its node is settled
+pub lazy-finished : {g : Network} → Accepted g → (P M : List ℕ) (q k : ℕ) {Settled : ℕ → ℕ → Type 0} {Held : ℕ → ℕ → ℕ → Type 0} → Explored g q (Unbeaten g M q k) Settled Held → ((u x y : ℕ) → Held u x y → ⊥) → Part M P → (p : ℕ) → isListed g P q k p ≡ true → marked M p ≡ false → Settled p (dist g q p)
+lazy-finished {g} ok P M q k e none sub p h new =
+    finished ok (closed-leads ok (unbeaten-closed ok M q k)) e none p (lazy-open g P M q k p h sub new)
+    (omega (arith, listed-parts g P q k p .0 h .reach, dist-symmetric ok q p))

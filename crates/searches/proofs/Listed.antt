@@ -1,0 +1,90 @@
+-- The test that lists a point, in its parts: what it says of the site's own point, and of a search that prunes by some of the marks.
+-- Assumes nothing.
+use Prim.Native.Nat.{ℕ, _≤_, _<_}
+use mathlib.Core.Path.{_≡_, sym, ap, _∙_}
+use mathlib.Core.Bool.{true, false, not, false≢true}
+use mathlib.Core.Logic.{_≢_, _↔_}
+use mathlib.Core.List.{List}
+use native.Mathlib.Omega.{arith}
+use lib.Dec.{eqb}
+use borrow.Author.Tests.{ltb-true, lt-ltb, eqb-false, ne-eqb, not-true}
+use Rattle.network.specs.Network.{Network, nodeCount}
+use Rattle.network.specs.Accepted.{Accepted}
+use Rattle.network.specs.Distance.{NONE, dist}
+use Rattle.network.proofs.Tests.{and-parts, and-intro}
+use Rattle.network.proofs.Distances.{dist-self}
+use Rattle.network.specs.Points.{marked, isNearer, countNearer, isOtherNearer, othersNearer, verified, isListed}
+use Rattle.network.proofs.Counts.{count-mono, count-none}
+use Rattle.network.proofs.Rank.{passes-nearer}
+use Rattle.searches.proofs.Beaten.{Unbeaten, Part}
+
+-- the parts of the test
+pub record Lists (g : Network) (P : List ℕ) (q k p : ℕ) : Type 0 where
+  pub mark : marked P p ≡ true
+  pub reach : dist g p q ≢ NONE
+  pub few : othersNearer g P p (dist g p q) < k
+
+-- the rule's test: q is reached, and few others are nearer
+pub verified-parts : (g : Network) (P : List ℕ) (p q k : ℕ) → (verified g P p q k ≡ true) ↔ ((dist g p q ≢ NONE) × (othersNearer g P p (dist g p q) < k))
+unfolding verified
+verified-parts g P p q k = (
+  λ e.
+      let a = and-parts (not (eqb (dist g p q) NONE)) _ e in
+      (eqb-false (dist g p q) NONE (not-true (eqb (dist g p q) NONE) (a .0)), ltb-true (othersNearer g P p (dist g p q)) k (a .1)),
+  λ h.
+      and-intro (not (eqb (dist g p q) NONE)) _ (ap not (ne-eqb (dist g p q) NONE (h .0))) (lt-ltb (othersNearer g P p (dist g p q)) k (h .1)),
+)
+
+pub listed-parts : (g : Network) (P : List ℕ) (q k p : ℕ) → (isListed g P q k p ≡ true) ↔ Lists g P q k p
+unfolding isListed
+listed-parts g P q k p = (
+  λ e.
+      let a = and-parts (marked P p) _ e in
+      let b = verified-parts g P p q k .0 (a .1) in
+      record { mark = a .0; reach = b .0; few = b .1 },
+  λ h. and-intro (marked P p) _ (h .mark) (verified-parts g P p q k .1 (h .reach, h .few)),
+)
+
+-- a point that is not p and nearer to p than d
+pub other-nearer : (g : Network) (P : List ℕ) (p d x : ℕ) → marked P x ≡ true → x ≢ p → dist g p x < d → isOtherNearer g P p d x ≡ true
+unfolding isOtherNearer isNearer
+other-nearer g P p d x a n h = and-intro (not (eqb x p)) _ (ap not (ne-eqb x p n)) (and-intro (marked P x) _ a (lt-ltb (dist g p x) d h))
+
+-- a listed point that is not among the marks M is not beaten by M
+pub lazy-open : (g : Network) (P M : List ℕ) (q k p : ℕ) → isListed g P q k p ≡ true → Part M P → marked M p ≡ false → Unbeaten g M q k p
+unfolding countNearer othersNearer
+lazy-open g P M q k p e sub un b =
+    let h = listed-parts g P q k p .0 e in
+    let l =
+    count-mono (isNearer g M p (dist g p q)) (isOtherNearer g P p (dist g p q)) (nodeCount g)
+    (λ x i a.
+    let r = passes-nearer {P = M} i a in
+    other-nearer g P p (dist g p q) x (sub x (r .point)) (λ j. false≢true (sym un ∙ ap (marked M) (sym j) ∙ r .point)) (r .less))
+    in
+    omega (arith, h .few)
+
+-- nothing is nearer to q than q
+module _ {g : Network} (ok : Accepted g) (P : List ℕ) (q k : ℕ) (some : 1 ≤ k) where
+  pub own-unbeaten : Unbeaten g P q k q
+  unfolding countNearer isNearer
+  own-unbeaten b =
+      let z = dist-self ok q in
+      omega (
+        arith,
+        count-none (isNearer g P q (dist g q q)) (nodeCount g)
+            (λ x a. omega (arith, ltb-true (dist g q x) (dist g q q) (and-parts (marked P x) _ a .1))),
+      )
+
+  no-others : othersNearer g P q (dist g q q) ≡ 0
+  unfolding othersNearer isOtherNearer isNearer
+  no-others =
+      let z = dist-self ok q in
+      count-none (isOtherNearer g P q (dist g q q)) (nodeCount g)
+      (λ x a. omega (arith, ltb-true (dist g q x) (dist g q q) (and-parts (marked P x) _ (and-parts (not (eqb x q)) _ a .1) .1)))
+
+  -- a site that is a point is listed for itself
+  pub own-listed : (isListed g P q k q ≡ true) ↔ (marked P q ≡ true)
+  own-listed = (
+    λ e. listed-parts g P q k q .0 e .mark,
+    λ a. listed-parts g P q k q .1 (record { mark = a; reach = omega (arith, dist-self ok q); few = omega (arith, no-others) }),
+  )

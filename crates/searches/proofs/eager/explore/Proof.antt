@@ -1,0 +1,289 @@
+-- `searches::eager::explore` meets its contract. The loop's invariant is that eager is under way (`Exploring`). A turn takes an entry, looks at its
+-- node, which sets flags before the area, and settles it; where fewer than k points are found the node is expanded, and is counted, and its arcs
+-- are followed; else it is beaten, and the search stops behind it. The measure is the expansion's room.
+-- Assumes nothing.
+use Prim.Native.Nat.{_+_, _<_}
+use mathlib.Core.Path.{_≡_, refl, sym, _∙_}
+use mathlib.Core.Bool.{true, false≢true, true≢false}
+use mathlib.Core.Logic.{_≢_, ⊎-elim}
+use mathlib.Core.List.{_++_}
+use native.Mathlib.Omega.{arith}
+use lib.ListN.{length, getD, drop, length-set}
+use lib.Seq.{length-take-le}
+use borrow.Author.Needs.{needs}
+use borrow.Author.Tests.{eqb-true, eqb-false}
+use Rattle.network.specs.Network.{Network, network, nodeCount, neighboursOf}
+use Rattle.network.specs.Points.{isListed}
+use Rattle.network.proofs.Rank.{Near}
+use Rattle.expansion.specs.Area.{Took, Followed}
+use Rattle.expansion.proofs.AreaLaws.{room, settledAs, area-left}
+use Rattle.expansion.proofs.Progress.{progress-nodes, took-area, took-place, took-small, took-follow, room-falls, frame-settled}
+use Rattle.expansion.proofs.Beside.{Beside, room-beside}
+use Rattle.searches.proofs.Finds.{met-leads}
+use Rattle.searches.proofs.Stopping.{room-stopped}
+use Rattle.searches.proofs.Exploring.{Exploring, exploring-start, can-look, beside-old, looked-took, looked-exploring, looked-told, few-expanded, many-beaten, beyond, exploring-stopped, exploring-opened, count-all, found-all}
+use Rattle.searches.proofs.eager.explore.Statement.{statement}
+use Rattle.searches.proofs.eager.explore.Tie as tie
+
+abbrev Inv-loop : tie.InvT-loop
+Inv-loop starts neighbours weights points s₀ b q k limit n settled₀ len₀ count₀ s settled len count =
+    (length s ≡ length s₀) × Exploring (network starts neighbours weights) points q k limit s b settled len count
+
+abbrev μ-loop : tie.MeasureT-loop
+μ-loop starts neighbours weights points s₀ b q k limit n settled₀ len₀ count₀ s settled len count = room (network starts neighbours weights) s b len
+
+-- the places: where the loop begins, the entry that was taken, its node looked at, and settled
+abbrev start-of : tie.At-loop Inv-loop μ-loop → tie.Start Inv-loop μ-loop
+start-of l = l .before .before .before .before .before .before .before .before .before .before
+
+abbrev loop-of : tie.After-taken Inv-loop μ-loop → tie.At-loop Inv-loop μ-loop
+loop-of c = c .before .before .before .before .before .before
+
+abbrev taken-of : tie.After-look Inv-loop μ-loop → tie.After-taken Inv-loop μ-loop
+taken-of k = k .before .before .before
+
+abbrev look-of : tie.After-settle Inv-loop μ-loop → tie.After-look Inv-loop μ-loop
+look-of s = s .before .before .before .before .before
+
+abbrev settle-of : tie.After-open Inv-loop μ-loop → tie.After-settle Inv-loop μ-loop
+settle-of o = o .before .before .before .before .before
+
+abbrev G : tie.At-loop Inv-loop μ-loop → Network
+G l = let s = start-of l in network (s .args .starts .now) (s .args .neighbours .now) (s .args .weights .now)
+
+-- the entry that was taken
+took : (c : tie.After-taken Inv-loop μ-loop)
+    → Took (nodeCount (G (loop-of c))) (loop-of c .loop .s) (c .before .before .before .before .next .last .0) (start-of (loop-of c) .args .b)
+    (loop-of c .loop .len) (c .taken .given .0 .1 .1 .1 .0) (c .taken .given .0 .0) (c .taken .given .0 .1 .0) (c .taken .given .0 .1 .1 .0)
+took c = rw (c .taken .given .1) at (c .before .before .before .before .next .ensures)
+
+-- the flags that `look` set, as if before the entry was taken
+flags-set : (k : tie.After-look Inv-loop μ-loop)
+    → Beside (loop-of (taken-of k) .loop .s) (k .look .last .1 .1 .1 .1 .0 ++ drop (start-of (loop-of (taken-of k)) .args .b) (loop-of (taken-of k) .loop .s)) (start-of (loop-of (taken-of k)) .args .b)
+flags-set k = let l = loop-of (taken-of k) in beside-old (start-of l .pre) (l .loop .inv .1) (took (taken-of k)) (k .look .ensures)
+
+exploring : (k : tie.After-look Inv-loop μ-loop)
+    → let l = loop-of (taken-of k) in
+    let a = start-of l .args in
+    Exploring (G l) (a .points .now) (a .q) (a .k) (a .limit) (k .look .last .1 .1 .1 .1 .0 ++ drop (a .b) (l .loop .s)) (a .b) (l .loop .settled) (l .loop .len) (l .loop .count)
+exploring k = let l = loop-of (taken-of k) in looked-exploring (start-of l .pre) (l .loop .inv .1) (took (taken-of k)) (k .look .ensures)
+
+took-after : (k : tie.After-look Inv-loop μ-loop)
+    → let c = taken-of k in
+    let l = loop-of c in
+    let b = start-of l .args .b in
+    Took (nodeCount (G l)) (k .look .last .1 .1 .1 .1 .0 ++ drop b (l .loop .s)) (k .look .last .1 .1 .1 .1 .0 ++ drop b (c .before .before .before .before .next .last .0)) b
+    (l .loop .len) (c .taken .given .0 .1 .1 .1 .0) (c .taken .given .0 .0) (c .taken .given .0 .1 .0) (c .taken .given .0 .1 .1 .0)
+took-after k = let l = loop-of (taken-of k) in looked-took (start-of l .pre) (l .loop .inv .1) (took (taken-of k)) (k .look .ensures)
+
+told : (k : tie.After-look Inv-loop μ-loop)
+    → let c = taken-of k in
+    let l = loop-of c in
+    let a = start-of l .args in
+    (p : _) → Near (G l) (a .points .now) (c .taken .given .0 .1 .0) (c .taken .given .0 .0) (a .k) p → isListed (G l) (a .points .now) (a .q) (a .k) p ≡ true
+    → getD (k .look .last .1 .1 .1 .1 .0 ++ drop (a .b) (l .loop .s)) (nodeCount (G l) + p) 0 ≢ 0
+told k = let l = loop-of (taken-of k) in looked-told (start-of l .pre) (l .loop .inv .1) (took (taken-of k)) (k .look .ensures)
+
+-- where fewer than k are found, the count is below the limit
+below : (s : tie.After-settle Inv-loop μ-loop) → look-of s .look .result < start-of (loop-of (taken-of (look-of s))) .args .k
+    → loop-of (taken-of (look-of s)) .loop .count < start-of (loop-of (taken-of (look-of s))) .args .limit
+below s h =
+    let l = loop-of (taken-of (look-of s)) in
+    ⊎-elim
+    (λ a. let n = eqb-false (l .loop .count) (start-of l .args .limit) (a .1 .left) in omega (arith, l .loop .inv .1 .within))
+    (λ a. absurd (omega (arith, a .left)))
+    (s .before .before .if1 .came)
+
+-- the arcs of its node are followed
+followed : (o : tie.After-open Inv-loop μ-loop)
+    → let k = look-of (settle-of o) in
+    let c = taken-of k in
+    let l = loop-of c in
+    let b = start-of l .args .b in
+    Followed (G l)
+    (settledAs (nodeCount (G l)) (k .look .last .1 .1 .1 .1 .0 ++ drop b (c .before .before .before .before .next .last .0)) b (l .loop .settled) (c .taken .given .0 .1 .0) (c .taken .given .0 .0))
+    (o .«open» .last .1 .1 .1 .0) b (c .taken .given .0 .1 .1 .1 .0) (o .«open» .result) (c .taken .given .0 .1 .0) (c .taken .given .0 .0)
+    (length (neighboursOf (G l) (c .taken .given .0 .1 .0)))
+followed o = rw (settle-of o .settle .ensures) at (o .«open» .ensures)
+
+sub-n : tie.Need-sub-n Inv-loop μ-loop
+sub-n c = search needs
+
+start-requires : tie.Need-start-requires Inv-loop μ-loop
+start-requires c κs =
+    let p = c .before .before .before .before .before .before .pre in
+    (record { zero = λ j h. p .blank .zero j (omega (arith, p .base)) }, (omega (arith, p .size, p .base), p .site, p .accepted .few))
+
+loop-holds : tie.Need-loop-holds Inv-loop μ-loop
+loop-holds c =
+    let s = c .before .before .before .before .before .before .before .before .before in
+    (refl, exploring-start (s .pre) (s .args .limit) (c .before .before .start .ensures))
+
+next-requires : tie.Need-next-requires Inv-loop μ-loop
+next-requires c κs =
+    let l = c .before in
+    let p = l .loop .inv .1 .progress in
+    ((p .area .fits, p .area .queue), progress-nodes (start-of l .pre .accepted) p)
+
+enum-known-taken : tie.Need-enum-known-taken Inv-loop μ-loop
+enum-known-taken c = search needs
+
+enum-told : tie.Need-enum-told Inv-loop μ-loop
+enum-told c = search needs
+
+same-length : tie.Need-same-length Inv-loop μ-loop
+same-length c = search needs
+
+returns : tie.Need-returns Inv-loop μ-loop
+returns c =
+    let n = c .before .before .before .before in
+    let l = n .before .before in
+    let e = l .loop .inv .1 in
+    let t = rw (c .enum-told .given .1) at (n .next .ensures) in
+    let all = count-all (start-of l .pre) e t in
+    record {
+      size = t .leaves .frame .size ∙ l .loop .inv .0 ∙ l .before .before .before .start .ensures .frame .size;
+      area = area-left (e .progress .area) (t .leaves);
+      blank = λ j h m. t .leaves .frame .words j (omega arith) ∙ e .blank j h m;
+      complete = λ a. record { count = all; within = rw (← all) (e .within); found = found-all (start-of l .pre) e t };
+      beyond = λ a. absurd (false≢true a);
+    }
+
+slice-relend-prefix-look : tie.Need-slice-relend-prefix-look Inv-loop μ-loop
+slice-relend-prefix-look c = search needs
+
+slice-aggregate-look : tie.Need-slice-aggregate-look Inv-loop μ-loop
+slice-aggregate-look c =
+    let t = c .before .before in
+    let l = loop-of t in
+    sym (length-take-le (start-of l .args .b) (t .before .before .before .before .next .last .0) (omega (arith, l .loop .inv .1 .progress .size, took t .leaves .frame .size)))
+
+look-requires : tie.Need-look-requires Inv-loop μ-loop
+look-requires c κs =
+    let t = c .before .before in
+    can-look (start-of (loop-of t) .pre) (loop-of t .loop .inv .1) (took t)
+
+same-length-2 : tie.Need-same-length-2 Inv-loop μ-loop
+same-length-2 c = search needs
+
+returns-2 : tie.Need-returns-2 Inv-loop μ-loop
+returns-2 c =
+    let k = c .before .before .before .before in
+    let l = loop-of (taken-of k) in
+    let e = exploring k in
+    let t = took-after k in
+    record {
+      size = t .leaves .frame .size ∙ flags-set k .size ∙ l .loop .inv .0 ∙ l .before .before .before .start .ensures .frame .size;
+      area = took-area (start-of l .pre .accepted) (e .progress) t;
+      blank = λ j h m. t .leaves .frame .words j (omega arith) ∙ e .blank j h m;
+      complete = λ a. absurd (true≢false a);
+      beyond =
+          λ a.
+          omega (
+            arith,
+            beyond (start-of l .pre) e t (few-expanded (start-of l .pre) e t (k .look .ensures .count) (c .before .if1 .taken)),
+            eqb-true (l .loop .count) (start-of l .args .limit) (c .if2 .taken),
+          );
+    }
+
+settle-requires : tie.Need-settle-requires Inv-loop μ-loop
+settle-requires c κs =
+    let k = c .before .before .before .before in
+    let l = loop-of (taken-of k) in
+    let e = exploring k .progress in
+    let t = took-after k in
+    let ok = start-of l .pre .accepted in
+    let a = took-area ok e t in
+    (omega (arith, a .fits, took-place ok e t), omega (arith, a .fits, t .inside), omega (arith, took-small ok e t))
+
+add-settled : tie.Need-add-settled Inv-loop μ-loop
+add-settled c =
+    let k = look-of (c .before .before) in
+    let ok = start-of (loop-of (taken-of k)) .pre .accepted in
+    record { fits = omega (arith, took-place ok (exploring k .progress) (took-after k), ok .few) }
+
+loop-less : tie.Need-loop-less Inv-loop μ-loop
+loop-less c =
+    let k = look-of (c .before .before .before) in
+    let l = loop-of (taken-of k) in
+    rw (c .before .before .before .settle .ensures)
+    (omega (arith, room-stopped (start-of l .pre .accepted) (exploring k .progress) (took-after k), room-beside (flags-set k) (G l) (l .loop .len)))
+
+loop-again : tie.Need-loop-again Inv-loop μ-loop
+loop-again c =
+    let s = c .before .before .before in
+    let k = look-of s in
+    let l = loop-of (taken-of k) in
+    let e = exploring k in
+    let t = took-after k in
+    let x =
+    exploring-stopped (start-of l .pre) e t (told k) (many-beaten (start-of l .pre) e t (k .look .ensures .count) (c .if3 .taken))
+    in (
+      rw (s .settle .ensures) (simp length-set (t .leaves .frame .size ∙ flags-set k .size ∙ l .loop .inv .0)),
+      rw (s .settle .ensures) x,
+    )
+
+add-count : tie.Need-add-count Inv-loop μ-loop
+add-count c =
+    let s = c .before .before .before in
+    record { fits = omega (arith, below s (c .if3 .left), start-of (loop-of (taken-of (look-of s))) .fits .limit) }
+
+open-requires : tie.Need-open-requires Inv-loop μ-loop
+open-requires c κs =
+    let s = c .before .before .before .before in
+    let k = look-of s in
+    rw (s .settle .ensures) (took-follow (start-of (loop-of (taken-of k)) .pre .accepted) (exploring k .progress) (took-after k))
+
+loop-less-2 : tie.Need-loop-less-2 Inv-loop μ-loop
+loop-less-2 c =
+    let o = c .before .before in
+    let k = look-of (settle-of o) in
+    let l = loop-of (taken-of k) in
+    let p = start-of l .pre in
+    omega (
+      arith,
+      room-falls (p .accepted) (exploring k .progress) (took-after k) (met-leads (p .accepted) _ _ _ (p .some)) (followed o),
+      room-beside (flags-set k) (G l) (l .loop .len),
+    )
+
+loop-again-2 : tie.Need-loop-again-2 Inv-loop μ-loop
+loop-again-2 c =
+    let o = c .before .before in
+    let s = settle-of o in
+    let k = look-of s in
+    let l = loop-of (taken-of k) in
+    let p = start-of l .pre in
+    let e = exploring k in
+    let t = took-after k in
+    let few = o .before .before .if3 .left in (
+      frame-settled (p .accepted) (e .progress) t (met-leads (p .accepted) _ _ _ (p .some)) (followed o) .size ∙ flags-set k .size ∙ l .loop .inv .0,
+      exploring-opened p e t (told k) (few-expanded p e t (k .look .ensures .count) few) (below s few) (followed o),
+    )
+
+pub explore-spec : {M : Type 1} → statement M
+explore-spec =
+    tie.close
+    (tie.spec
+    Inv-loop
+    μ-loop
+    sub-n
+    start-requires
+    loop-holds
+    next-requires
+    enum-known-taken
+    enum-told
+    same-length
+    returns
+    slice-relend-prefix-look
+    slice-aggregate-look
+    look-requires
+    same-length-2
+    returns-2
+    settle-requires
+    add-settled
+    loop-less
+    loop-again
+    add-count
+    open-requires
+    loop-less-2
+    loop-again-2)

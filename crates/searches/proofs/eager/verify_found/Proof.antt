@@ -1,0 +1,84 @@
+-- `searches::eager::verify_found` meets its contract. The loop's invariant: the found points before the i-th are verified, and the words behind the
+-- flags are as they were. The measure is what is left of them.
+-- Assumes nothing.
+use mathlib.Core.Path.{_≡_}
+use Prim.Native.Nat.{_-_, _≤_}
+use native.Mathlib.Omega.{arith}
+use Rattle.network.specs.Network.{network}
+use Rattle.searches.specs.Flags.{VerifiedAll}
+use Rattle.searches.proofs.FlagLaws.{can-verify, all-more}
+use borrow.Author.Needs.{needs}
+use Rattle.searches.proofs.eager.verify_found.Statement.{statement}
+use Rattle.searches.proofs.eager.verify_found.Tie as tie
+
+abbrev Inv-loop : tie.InvT-loop
+Inv-loop starts neighbours weights points f₀ found q k ids i₀ f i = (i ≤ found) × VerifiedAll (network starts neighbours weights) points q k f₀ f i
+
+abbrev μ-loop : tie.MeasureT-loop
+μ-loop starts neighbours weights points f₀ found q k ids i₀ f i = found - i
+
+abbrev start-of : tie.At-loop Inv-loop μ-loop → tie.Start Inv-loop μ-loop
+start-of l = l .before .before .before .before .before .before
+
+sub-ids : tie.Need-sub-ids Inv-loop μ-loop
+sub-ids c = search needs
+
+mul-ids : tie.Need-mul-ids Inv-loop μ-loop
+mul-ids c = search needs
+
+loop-holds : tie.Need-loop-holds Inv-loop μ-loop
+loop-holds c = search needs
+
+add-p : tie.Need-add-p Inv-loop μ-loop
+add-p c = search needs
+
+mul-p : tie.Need-mul-p Inv-loop μ-loop
+mul-p c = search needs
+
+slice-read-p : tie.Need-slice-read-p Inv-loop μ-loop
+slice-read-p c = search needs
+
+verify-once-requires : tie.Need-verify-once-requires Inv-loop μ-loop
+verify-once-requires c κs =
+    let l = c .before .before .before in
+    can-verify (start-of l .pre) (l .loop .inv .1) (c .before .before .loop-test .taken)
+
+add-i : tie.Need-add-i Inv-loop μ-loop
+add-i c = search needs
+
+loop-less : tie.Need-loop-less Inv-loop μ-loop
+loop-less c = search needs
+
+loop-again : tie.Need-loop-again Inv-loop μ-loop
+loop-again c =
+    let i = c .before .before .before .before .before in
+    let l = i .before in
+    (omega arith, all-more (start-of l .pre) (l .loop .inv .1) (i .loop-test .taken) (c .before .before .verify-once .ensures))
+
+same-length : tie.Need-same-length Inv-loop μ-loop
+same-length c = search needs
+
+returns : tie.Need-returns Inv-loop μ-loop
+returns c =
+    let l = c .before in
+    let e : l .loop .i ≡ start-of l .args .found = omega (arith, l .loop .inv .0, c .loop-test .left) in
+    rw e at (l .loop .inv .1)
+
+pub verify-found-spec : {M : Type 1} → statement M
+verify-found-spec =
+    tie.close
+    (tie.spec
+    Inv-loop
+    μ-loop
+    sub-ids
+    mul-ids
+    loop-holds
+    add-p
+    mul-p
+    slice-read-p
+    verify-once-requires
+    add-i
+    loop-less
+    loop-again
+    same-length
+    returns)

@@ -1,0 +1,116 @@
+-- `searches::eager::verify_once` meets its contract: the point was verified before, or only its own flags change, as `verify` says.
+-- Assumes nothing.
+use native.Mathlib.Omega.{arith}
+use lib.ListN.{set, length-set}
+use Rattle.network.specs.Network.{network}
+use Rattle.expansion.specs.Visited.{VerifyLeft}
+use Rattle.searches.specs.Flags.{innerBase}
+use Rattle.searches.proofs.FlagLaws.{verified-seen, can-visit, left-size, verified-yes, verified-no}
+use borrow.Author.Needs.{needs}
+use Rattle.searches.proofs.eager.verify_once.Statement.{statement}
+use Rattle.searches.proofs.eager.verify_once.Tie as tie
+
+abbrev start-of : tie.After-wide → tie.Start
+start-of w = w .before .before .before .before .before .before
+
+abbrev wide-of : tie.After-verify → tie.After-wide
+wide-of v = v .before .before .before .before
+
+verified : (v : tie.After-verify)
+    → let a = start-of (wide-of v) .args in
+    let g = network (a .starts .now) (a .neighbours .now) (a .weights .now) in
+    VerifyLeft g (a .points .now) (a .p) (a .q) (a .k) (set (a .f .now) (a .p) 1) (v .verify .last .1 .1 .1 .1 .0) (innerBase g (a .k)) (v .verify .result)
+verified v = rw (wide-of v .wide .ensures) at (v .verify .ensures)
+
+sub-n : tie.Need-sub-n
+sub-n c = search needs
+
+wide-requires : tie.Need-wide-requires
+wide-requires c κs = search needs
+
+mul-seen : tie.Need-mul-seen
+mul-seen c = search needs
+
+slice-read-seen : tie.Need-slice-read-seen
+slice-read-seen c = search needs
+
+returns : tie.Need-returns
+returns c =
+    let w = c .before .before in
+    verified-seen (start-of w .pre) (rw (w .wide .ensures) at (c .if1 .taken))
+
+mul-f : tie.Need-mul-f
+mul-f c = search needs
+
+slice-write-f : tie.Need-slice-write-f
+slice-write-f c = search needs
+
+mul-b : tie.Need-mul-b
+mul-b c = search needs
+
+mul-b-2 : tie.Need-mul-b-2
+mul-b-2 c = search needs
+
+add-b : tie.Need-add-b
+add-b c = search needs
+
+verify-requires : tie.Need-verify-requires
+verify-requires c κs =
+    let w = c .before .before .before in
+    rw (w .wide .ensures) (can-visit (start-of w .pre))
+
+add-f : tie.Need-add-f
+add-f c = search needs
+
+mul-f-2 : tie.Need-mul-f-2
+mul-f-2 c = search needs
+
+slice-write-f-2 : tie.Need-slice-write-f-2
+slice-write-f-2 c =
+    let v = c .before .before .before in
+    let w = wide-of v in
+    omega (arith, left-size (start-of w .pre) (verified v), start-of w .pre .front .size, start-of w .pre .inside, w .wide .ensures)
+
+same-length : tie.Need-same-length
+same-length c =
+    let v = c .before .before .before in
+    simp length-set (left-size (start-of (wide-of v) .pre) (verified v))
+
+returns-2 : tie.Need-returns-2
+returns-2 c =
+    let v = c .before .before .before in
+    let w = wide-of v in
+    rw (w .wide .ensures) (verified-yes (start-of w .pre) (verified v) (c .if2 .taken))
+
+same-length-2 : tie.Need-same-length-2
+same-length-2 c =
+    let v = c .before .before .before in
+    left-size (start-of (wide-of v) .pre) (verified v)
+
+returns-3 : tie.Need-returns-3
+returns-3 c =
+    let v = c .before .before .before in
+    verified-no (start-of (wide-of v) .pre) (verified v) (c .if2 .left)
+
+pub verify-once-spec : {M : Type 1} → statement M
+verify-once-spec =
+    tie.close
+    (tie.spec
+    sub-n
+    wide-requires
+    mul-seen
+    slice-read-seen
+    returns
+    mul-f
+    slice-write-f
+    mul-b
+    mul-b-2
+    add-b
+    verify-requires
+    add-f
+    mul-f-2
+    slice-write-f-2
+    same-length
+    returns-2
+    same-length-2
+    returns-3)

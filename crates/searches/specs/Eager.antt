@@ -1,0 +1,87 @@
+-- What eager requires and leaves. Document 01, 'What a site receives', and number 12. The lent words are: verified flags n | found flags n | found
+-- ids k | found distances k | the area of the inner expansions | the area of the outer expansion.
+-- Assumes nothing.
+use Prim.Native.Nat.{ℕ, _+_, _*_, _≤_, _<_}
+use mathlib.Core.Path.{_≡_}
+use mathlib.Core.Logic.{_≢_}
+use mathlib.Core.Bool.{Bool, true, false, not}
+use mathlib.Core.List.{List}
+use lib.Dec.{eqb}
+use lib.ListN.{length, getD}
+use Rattle.network.specs.Network.{Network, nodeCount, arcCount}
+use Rattle.network.specs.Accepted.{Accepted}
+use Rattle.network.specs.Points.{isListed, listed, expanded}
+use Rattle.network.specs.Answers.{answered}
+use Rattle.expansion.specs.Area.{queueBase, Area, Blank, Wiped}
+use Rattle.searches.specs.declared.eager.Answer.{Answer}
+use Rattle.searches.specs.declared.eager.Answer.the-variants.{Refused, Listed}
+use Rattle.searches.specs.declared.eager.End.{End}
+use Rattle.searches.specs.Flags.{idsBase, innerBase, Flags}
+
+-- where the outer area starts
+abbrev pub outerBase : Network → ℕ → ℕ
+outerBase g k = queueBase (nodeCount g) (innerBase g k) + 2 * (arcCount g + 1)
+
+-- an accepted network with a byte for each node, a site that is a node, at least one nearest, words that are all 0 with room for the areas, and
+-- room for the answers
+pub record CanSearch (g : Network) (P xs old : List ℕ) (q k : ℕ) : Type 0 where
+  pub accepted : Accepted g
+  pub points : length P ≡ nodeCount g
+  pub site : q < nodeCount g
+  pub some : 1 ≤ k
+  pub blank : Blank xs 0
+  pub size : queueBase (nodeCount g) (outerBase g k) + 2 * (arcCount g + 1) ≤ length xs
+  pub answers : nodeCount g ≤ length old
+
+-- the same, with the flags: the site has its found flag where it is listed
+pub record CanExplore (g : Network) (P xs : List ℕ) (b q k : ℕ) : Type 0 where
+  pub accepted : Accepted g
+  pub points : length P ≡ nodeCount g
+  pub site : q < nodeCount g
+  pub some : 1 ≤ k
+  pub base : b ≡ outerBase g k
+  pub flags : Flags g P q k xs
+  pub own : isListed g P q k q ≡ true → getD xs (nodeCount g + q) 0 ≢ 0
+  pub blank : Blank xs (idsBase g)
+  pub size : queueBase (nodeCount g) (outerBase g k) + 2 * (arcCount g + 1) ≤ length xs
+
+-- the found flag of p, as a test
+abbrev pub isFound : ℕ → List ℕ → ℕ → Bool
+isFound n xs p = not (eqb (getD xs (n + p) 0) 0)
+
+-- the expansion ends: all is expanded, and the found flags are those of the listed points; or the count would exceed the limit
+pub record Complete (g : Network) (P : List ℕ) (q k limit : ℕ) (ys : List ℕ) (r : End) : Type 0 where
+  pub count : r .count ≡ expanded g P q k
+  pub within : expanded g P q k ≤ limit
+  pub found : (p : ℕ) → p < nodeCount g → isFound (nodeCount g) ys p ≡ isListed g P q k p
+
+pub record ExploreLeft (g : Network) (P : List ℕ) (q k limit : ℕ) (xs ys : List ℕ) (b : ℕ) (r : End) : Type 0 where
+  pub size : length ys ≡ length xs
+  pub area : Area (nodeCount g) ys b (r .settled) (r .len)
+  pub blank : (j : ℕ) → idsBase g ≤ j → j < b → getD ys j 0 ≡ 0
+  pub complete : r .refused ≡ false → Complete g P q k limit ys r
+  pub beyond : r .refused ≡ true → limit < expanded g P q k
+
+-- the words but the flags and the outer area are 0
+pub record CanWipe (n : ℕ) (xs : List ℕ) (b settled len : ℕ) : Type 0 where
+  pub area : Area n xs b settled len
+  pub low : 2 * n ≤ b
+  pub blank : (j : ℕ) → 2 * n ≤ j → j < b → getD xs j 0 ≡ 0
+
+-- Eager 'returns the list and the count of nodes expanded'; or 12: 'eager: the expanded count would exceed the limit', and the answers are as they
+-- were. All words are 0 again.
+pub record ListedLeft (g : Network) (P : List ℕ) (q k limit : ℕ) (xs ys old new : List ℕ) (size count : ℕ) : Type 0 where
+  pub within : expanded g P q k ≤ limit
+  pub counted : count ≡ expanded g P q k
+  pub sized : size ≡ length (listed g P q k)
+  pub answers : new ≡ answered (listed g P q k) old
+  pub area : Wiped xs ys 0
+
+pub record RefusedLeft (g : Network) (P : List ℕ) (q k limit : ℕ) (xs ys old new : List ℕ) : Type 0 where
+  pub beyond : limit < expanded g P q k
+  pub answers : new ≡ old
+  pub area : Wiped xs ys 0
+
+abbrev pub EagerLeft : Network → List ℕ → ℕ → ℕ → ℕ → List ℕ → List ℕ → List ℕ → List ℕ → Answer → Type 0
+EagerLeft g P q k limit xs ys old new Refused = RefusedLeft g P q k limit xs ys old new
+EagerLeft g P q k limit xs ys old new (Listed size count) = ListedLeft g P q k limit xs ys old new size count

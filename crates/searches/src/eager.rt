@@ -1,0 +1,257 @@
+// Eager: source 000, Fig. 4. An expansion from the site that stops behind a node with k points strictly nearer to it than the site, and verifies
+// each point that it finds once. Document 01, 'What a site receives'.
+ghost use mathlib.Core.Path.{_≡_};
+ghost use Prim.Native.Nat.{_+_, _≤_, _<_};
+ghost use lib.ListN.{length};
+ghost use Rattle.network.specs.Network.{network};
+ghost use Rattle.network.specs.Count.{bit, select};
+ghost use Rattle.network.specs.Points.{marked};
+ghost use Rattle.network.specs.Answers.{answered};
+ghost use Rattle.expansion.specs.Area.{Wiped};
+ghost use Rattle.searches.specs.Flags.{CanVerify, Verified, CanVerifyAll, VerifiedAll, CanLook, Looked};
+ghost use Rattle.searches.specs.Eager.{CanSearch, CanExplore, ExploreLeft, CanWipe, isFound, EagerLeft};
+use expansion::nearest;
+use expansion::step;
+use expansion::step::Taken;
+use expansion::verify;
+use expansion::words;
+use network::arcs::wide;
+
+// What a call leaves: refused, as the count would exceed the limit; or how many answers there are, and the count.
+pub enum Answer {
+    Refused,
+    Listed { size: usize, count: u32 },
+}
+
+// Where the expansion ends: whether the count would exceed the limit, the settled nodes, the entries that wait, and the nodes counted.
+struct End {
+    refused: bool,
+    settled: usize,
+    len: usize,
+    count: u32,
+}
+
+// The site's own flag: 1 where it is a point.
+fn own_flag(points: &[u8], q: u32) -> u32
+    requires { ⌜ q < length (now points) ⌝ }
+    ensures { λ r. ⌜ r ≡ bit (marked (now (points .entry)) q) ⌝ }
+{
+    let at = wide(q);
+    let mark = points[at];
+    if mark == 1 {
+        return 1;
+    }
+    0
+}
+
+// Verifies a point, where it was not verified before, and flags it where it is listed.
+fn verify_once(
+    starts: &[u32],
+    neighbours: &[u32],
+    weights: &[u32],
+    points: &[u8],
+    f: &mut [u32],
+    p: u32,
+    q: u32,
+    k: usize,
+)
+    requires { ⌜ CanVerify (network (now starts) (now neighbours) (now weights)) (now points) q k (now f) p ⌝ }
+    ensures { λ _. ⌜ Verified (network (now (starts .entry)) (now (neighbours .entry)) (now (weights .entry))) (now (points .entry)) q k (now (f .entry)) (now (f .exit)) p ⌝ }
+{
+    let n = starts.len() - 1;
+    let at = wide(p);
+    let seen = f[at];
+    if seen != 0 {
+        return;
+    }
+    f[at] = 1;
+    let b = 2 * n + 2 * k;
+    let yes = verify::verify(starts, neighbours, weights, points, f, b, p, q, k);
+    if yes {
+        f[n + at] = 1;
+    }
+}
+
+// Verifies the found points.
+fn verify_found(
+    starts: &[u32],
+    neighbours: &[u32],
+    weights: &[u32],
+    points: &[u8],
+    f: &mut [u32],
+    found: usize,
+    q: u32,
+    k: usize,
+)
+    requires { ⌜ CanVerifyAll (network (now starts) (now neighbours) (now weights)) (now points) q k (now f) found ⌝ }
+    ensures { λ _. ⌜ VerifiedAll (network (now (starts .entry)) (now (neighbours .entry)) (now (weights .entry))) (now (points .entry)) q k (now (f .entry)) (now (f .exit)) found ⌝ }
+{
+    let ids = 2 * (starts.len() - 1);
+    let mut i = 0;
+    while i < found {
+        let p = f[ids + i];
+        verify_once(starts, neighbours, weights, points, f, p, q, k);
+        i += 1;
+    }
+}
+
+// Finds the points nearer to a node than its label, cut after the first k, and verifies them. Returns how many.
+fn look(
+    starts: &[u32],
+    neighbours: &[u32],
+    weights: &[u32],
+    points: &[u8],
+    f: &mut [u32],
+    node: u32,
+    label: u32,
+    q: u32,
+    k: usize,
+) -> usize
+    requires { ⌜ CanLook (network (now starts) (now neighbours) (now weights)) (now points) q k (now f) node ⌝ }
+    ensures { λ r. ⌜ Looked (network (now (starts .entry)) (now (neighbours .entry)) (now (weights .entry))) (now (points .entry)) q k (now (f .entry)) (now (f .exit)) node label r ⌝ }
+{
+    let a = 2 * (starts.len() - 1);
+    let e = a + 2 * k;
+    let found = nearest::nearest(
+        starts,
+        neighbours,
+        weights,
+        points,
+        &mut f[a..],
+        node,
+        label,
+        k,
+    );
+    verify_found(starts, neighbours, weights, points, f, found, q, k);
+    words::zero(&mut f[a..e]);
+    found
+}
+
+// Settles nodes by rising distance from the site, and looks at each. Where fewer than k points are found, it counts the node against the limit and
+// follows its arcs.
+fn explore(
+    starts: &[u32],
+    neighbours: &[u32],
+    weights: &[u32],
+    points: &[u8],
+    s: &mut [u32],
+    b: usize,
+    q: u32,
+    k: usize,
+    limit: u32,
+) -> End
+    requires { ⌜ CanExplore (network (now starts) (now neighbours) (now weights)) (now points) (now s) b q k ⌝ }
+    ensures { λ r. ⌜ ExploreLeft (network (now (starts .entry)) (now (neighbours .entry)) (now (weights .entry))) (now (points .entry)) q k limit (now (s .entry)) (now (s .exit)) b r ⌝ }
+{
+    let n = starts.len() - 1;
+    step::start(s, b, n, q);
+    let mut settled = 0;
+    let mut len = 1;
+    let mut count = 0;
+    loop {
+        let taken = step::next(s, b, n, len);
+        let Taken::Node {
+            label,
+            node,
+            parent: _,
+            left,
+        } = taken
+        else {
+            return End {
+                refused: false,
+                settled,
+                len: 0,
+                count,
+            };
+        };
+        let found = look(
+            starts,
+            neighbours,
+            weights,
+            points,
+            &mut s[..b],
+            node,
+            label,
+            q,
+            k,
+        );
+        if found < k && count == limit {
+            return End {
+                refused: true,
+                settled,
+                len: left,
+                count,
+            };
+        }
+        step::settle(s, b, n, settled, node, label);
+        settled += 1;
+        len = left;
+        if k <= found {
+            continue;
+        }
+        count += 1;
+        len = step::open(starts, neighbours, weights, s, b, left, node, label);
+    }
+}
+
+// Writes the nodes whose found flag is set, ascending. Returns how many.
+fn write_found(f: &[u32], answers: &mut [u32], n: usize) -> usize
+    requires { ⌜ (n + n ≤ length (now f)) × (n ≤ length (now answers)) × (n ≤ 65535) ⌝ }
+    ensures { λ r. ⌜ (now (answers .exit) ≡ answered (select (isFound n (now (f .entry))) n) (now (answers .entry))) × (r ≡ length (select (isFound n (now (f .entry))) n)) ⌝ }
+{
+    let mut len = 0;
+    let mut p: u32 = 0;
+    let mut at = 0;
+    while at < n {
+        let flag = f[n + at];
+        if flag != 0 {
+            answers[len] = p;
+            len += 1;
+        }
+        p += 1;
+        at += 1;
+    }
+    len
+}
+
+// Clears the flags and the outer area.
+fn wipe(s: &mut [u32], n: usize, b: usize, settled: usize, len: usize)
+    requires { ⌜ CanWipe n (now s) b settled len ⌝ }
+    ensures { λ _. ⌜ Wiped (now (s .entry)) (now (s .exit)) 0 ⌝ }
+{
+    step::clear(s, b, n, settled, len);
+    let e = 2 * n;
+    words::zero(&mut s[..e]);
+}
+
+// The points that list a site, and how many nodes were expanded; refused where that is more than the limit. All words are 0 before and after.
+pub fn eager(
+    starts: &[u32],
+    neighbours: &[u32],
+    weights: &[u32],
+    points: &[u8],
+    s: &mut [u32],
+    answers: &mut [u32],
+    q: u32,
+    k: usize,
+    limit: u32,
+) -> Answer
+    requires { ⌜ CanSearch (network (now starts) (now neighbours) (now weights)) (now points) (now s) (now answers) q k ⌝ }
+    ensures { λ r. ⌜ EagerLeft (network (now (starts .entry)) (now (neighbours .entry)) (now (weights .entry))) (now (points .entry)) q k limit (now (s .entry)) (now (s .exit)) (now (answers .entry)) (now (answers .exit)) r ⌝ }
+{
+    let n = starts.len() - 1;
+    let b = 4 * n + 2 * k + 2 * (neighbours.len() + 1);
+    let own = n + wide(q);
+    s[own] = own_flag(points, q);
+    let end = explore(starts, neighbours, weights, points, s, b, q, k, limit);
+    let settled = end.settled;
+    let len = end.len;
+    let count = end.count;
+    if end.refused {
+        wipe(s, n, b, settled, len);
+        return Answer::Refused;
+    }
+    let size = write_found(s, answers, n);
+    wipe(s, n, b, settled, len);
+    Answer::Listed { size, count }
+}

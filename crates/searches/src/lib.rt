@@ -1,0 +1,2 @@
+// The searches for the points that list a site: eager.
+pub mod eager;

@@ -1,0 +1,132 @@
+//! Eager and the short query: the points that list a site.
+
+use crate::{ffi, Listing, Network};
+
+/// Document 01: "Eager (000, Fig. 4): expands outward from q, stops behind a node with k points
+/// strictly nearer than q. It takes a 32-bit limit and returns the list and the count of nodes
+/// expanded."
+///
+/// The answer is number 0, the length of the list and the count, or the first condition met of 1 to
+/// 7, 9, 10 and 12. Scratch has at least [`scratch_len`](crate::scratch_len)`(network, k)` entries
+/// of any contents, and `answers` at least n.
+///
+/// "Lists are ascending by node." "An accepted call with scratch leaves it all zero. Answer arrays
+/// hold the answer, then their old entries." "A refusal returns its number, count 0 and no, and
+/// changes no buffer; 12 alone leaves the scratch all zero."
+///
+/// ```
+/// use overlap::{eager, scratch_len, Network};
+///
+/// # fn main() -> Result<(), overlap::Refusal> {
+/// // Network N of document 01.
+/// let network = Network {
+///     starts: &[0, 2, 4, 6, 8, 10, 10],
+///     neighbours: &[1, 3, 0, 2, 1, 4, 0, 4, 2, 3],
+///     weights: &[4, 5, 4, 3, 3, 7, 5, 3, 7, 3],
+/// };
+/// let points = [0, 0, 1, 0, 1, 1];
+/// let mut scratch = vec![0; scratch_len(network, 2)];
+/// let mut answers = [0; 6];
+///
+/// let listing = eager(network, &points, 0, 2, 4, &mut scratch, &mut answers).accepted()?;
+/// assert_eq!(answers[..listing.length], [2, 4]);
+/// assert_eq!(listing.count, 4);
+///
+/// // Four nodes are expanded, which is above 3.
+/// let listing = eager(network, &points, 0, 2, 3, &mut scratch, &mut answers);
+/// assert_eq!((listing.number, listing.count), (12, 0));
+/// # Ok(())
+/// # }
+/// ```
+pub fn eager(
+    network: Network<'_>,
+    points: &[u8],
+    q: u32,
+    k: u32,
+    limit: u32,
+    scratch: &mut [u32],
+    answers: &mut [u32],
+) -> Listing {
+    let Network {
+        starts,
+        neighbours,
+        weights,
+    } = network;
+    // SAFETY: each pointer and length are those of one slice, lent for the whole call; the two that
+    // the call writes are lent to it alone. It touches no word outside the slices. An empty slice
+    // has a pointer that is not null.
+    unsafe {
+        ffi::overlap_eager(
+            starts.as_ptr(),
+            starts.len(),
+            neighbours.as_ptr(),
+            neighbours.len(),
+            weights.as_ptr(),
+            weights.len(),
+            points.as_ptr(),
+            points.len(),
+            q,
+            k,
+            limit,
+            scratch.as_mut_ptr(),
+            scratch.len(),
+            answers.as_mut_ptr(),
+            answers.len(),
+        )
+    }
+}
+
+/// Document 01: "The short query: no k and no limit; eager with k = 1 and limit 65,535."
+///
+/// The answer and all that the call leaves are those of [`eager`]; no condition 9 or 12 can be met.
+///
+/// ```
+/// use overlap::{scratch_len, short_query, Network};
+///
+/// # fn main() -> Result<(), overlap::Refusal> {
+/// // Network N of document 01.
+/// let network = Network {
+///     starts: &[0, 2, 4, 6, 8, 10, 10],
+///     neighbours: &[1, 3, 0, 2, 1, 4, 0, 4, 2, 3],
+///     weights: &[4, 5, 4, 3, 3, 7, 5, 3, 7, 3],
+/// };
+/// let mut scratch = vec![0; scratch_len(network, 1)];
+/// let mut answers = [0; 6];
+/// let points = [0, 0, 1, 0, 1, 1];
+/// let listing = short_query(network, &points, 2, &mut scratch, &mut answers).accepted()?;
+/// assert_eq!(answers[..listing.length], [2, 4]);
+/// assert_eq!(listing.count, 3);
+/// # Ok(())
+/// # }
+/// ```
+pub fn short_query(
+    network: Network<'_>,
+    points: &[u8],
+    q: u32,
+    scratch: &mut [u32],
+    answers: &mut [u32],
+) -> Listing {
+    let Network {
+        starts,
+        neighbours,
+        weights,
+    } = network;
+    // SAFETY: as for `eager`.
+    unsafe {
+        ffi::overlap_short_query(
+            starts.as_ptr(),
+            starts.len(),
+            neighbours.as_ptr(),
+            neighbours.len(),
+            weights.as_ptr(),
+            weights.len(),
+            points.as_ptr(),
+            points.len(),
+            q,
+            scratch.as_mut_ptr(),
+            scratch.len(),
+            answers.as_mut_ptr(),
+            answers.len(),
+        )
+    }
+}

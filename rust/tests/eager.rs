@@ -1,0 +1,508 @@
+//! Eager and the short query, compared with document 01.
+
+mod common;
+
+use common::all_pairs::AllPairs;
+use common::call::{assert_lower_numbers_first, assert_outcome, assert_random_calls};
+use common::call::{assert_refused, compare, Call, Outcome, LEAST_OF_EACH};
+use common::faults::Fault;
+use common::inputs::{enough, no_k, no_node, some_k, some_node};
+use common::inputs::{some_points, spoil_points, too_short};
+use common::lent::Lent;
+use common::network::{marks, network_n, OwnedNetwork, N_NODES, N_POINTS};
+use common::numbers::{eager_number, plain_scratch_len};
+use common::random::Random;
+use common::rows::{relaxed_row, verify_in};
+use common::shapes::try_all_small_points;
+use common::shapes::{chain, grid, star, weight_by_product, weighted};
+use common::tally::Tally;
+use overlap::{eager, short_query, Listing};
+
+/// "The short query: no k and no limit; eager with k = 1 and limit 65,535."
+const SHORT_K: u32 = 1;
+const SHORT_LIMIT: u32 = 65_535;
+
+/// Everything that a call is lent.
+#[derive(Clone)]
+struct Eager {
+    network: OwnedNetwork,
+    points: Vec<u8>,
+    q: u32,
+    k: u32,
+    limit: u32,
+    scratch: Lent,
+    answers: Lent,
+}
+
+/// The numbers that a call asks for: its q, k and limit.
+type Asked = (u32, u32, u32);
+
+impl Eager {
+    /// A call with arrays that are just long enough and full of junk. The network is an accepted
+    /// one and k at most 16.
+    fn exact(network: &OwnedNetwork, points: &[u8], asked: Asked, random: &mut Random) -> Self {
+        let (q, k, limit) = asked;
+        Self {
+            network: network.clone(),
+            points: points.to_vec(),
+            q,
+            k,
+            limit,
+            scratch: Lent::junk(plain_scratch_len(network.lend(), k), random),
+            answers: Lent::junk(network.starts.len() - 1, random),
+        }
+    }
+
+    /// Makes scratch and answers longer at times.
+    fn lengthen(mut self, random: &mut Random) -> Self {
+        for array in [&mut self.scratch, &mut self.answers] {
+            *array = Lent::junk(enough(array.len(), random), random);
+        }
+        self
+    }
+
+    /// "It [...] returns the list and the count of nodes expanded." "An accepted call with scratch
+    /// leaves it all zero. Answer arrays hold the answer, then their old entries."
+    fn accepted(&self, list: &[u32], count: u32) -> Outcome<Self> {
+        let mut left = self.clone();
+        left.scratch = left.scratch.cleared();
+        left.answers = left.answers.with_answer(list);
+        let listing = Listing {
+            number: 0,
+            count,
+            length: list.len(),
+        };
+        (listing, left)
+    }
+
+    fn expanded(&self, pairs: &AllPairs) -> u32 {
+        pairs.plain_expanded(&self.points, self.q, self.k)
+    }
+}
+
+impl Call for Eager {
+    type Answer = Listing;
+
+    const OWN_FAULTS: &'static [(u32, Fault<Self>)] = &[
+        (6, |c, r| spoil_points(&mut c.points, r)),
+        (7, |c, r| c.q = no_node(&c.network, r)),
+        (9, |c, r| c.k = no_k(r)),
+        (10, shorten_answers),
+        (12, lower_limit),
+    ];
+
+    fn random(network: &OwnedNetwork, pairs: &AllPairs, random: &mut Random) -> Self {
+        let (points, q) = (some_points(network, random), some_node(network, random));
+        let mut call = Self::exact(network, &points, (q, some_k(random), 0), random);
+        let expanded = call.expanded(pairs);
+        call.limit = random.pick(&[expanded, expanded, expanded + 1, 65_535, u32::MAX]);
+        call.lengthen(random)
+    }
+
+    fn run(&mut self) -> Listing {
+        let (q, k, limit) = (self.q, self.k, self.limit);
+        let (scratch, answers) = (self.scratch.part_mut(), self.answers.part_mut());
+        eager(
+            self.network.lend(),
+            &self.points,
+            q,
+            k,
+            limit,
+            scratch,
+            answers,
+        )
+    }
+
+    fn number(&self) -> u32 {
+        let (network, points) = (self.network.lend(), &self.points);
+        let (scratch, answers) = (self.scratch.len(), self.answers.len());
+        match eager_number(network, points, self.q, self.k, scratch, answers) {
+            0 if self.expanded(&AllPairs::of(network)) > self.limit => 12,
+            number => number,
+        }
+    }
+
+    fn refusal(number: u32) -> Listing {
+        Listing {
+            number,
+            count: 0,
+            length: 0,
+        }
+    }
+
+    fn accepted_by(&self, pairs: &AllPairs) -> Outcome<Self> {
+        let list = pairs.plain_listed(&self.points, self.q, self.k);
+        self.accepted(&list, self.expanded(pairs))
+    }
+
+    fn network(&self) -> &OwnedNetwork {
+        &self.network
+    }
+
+    fn network_mut(&mut self) -> &mut OwnedNetwork {
+        &mut self.network
+    }
+
+    fn points(&self) -> &[u8] {
+        &self.points
+    }
+
+    fn m(&self) -> u32 {
+        self.k
+    }
+
+    fn scratch_mut(&mut self) -> &mut Lent {
+        &mut self.scratch
+    }
+
+    fn arrays(&self) -> Vec<(&'static str, &Lent)> {
+        vec![("scratch", &self.scratch), ("answers", &self.answers)]
+    }
+
+    fn asked(&self) -> String {
+        let (q, k, limit) = (self.q, self.k, self.limit);
+        format!("q {q}, k {k}, limit {limit}")
+    }
+
+    fn tally(&self, tally: &mut Tally, pairs: &AllPairs) {
+        let (points, q, k) = (&self.points, self.q, self.k);
+        let list = pairs.plain_listed(points, q, k);
+        let expanded = self.expanded(pairs);
+        let reached = pairs.row(q).iter().flatten().count() as u32;
+        let marked = points.iter().filter(|&&byte| byte == 1).count();
+        tally.add_k(k);
+        tally.add_if(self.limit == expanded, "a limit of just the count");
+        tally.add_if(expanded < reached, "a node that is not expanded");
+        tally.add_if(list.is_empty(), "an empty list");
+        tally.add_if(list.len() > 1, "two points or more");
+        tally.add_if(list.len() < marked, "a point that is not listed");
+        tally.add_if(list.contains(&q), "a point on q");
+        tally.add_if(self.answers.len() > points.len(), "longer answers");
+    }
+
+    /// "A refusal [...] changes no buffer; 12 alone leaves the scratch all zero."
+    fn refused(&self, number: u32) -> Outcome<Self> {
+        let mut left = self.clone();
+        if number == 12 {
+            left.scratch = left.scratch.cleared();
+        }
+        (Self::refusal(number), left)
+    }
+}
+
+/// An answer array with fewer than n places.
+fn shorten_answers(call: &mut Eager, random: &mut Random) {
+    let n = call.network.starts.len().saturating_sub(1);
+    call.answers = Lent::junk(too_short(n, random), random);
+}
+
+/// Lowers the limit below the count, often just below. A call with another fault gets limit 0.
+fn lower_limit(call: &mut Eager, random: &mut Random) {
+    let number = call.number();
+    let expanded = match number {
+        0 | 12 => call.expanded(&AllPairs::of(call.network.lend())),
+        _ => 1,
+    };
+    call.limit = random.pick(&[expanded - 1, expanded - 1, expanded / 2, 0]);
+}
+
+/// A call of the short query: that of eager with its k and limit.
+#[derive(Clone)]
+struct Short(Eager);
+
+impl Call for Short {
+    type Answer = Listing;
+
+    const OWN_FAULTS: &'static [(u32, Fault<Self>)] = &[
+        (6, |c, r| spoil_points(&mut c.0.points, r)),
+        (7, |c, r| c.0.q = no_node(&c.0.network, r)),
+        (10, |c, r| shorten_answers(&mut c.0, r)),
+    ];
+
+    fn random(network: &OwnedNetwork, _: &AllPairs, random: &mut Random) -> Self {
+        let (points, q) = (some_points(network, random), some_node(network, random));
+        let asked = (q, SHORT_K, SHORT_LIMIT);
+        Self(Eager::exact(network, &points, asked, random).lengthen(random))
+    }
+
+    fn run(&mut self) -> Listing {
+        let call = &mut self.0;
+        let (scratch, answers) = (call.scratch.part_mut(), call.answers.part_mut());
+        short_query(call.network.lend(), &call.points, call.q, scratch, answers)
+    }
+
+    fn number(&self) -> u32 {
+        self.0.number()
+    }
+
+    fn refusal(number: u32) -> Listing {
+        Eager::refusal(number)
+    }
+
+    fn accepted_by(&self, pairs: &AllPairs) -> Outcome<Self> {
+        let (listing, left) = self.0.accepted_by(pairs);
+        (listing, Self(left))
+    }
+
+    fn network(&self) -> &OwnedNetwork {
+        &self.0.network
+    }
+
+    fn network_mut(&mut self) -> &mut OwnedNetwork {
+        &mut self.0.network
+    }
+
+    fn points(&self) -> &[u8] {
+        &self.0.points
+    }
+
+    fn m(&self) -> u32 {
+        SHORT_K
+    }
+
+    fn scratch_mut(&mut self) -> &mut Lent {
+        &mut self.0.scratch
+    }
+
+    fn arrays(&self) -> Vec<(&'static str, &Lent)> {
+        self.0.arrays()
+    }
+
+    fn asked(&self) -> String {
+        format!("q {}", self.0.q)
+    }
+
+    fn tally(&self, tally: &mut Tally, pairs: &AllPairs) {
+        self.0.tally(tally, pairs);
+    }
+}
+
+/// Network N of document 01, by hand.
+mod network_n {
+    use super::*;
+
+    fn call(q: u32, k: u32, limit: u32) -> Eager {
+        let points = marks(N_NODES, &N_POINTS);
+        let seed = u64::from(q) + u64::from(k);
+        Eager::exact(&network_n(), &points, (q, k, limit), &mut Random::new(seed))
+    }
+
+    fn assert_list(call: Eager, list: &[u32], count: u32) {
+        let outcome = call.accepted(list, count);
+        assert_outcome(call, &outcome);
+    }
+
+    #[test]
+    fn the_lists_and_counts_of_p1_to_p5() {
+        for limit in [4, 65_535, u32::MAX] {
+            assert_list(call(0, 1, limit), &[2], 1);
+            assert_list(call(0, 2, limit), &[2, 4], 4);
+            assert_list(call(1, 1, limit), &[2], 2);
+            assert_list(call(2, 1, limit), &[2, 4], 3);
+            assert_list(call(5, 1, limit), &[5], 1);
+        }
+    }
+
+    #[test]
+    fn without_points_all_nodes_reached_are_expanded() {
+        let mut call = call(0, 1, 5);
+        call.points = vec![0; 6];
+        assert_list(call, &[], 5);
+    }
+
+    /// P7: with the road 2-4 of 6, point 4 is nearer to 2 than site 0 is.
+    #[test]
+    fn nothing_is_listed_in_p7() {
+        let roads = [(0, 1, 4), (0, 3, 5), (1, 2, 3), (2, 4, 6), (3, 4, 3)];
+        let mut call = call(0, 1, 65_535);
+        call.network = OwnedNetwork::from_roads(N_NODES, &roads);
+        let outcome = call.accepted(&[], call.expanded(&AllPairs::of(call.network.lend())));
+        assert_outcome(call, &outcome);
+    }
+
+    /// "Limit 4 answers P2, limit 3 refuses." Limit 0 always refuses, as q itself is expanded.
+    #[test]
+    fn the_limit_of_p2() {
+        assert_list(call(0, 2, 4), &[2, 4], 4);
+        for limit in 0..=3 {
+            assert_refused(call(0, 2, limit), 12);
+        }
+        for q in 0..N_NODES {
+            assert_refused(call(q, 1, 0), 12);
+        }
+    }
+
+    #[test]
+    fn each_condition_of_its_own() {
+        let assert_number = |number, change: fn(&mut Eager)| {
+            let mut call = call(0, 2, 4);
+            change(&mut call);
+            assert_refused(call, number);
+        };
+        assert_number(6, |c| c.points[3] = 2);
+        assert_number(6, |c| c.points.truncate(5));
+        assert_number(6, |c| c.points.push(0));
+        assert_number(7, |c| c.q = 6);
+        assert_number(7, |c| c.q = u32::MAX);
+        assert_number(9, |c| c.k = 0);
+        assert_number(9, |c| c.k = 17);
+        assert_number(9, |c| c.k = u32::MAX);
+        assert_number(10, |c| c.answers = Lent::junk(5, &mut Random::new(0)));
+        assert_number(12, |c| c.limit = 3);
+    }
+
+    /// S is 16 × 6 + 8 × (10 + 6) × k.
+    #[test]
+    fn scratch_grows_with_k() {
+        for (k, length) in [(1, 224), (2, 352), (16, 2_144)] {
+            for (length, number) in [(length - 1, 10), (length, 0), (length + 1, 0)] {
+                let mut call = call(0, k, 65_535);
+                call.scratch = Lent::junk(length, &mut Random::new(0));
+                assert_eq!(compare(call), number);
+            }
+        }
+    }
+
+    #[test]
+    fn the_short_query_is_eager_with_k_1() {
+        for (q, list, count) in [
+            (0, &[2][..], 1),
+            (1, &[2], 2),
+            (2, &[2, 4], 3),
+            (5, &[5], 1),
+        ] {
+            let short = call(q, SHORT_K, SHORT_LIMIT);
+            let (listing, left) = short.accepted(list, count);
+            assert_outcome(Short(short), &(listing, Short(left)));
+        }
+    }
+}
+
+/// "Conditions are tried from 1 upward [...]; the first met is returned".
+mod order {
+    use super::*;
+
+    #[test]
+    fn two_conditions_give_the_lower_number() {
+        assert_lower_numbers_first::<Eager>();
+    }
+
+    #[test]
+    fn two_conditions_give_the_lower_number_of_the_short_query() {
+        assert_lower_numbers_first::<Short>();
+    }
+}
+
+/// Random networks, valid and damaged, against the plain calculation.
+mod random {
+    use super::*;
+
+    const NAMES: [&str; 6] = [
+        "a node that is not expanded",
+        "an empty list",
+        "two points or more",
+        "a point that is not listed",
+        "a point on q",
+        "longer answers",
+    ];
+
+    #[test]
+    fn engine_and_plain_calculation_agree() {
+        let numbers = [0, 1, 2, 3, 4, 5, 6, 7, 9, 10, 12];
+        let names = [&NAMES[..], &["a limit of just the count"]].concat();
+        assert_random_calls::<Eager>(&numbers, &names).assert_each_k(LEAST_OF_EACH);
+    }
+
+    #[test]
+    fn short_query_and_plain_calculation_agree() {
+        assert_random_calls::<Short>(&[0, 1, 2, 3, 4, 5, 6, 7, 10], &NAMES);
+    }
+}
+
+/// All networks of up to four nodes with roads of weight 1 or 2, and all sets of points.
+mod exhaustive {
+    use super::*;
+
+    /// Tries every q, k from 1 to 3 and limits from 0 to all nodes.
+    fn try_points(network: &OwnedNetwork, points: &[u8], random: &mut Random) {
+        let n = points.len() as u32;
+        for q in 0..n {
+            for k in 1..=3 {
+                for limit in 0..=n {
+                    compare(Eager::exact(network, points, (q, k, limit), random));
+                }
+            }
+        }
+    }
+
+    #[test]
+    fn up_to_four_nodes() {
+        let mut random = Random::new(5);
+        try_all_small_points(|network, points| try_points(network, points, &mut random));
+    }
+}
+
+/// Networks at document 01's bounds.
+mod limits {
+    use super::*;
+
+    const MOST_NODES: u32 = 65_535;
+    const LAST: u32 = MOST_NODES - 1;
+
+    fn assert_list(
+        network: &OwnedNetwork,
+        points: &[u8],
+        asked: Asked,
+        (list, count): (&[u32], u32),
+    ) {
+        let call = Eager::exact(network, points, asked, &mut Random::new(6));
+        let outcome = call.accepted(list, count);
+        assert_outcome(call, &outcome);
+    }
+
+    /// Points at each thousandth node. The expanded nodes reach halfway to the points beside q.
+    #[test]
+    fn the_middle_of_the_longest_chain() {
+        let network = weighted(MOST_NODES, &chain(MOST_NODES), |_, _| 65_535);
+        let points: Vec<u8> = (0..MOST_NODES).map(|p| u8::from(p % 1_000 == 0)).collect();
+        let q = MOST_NODES / 2;
+        assert_list(&network, &points, (q, 1, 500), (&[32_000, 33_000], 500));
+        let call = Eager::exact(&network, &points, (q, 1, 499), &mut Random::new(7));
+        assert_refused(call, 12);
+    }
+
+    /// Each leaf has the centre nearer than q, which is another leaf.
+    #[test]
+    fn a_star_of_the_most_nodes() {
+        let centre = 7;
+        let network = weighted(MOST_NODES, &star(MOST_NODES, centre), |_, _| 65_535);
+        let points = marks(MOST_NODES, &[0, centre, LAST]);
+        assert_list(&network, &points, (LAST, 1, 1), (&[centre, LAST], 1));
+        let call = Eager::exact(&network, &points, (LAST, 1, 0), &mut Random::new(7));
+        assert_refused(call, 12);
+    }
+
+    #[test]
+    fn one_node_without_a_road() {
+        let network = OwnedNetwork::from_roads(1, &[]);
+        for k in [1, 16] {
+            assert_list(&network, &[1], (0, k, 1), (&[0], 1));
+            assert_list(&network, &[0], (0, k, 1), (&[], 1));
+        }
+    }
+
+    #[test]
+    fn a_grid_of_255_by_257_nodes() {
+        let network = weighted(MOST_NODES, &grid(255, 257), weight_by_product);
+        let points: Vec<u8> = (0..MOST_NODES).map(|p| u8::from(p % 100 == 0)).collect();
+        let q = MOST_NODES / 2;
+        let is_listed = |p: &u32| verify_in(&relaxed_row(network.lend(), *p), &points, *p, q, 1);
+        let near = (q - 2_600..q + 2_600).filter(|p| p % 100 == 0);
+        let list: Vec<u32> = near.filter(is_listed).collect();
+        let mut call = Eager::exact(&network, &points, (q, 1, 65_535), &mut Random::new(8));
+        let listing = call.run();
+        assert_eq!(listing.number, 0);
+        assert!(list.len() > 1);
+        assert_eq!(call.answers.part()[..listing.length], list);
+    }
+}
