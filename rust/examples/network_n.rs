@@ -1,5 +1,5 @@
 //! Shows network N of document 01 to the engine: its check, whole and then damaged in five ways, and
-//! its distances, nearest points and verdicts.
+//! its distances, nearest points, verdicts and lists.
 //!
 //! Run it with `cargo run --release --example network_n`. It ends with an error if an answer is not
 //! the one that document 01 gives.
@@ -8,7 +8,9 @@
 mod common;
 
 use common::network::{network_n, OwnedNetwork, N_NODES, N_POINTS, N_ROADS};
-use overlap::{distances, meaning, nearest, network_check, scratch_len, verify, Found, NONE};
+use overlap::{
+    distances, eager, meaning, nearest, network_check, scratch_len, verify, Found, NONE,
+};
 use std::process::ExitCode;
 
 const PICTURE: &str = "
@@ -161,6 +163,30 @@ fn print_verdicts(network: &OwnedNetwork) -> bool {
     right
 }
 
+/// Prints the points that list a site and the nodes expanded, and returns whether P1 to P5 come out.
+fn print_lists(network: &OwnedNetwork) -> bool {
+    let lent = network.lend();
+    let points = point_bytes();
+    let mut right = true;
+    println!("site   k   listed by   nodes expanded");
+    for (q, k, list, count) in [
+        (0, 1, &[2][..], 1),
+        (0, 2, &[2, 4], 4),
+        (1, 1, &[2], 2),
+        (2, 1, &[2, 4], 3),
+        (5, 1, &[5], 1),
+    ] {
+        let mut scratch = vec![0; scratch_len(lent, k as usize)];
+        let mut answers = vec![0; N_NODES as usize];
+        let listing = eager(lent, &points, q, k, 65_535, &mut scratch, &mut answers);
+        let found = &answers[..listing.length];
+        let texts: Vec<String> = found.iter().map(u32::to_string).collect();
+        println!("{q:<6} {k:<3} {:<11} {}", texts.join(", "), listing.count);
+        right &= listing.number == 0 && found == list && listing.count == count;
+    }
+    right
+}
+
 fn print_variants() -> bool {
     println!("{:<34} {:^6}  meaning", "what is changed", "number");
     let right = VARIANTS.iter().filter(|variant| print_answer(variant));
@@ -175,8 +201,10 @@ fn main() -> ExitCode {
     println!();
     let verdicts_right = print_verdicts(&network);
     println!();
+    let lists_right = print_lists(&network);
+    println!();
     let variants_right = print_variants();
-    if nodes_right && verdicts_right && variants_right {
+    if nodes_right && verdicts_right && lists_right && variants_right {
         ExitCode::SUCCESS
     } else {
         ExitCode::FAILURE

@@ -4,8 +4,11 @@
 // Each benchmark uses a part of this.
 #![allow(dead_code, unused_imports)]
 
+mod area;
 mod distances;
+mod eager;
 mod network_check;
 
 pub use distances::distances;
+pub use eager::eager;
 pub use network_check::network_check;
