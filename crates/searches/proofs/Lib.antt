@@ -1,6 +1,6 @@
 -- The laws of the searches, from the bottom up. Of pruning: beaten nodes; who is listed; where the listed points are found; what a search has found
 -- at its end; a node behind which an expansion stops. Of lists: lent parts; the loop that writes what passes a test. Of eager: its flags; looking
--- at a node; the expansion under way; where it begins and ends; clearing.
+-- at a node; the expansion under way; where it begins and ends; clearing. Of lazy, with or without extended pruning: the search under way.
 pub mod Beaten
 pub mod Listed
 pub mod Finds
@@ -14,3 +14,4 @@ pub mod LookLaws
 pub mod Exploring
 pub mod EagerLaws
 pub mod Wiping
+pub mod LazySearch

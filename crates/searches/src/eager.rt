@@ -1,15 +1,15 @@
 // Eager: source 000, Fig. 4. An expansion from the site that stops behind a node with k points strictly nearer to it than the site, and verifies
 // each point that it finds once. Document 01, 'What a site receives'.
 ghost use mathlib.Core.Path.{_≡_};
-ghost use Prim.Native.Nat.{_+_, _≤_, _<_};
+ghost use Prim.Native.Nat.{_<_};
 ghost use lib.ListN.{length};
 ghost use Rattle.network.specs.Network.{network};
-ghost use Rattle.network.specs.Count.{bit, select};
+ghost use Rattle.network.specs.Count.{bit};
 ghost use Rattle.network.specs.Points.{marked};
-ghost use Rattle.network.specs.Answers.{answered};
 ghost use Rattle.expansion.specs.Area.{Wiped};
 ghost use Rattle.searches.specs.Flags.{CanVerify, Verified, CanVerifyAll, VerifiedAll, CanLook, Looked};
-ghost use Rattle.searches.specs.Eager.{CanSearch, CanExplore, ExploreLeft, CanWipe, isFound, EagerLeft};
+ghost use Rattle.searches.specs.Eager.{CanSearch, CanExplore, ExploreLeft, CanWipe, EagerLeft};
+use crate::flags;
 use expansion::nearest;
 use expansion::step;
 use expansion::step::Taken;
@@ -194,26 +194,6 @@ fn explore(
     }
 }
 
-// Writes the nodes whose found flag is set, ascending. Returns how many.
-fn write_found(f: &[u32], answers: &mut [u32], n: usize) -> usize
-    requires { ⌜ (n + n ≤ length (now f)) × (n ≤ length (now answers)) × (n ≤ 65535) ⌝ }
-    ensures { λ r. ⌜ (now (answers .exit) ≡ answered (select (isFound n (now (f .entry))) n) (now (answers .entry))) × (r ≡ length (select (isFound n (now (f .entry))) n)) ⌝ }
-{
-    let mut len = 0;
-    let mut p: u32 = 0;
-    let mut at = 0;
-    while at < n {
-        let flag = f[n + at];
-        if flag != 0 {
-            answers[len] = p;
-            len += 1;
-        }
-        p += 1;
-        at += 1;
-    }
-    len
-}
-
 // Clears the flags and the outer area.
 fn wipe(s: &mut [u32], n: usize, b: usize, settled: usize, len: usize)
     requires { ⌜ CanWipe n (now s) b settled len ⌝ }
@@ -251,7 +231,7 @@ pub fn eager(
         wipe(s, n, b, settled, len);
         return Answer::Refused;
     }
-    let size = write_found(s, answers, n);
+    let size = flags::write_found(s, answers, n, n);
     wipe(s, n, b, settled, len);
     Answer::Listed { size, count }
 }

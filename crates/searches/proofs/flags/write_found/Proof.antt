@@ -1,4 +1,4 @@
--- `searches::eager::write_found` meets its contract. The loop's invariant: the nodes before the present one that have a found flag are written.
+-- `searches::flags::write_found` meets its contract. The loop's invariant: the nodes before the present one that have a found flag are written.
 -- The measure is what is left of the nodes.
 -- Assumes nothing.
 use Prim.Native.Nat.{_+_, _-_, _≤_}
@@ -11,19 +11,19 @@ use native.Mathlib.Omega.{arith}
 use Rattle.searches.specs.Eager.{isFound}
 use Rattle.searches.proofs.Selected.{Written, written-none, written-more, written-skip, written-all}
 use borrow.Author.Needs.{needs}
-use Rattle.searches.proofs.eager.write_found.Statement.{statement}
-use Rattle.searches.proofs.eager.write_found.Tie as tie
+use Rattle.searches.proofs.flags.write_found.Statement.{statement}
+use Rattle.searches.proofs.flags.write_found.Tie as tie
 
 abbrev Inv-loop : tie.InvT-loop
-Inv-loop f answers₀ n len₀ p₀ at₀ answers len p at =
-    (at ≤ n) × (p ≡ at) × Written (isFound n f) at answers₀ answers len
+Inv-loop s answers₀ b n len₀ p₀ at₀ answers len p at =
+    (at ≤ n) × (p ≡ at) × Written (isFound b s) at answers₀ answers len
 
 abbrev μ-loop : tie.MeasureT-loop
-μ-loop f answers₀ n len₀ p₀ at₀ answers len p at = n - at
+μ-loop s answers₀ b n len₀ p₀ at₀ answers len p at = n - at
 
 loop-holds : tie.Need-loop-holds Inv-loop μ-loop
 loop-holds c =
-    (omega arith, refl, written-none (isFound (c .args .n) (c .args .f .now)) (c .args .answers .now))
+    (omega arith, refl, written-none (isFound (c .args .b) (c .args .s .now)) (c .args .answers .now))
 
 add-flag : tie.Need-add-flag Inv-loop μ-loop
 add-flag c = search needs
@@ -61,13 +61,13 @@ loop-again c =
     let i = c .before .before in
     let l = i .before in
     let w = l .loop .inv .2 in
-    let f = l .before .args .f .now in
-    let n = l .before .args .n in (
+    let s = l .before .args .s .now in
+    let b = l .before .args .b in (
       omega arith,
       omega arith,
       ⊎-elim
-          (λ a. rw (a .1, a .2, l .loop .inv .1) (written-more w (omega arith) (ap not (ne-eqb (getD f (n + l .loop .at) 0) 0 (a .0 .taken)))))
-          (λ a. rw (a .1, a .2) (written-skip w (ap not (eq-eqb (getD f (n + l .loop .at) 0) 0 (a .0 .left)))))
+          (λ a. rw (a .1, a .2, l .loop .inv .1) (written-more w (omega arith) (ap not (ne-eqb (getD s (b + l .loop .at) 0) 0 (a .0 .taken)))))
+          (λ a. rw (a .1, a .2) (written-skip w (ap not (eq-eqb (getD s (b + l .loop .at) 0) 0 (a .0 .left)))))
           (c .if1 .came),
     )
 
