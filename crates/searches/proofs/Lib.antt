@@ -15,3 +15,7 @@ pub mod Exploring
 pub mod EagerLaws
 pub mod Wiping
 pub mod LazySearch
+pub mod Places
+pub mod CountLaws
+pub mod Discovery
+pub mod Lazily
