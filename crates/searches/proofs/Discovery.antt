@@ -18,7 +18,7 @@ use Rattle.expansion.specs.Area.{Stands, Area, Wiped}
 use Rattle.expansion.specs.Visited.{CanVisit, Visited}
 use Rattle.expansion.proofs.AreaSearch.{word-label}
 use Rattle.expansion.proofs.Beside.{Beside, area-beside}
-use Rattle.searches.specs.Lazy.{visitBase, isLess, CanCount, CountedAll, CanDiscover, Nearer, Discovered}
+use Rattle.searches.specs.Lazy.{visitBase, isLess, CanCount, CountedAll, CanDiscover, CountedBy, Discovered}
 use Rattle.searches.proofs.Listed.{listed-parts}
 use Rattle.searches.proofs.Lends.{first-size, first-part, first-after}
 use Rattle.searches.proofs.FlagLaws.{listed-verified, verified-listed}
@@ -149,7 +149,7 @@ module _ {g : Network} {P : List ℕ} {q k : ℕ} {xs : List ℕ} {b v : ℕ} (c
         behind : (i : ℕ) → b ≤ i → getD (vs ++ drop b us) i 0 ≡ getD xs i 0
         behind i h = first-after b us vs fits-us (e .frame .size) i h ∙ t .words i (omega (arith, c .base)) ∙ outer i h
 
-        counts : marked P v ≡ true → (u : ℕ) → u < nodeCount g → (getD (vs ++ drop b us) u 0 ≡ getD xs u 0) ⊎ Nearer g P xs (vs ++ drop b us) b l v u
+        counts : marked P v ≡ true → (u : ℕ) → u < nodeCount g → (getD (vs ++ drop b us) u 0 ≡ getD xs u 0) ⊎ CountedBy g P xs (vs ++ drop b us) b l v u
         counts mark u h =
             ⊎-elim
             (λ a. inl (low-word u (omega arith) ∙ a ∙ front u (omega arith)))

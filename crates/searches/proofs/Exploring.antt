@@ -35,6 +35,7 @@ use Rattle.searches.proofs.Beaten.{Beaten, Unbeaten, stops, goes-on, ex
 use Rattle.searches.proofs.Finds.{Met, met-leads}
 use Rattle.searches.proofs.Answers.{eager-finished, expanded-settled, come-expanded}
 use Rattle.searches.proofs.Lends.{first-size, first-part, first-after}
+use Rattle.searches.proofs.FlagLaws.{flag-right}
 use Rattle.searches.proofs.LookLaws.{flags-same}
 use Rattle.searches.proofs.Stopping.{kept-same, progress-stopped, took-beside}
 
@@ -298,12 +299,4 @@ module _ {g : Network} {P : List ℕ} {q k b : ℕ} {s₀ : List ℕ} (c : CanEx
     pub found-all : (p : ℕ) → p < nodeCount g → isFound (nodeCount g) ys p ≡ isListed g P q k p
     found-all p h =
         ap (λ (w : ℕ). not (eqb w 0)) (t .leaves .frame .words (nodeCount g + p) (omega (arith, low)))
-        ∙ by (isListed g P q k p) refl
-      where
-        by : (d : Bool) → isListed g P q k p ≡ d → isFound (nodeCount g) xs p ≡ isListed g P q k p
-        by true a = ap not (ne-eqb (getD xs (nodeCount g + p) 0) 0 (listed-flag p h a)) ∙ sym a
-        by false a =
-            elim (ℕ-discrete (getD xs (nodeCount g + p) 0) 0) [
-              | yes z ↦ ap not (eq-eqb (getD xs (nodeCount g + p) 0) 0 z) ∙ sym a
-              | no n ↦ absurd (false≢true (sym a ∙ e .flags .sound p h n))
-            ]
+        ∙ flag-right (getD xs (nodeCount g + p) 0) (isListed g P q k p) (listed-flag p h) (e .flags .sound p h)

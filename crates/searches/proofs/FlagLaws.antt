@@ -1,20 +1,34 @@
 -- Flags: a point is verified once, and the found points are, one after another.
 -- Assumes nothing.
 use Prim.Native.Nat.{ℕ, _+_, _<_}
-use mathlib.Core.Path.{_≡_, refl, sym, _∙_}
-use mathlib.Core.Bool.{Bool, true, false, false≢true}
+use mathlib.Core.Path.{_≡_, refl, sym, ap, _∙_}
+use mathlib.Core.Bool.{Bool, true, false, not, false≢true}
 use mathlib.Core.Logic.{_≢_}
 use mathlib.Core.List.{List}
 use native.Mathlib.Decide.{ℕ-discrete, decLt}
 use native.Mathlib.Omega.{arith}
+use lib.Dec.{eqb}
 use lib.ListN.{length, getD, set, length-set}
 use lib.Seq.{getD-set-same, getD-set-other}
+use borrow.Author.Tests.{eq-eqb, ne-eqb}
 use Rattle.network.specs.Network.{Network, nodeCount}
 use Rattle.network.specs.Points.{marked, verified, isListed}
 use Rattle.network.proofs.Tests.{and-parts, and-intro}
 use Rattle.expansion.specs.Area.{Blank}
 use Rattle.expansion.specs.Visited.{CanVisit, VerifyLeft}
 use Rattle.searches.specs.Flags.{idsBase, innerBase, Grows, CanVerify, CanVerifyAll, Verified, VerifiedAll}
+
+-- a flag that is set exactly where a test passes
+pub flag-right : (word : ℕ) (test : Bool) → (test ≡ true → word ≢ 0) → (word ≢ 0 → test ≡ true) → not (eqb word 0) ≡ test
+flag-right word test told sound = by test refl
+  where
+    by : (x : Bool) → test ≡ x → not (eqb word 0) ≡ test
+    by true a = ap not (ne-eqb word 0 (told a)) ∙ sym a
+    by false a =
+        elim (ℕ-discrete word 0) [
+          | yes z ↦ ap not (eq-eqb word 0 z) ∙ sym a
+          | no n ↦ absurd (false≢true (sym a ∙ sound n))
+        ]
 
 module _ (g : Network) (P : List ℕ) (q k p : ℕ) where
   pub listed-verified : isListed g P q k p ≡ true → verified g P p q k ≡ true

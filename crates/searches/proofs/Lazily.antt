@@ -18,15 +18,15 @@ use Rattle.network.proofs.Counts.{count-mono, without, without-other, count-wit
 use Rattle.network.proofs.Distances.{dist-symmetric}
 use Rattle.network.proofs.Rank.{nearer-passes, passes-nearer}
 use Rattle.expansion.specs.Area.{queueBase, Kept, Started, Took, Emptied, Followed, Wiped}
-use Rattle.expansion.proofs.AreaLaws.{room, settledAs, frame-settle, label-same}
+use Rattle.expansion.proofs.AreaLaws.{room, settledAs, label-same}
 use Rattle.expansion.proofs.AreaSearch.{word-label, label-back, took-held}
 use Rattle.expansion.proofs.Progress.{took-place}
 use Rattle.expansion.proofs.Settled.{zero-blank}
 use Rattle.searches.specs.Eager.{isFound}
-use Rattle.searches.specs.Lazy.{visitBase, CanDiscover, Nearer, Discovered, CanExplore}
+use Rattle.searches.specs.Lazy.{visitBase, CanDiscover, CountedBy, Discovered, CanExplore}
 use Rattle.searches.proofs.Beaten.{Unbeaten, Part, beaten-part}
 use Rattle.searches.proofs.Stopping.{kept-same}
-use Rattle.searches.proofs.LazySearch.{Discovering, Arrived, discovering-start, took-unverified, label-least, discovering-dropped, Joins, joined, joins-grow, shrinks, tells-joined, arrive, discovering-stopped, discovering-opened, discovered-listed}
+use Rattle.searches.proofs.LazySearch.{Discovering, Arrived, discovering-start, took-unverified, label-least, discovering-dropped, Joins, joined, joins-grow, shrinks, tells-joined, arrive, front, discovering-stopped, discovering-opened, discovered-listed}
 
 -- one more mark is nearer
 pub nearer-more : (g : Network) (M M′ : List ℕ) (v u d : ℕ) → Part M M′ → marked M v ≡ false → marked M′ v ≡ true → v < nodeCount g → dist g u v < d → suc (countNearer g M u d) ≤ countNearer g M′ u d
@@ -88,11 +88,11 @@ module _ {g : Network} {P : List ℕ} {q b : ℕ} {s₀ : List ℕ} (c : CanExpl
   -- ---- An entry is taken.
   module _ {k : ℕ} {xs : List ℕ} {settled len : ℕ} (e : Lazily g P q k xs b settled len) {ys : List ℕ} {left l v u : ℕ}
       (t : Took (nodeCount g) xs ys b len left l v u) where
-    front : (i : ℕ) → i < b → getD ys i 0 ≡ getD xs i 0
-    front i h = t .leaves .frame .words i (omega arith)
+    front-taken : (i : ℕ) → i < b → getD ys i 0 ≡ getD xs i 0
+    front-taken i h = t .leaves .frame .words i (omega arith)
 
     counts-taken : Counts g (e .verified) q k ys
-    counts-taken = record { most = λ x h o. rw (front x (omega (arith, low))) (e .counts .most x h o) }
+    counts-taken = record { most = λ x h o. rw (front-taken x (omega (arith, low))) (e .counts .most x h o) }
 
     pub parent-inside : u < nodeCount g
     parent-inside = took-held ok (e .searched .progress .area) (e .searched .progress .searched) t .parent
@@ -111,9 +111,9 @@ module _ {g : Network} {P : List ℕ} {q b : ℕ} {s₀ : List ℕ} (c : CanExpl
               (λ f. inl (closed counts-taken v (t .inside) f))
               (λ f. inr (closed counts-taken u parent-inside f))
               full);
-          blank = λ j h m. front j m ∙ e .blank j h m;
+          blank = λ j h m. front-taken j m ∙ e .blank j h m;
           counts = counts-taken;
-          few = λ x h. rw (front x (omega (arith, low))) (e .few x h);
+          few = λ x h. rw (front-taken x (omega (arith, low))) (e .few x h);
         }
 
     -- its node is verified, where it is a point
@@ -126,14 +126,14 @@ module _ {g : Network} {P : List ℕ} {q b : ℕ} {s₀ : List ℕ} (c : CanExpl
           base = c .base;
           fits = omega (arith, e .searched .progress .size, t .leaves .frame .size);
           inside = t .inside;
-          small = λ x h. rw (front x (omega (arith, low))) (omega (arith, e .few x h, took-place ok (e .searched .progress) t, ok .few));
-          blank = λ j h m. front j m ∙ e .blank j h m;
-          sound = λ n. e .searched .tells .sound v (t .inside) (rw (front (nodeCount g + v) (omega (arith, low, t .inside))) at n);
+          small = λ x h. rw (front-taken x (omega (arith, low))) (omega (arith, e .few x h, took-place ok (e .searched .progress) t, ok .few));
+          blank = λ j h m. front-taken j m ∙ e .blank j h m;
+          sound = λ n. e .searched .tells .sound v (t .inside) (rw (front-taken (nodeCount g + v) (omega (arith, low, t .inside))) at n);
         }
 
     module _ {zs : List ℕ} (d : Discovered g P q k ys zs b v l) where
       -- a node that is counted: the point is nearer to it than the site
-      nearer : (x : ℕ) → x < nodeCount g → Unbeaten g (e .verified) q k x → Nearer g P ys zs b l v x → dist g x v < dist g x q
+      nearer : (x : ℕ) → x < nodeCount g → Unbeaten g (e .verified) q k x → CountedBy g P ys zs b l v x → dist g x v < dist g x q
       nearer x h o r =
           elim (ℕ-discrete (getD ys (b + x) 0) 0) [
             | yes z ↦
@@ -162,7 +162,7 @@ module _ {g : Network} {P : List ℕ} {q b : ℕ} {s₀ : List ℕ} (c : CanExpl
             arrived =
                 arrive ok low (e .searched) t (j .1) (record { size = d .size; words = d .words })
                 (tells-joined ok low (e .searched) t (j .1)
-                (λ p h n. d .others p h n ∙ front (nodeCount g + p) (omega (arith, low)))
+                (λ p h n. d .others p h n ∙ front-taken (nodeCount g + p) (omega (arith, low)))
                 (d .sound) (d .told));
             blank = d .blank;
             counts = record { most = counts };
@@ -173,7 +173,7 @@ module _ {g : Network} {P : List ℕ} {q b : ℕ} {s₀ : List ℕ} (c : CanExpl
           j = joined ok low (e .searched) t
 
           was : (x : ℕ) → x < nodeCount g → getD ys x 0 ≤ settled
-          was x h = rw (front x (omega (arith, low))) (e .few x h)
+          was x h = rw (front-taken x (omega (arith, low))) (e .few x h)
 
           counts : (x : ℕ) → x < nodeCount g → Unbeaten g (j .0) q k x → getD zs x 0 ≤ countNearer g (j .0) x (dist g x q)
           counts x h o =
@@ -199,7 +199,7 @@ module _ {g : Network} {P : List ℕ} {q b : ℕ} {s₀ : List ℕ} (c : CanExpl
   module _ {k most : ℕ} {ys : List ℕ} {settled left l v : ℕ} (a : Arriving g P q k most ys b settled left l v) where
     module _ {ws : List ℕ} (same : Kept (settledAs (nodeCount g) ys b settled v l) ws (queueBase (nodeCount g) b)) where
       kept-front : (i : ℕ) → i < b → getD ws i 0 ≡ getD ys i 0
-      kept-front i h = same .words i (omega arith) ∙ frame-settle (nodeCount g) ys b settled v l .words i h
+      kept-front = front ok low (a .arrived) same
 
       counts-kept : Counts g (a .verified) q k ws
       counts-kept = record { most = λ x h o. rw (kept-front x (omega (arith, low))) (a .counts .most x h o) }

@@ -12,7 +12,7 @@ use native.Mathlib.Omega.{arith}
 use lib.Dec.{eqb}
 use lib.ListN.{length, getD, set, take, drop, replicate, length-set, length-replicate}
 use lib.Seq.{getD-set-same, getD-set-other, getD-take, length-take-le}
-use borrow.Author.Tests.{eq-eqb, ne-eqb, eqb-true}
+use borrow.Author.Tests.{eq-eqb, eqb-true}
 use Rattle.network.specs.Network.{Network, nodeCount, arcCount, neighboursOf}
 use Rattle.network.specs.Accepted.{Accepted}
 use Rattle.network.specs.Distance.{NONE, dist}
@@ -30,6 +30,7 @@ use Rattle.expansion.proofs.Beside.{Beside, label-beside, progress-beside, room
 use Rattle.searches.specs.Eager.{isFound}
 use Rattle.searches.proofs.Beaten.{Unbeaten, Part, unbeaten-part, unbeaten-closed}
 use Rattle.searches.proofs.Listed.{listed-parts, lazy-open}
+use Rattle.searches.proofs.FlagLaws.{flag-right}
 use Rattle.searches.proofs.Lends.{first-size, first-part, first-after}
 use Rattle.searches.proofs.Stopping.{kept-same, room-stopped, progress-stopped, took-beside}
 use Rattle.searches.proofs.Selected.{select-same}
@@ -342,15 +343,9 @@ module _ {g : Network} (ok : Accepted g) {P : List ℕ} {q k b f : ℕ} (low : f
             in absurd (false≢true (sym e ∙ d .met p h (s .mark) (omega (arith, w .is))))
 
     pub discovered-all : (p : ℕ) → p < nodeCount g → isFound f ys p ≡ isListed g P q k p
-    discovered-all p h = ap (λ (w : ℕ). not (eqb w 0)) (t .leaves .frame .words (f + p) (omega (arith, low))) ∙ by (isListed g P q k p) refl
-      where
-        by : (x : Bool) → isListed g P q k p ≡ x → isFound f xs p ≡ isListed g P q k p
-        by true a = ap not (ne-eqb (getD xs (f + p) 0) 0 (d .tells .told p h (listed-verified p h a) a)) ∙ sym a
-        by false a =
-            elim (ℕ-discrete (getD xs (f + p) 0) 0) [
-              | yes z ↦ ap not (eq-eqb (getD xs (f + p) 0) 0 z) ∙ sym a
-              | no n ↦ absurd (false≢true (sym a ∙ d .tells .sound p h n))
-            ]
+    discovered-all p h =
+        ap (λ (w : ℕ). not (eqb w 0)) (t .leaves .frame .words (f + p) (omega (arith, low)))
+        ∙ flag-right (getD xs (f + p) 0) (isListed g P q k p) (λ a. d .tells .told p h (listed-verified p h a) a) (d .tells .sound p h)
 
     pub discovered-listed : select (isFound f ys) (nodeCount g) ≡ listed g P q k
     unfolding listed

@@ -75,7 +75,7 @@ pub record CanDiscover (g : Network) (P : List ℕ) (q k : ℕ) (xs : List ℕ) 
   pub sound : getD xs (nodeCount g + v) 0 ≢ 0 → isListed g P q k v ≡ true
 
 -- the count of u rises by the point v: it is nearer to u than u's label, or than l where the search has not settled u
-pub record Nearer (g : Network) (P xs ys : List ℕ) (b l v u : ℕ) : Type 0 where
+pub record CountedBy (g : Network) (P xs ys : List ℕ) (b l v u : ℕ) : Type 0 where
   pub mark : marked P v ≡ true
   pub one : getD ys u 0 ≡ suc (getD xs u 0)
   pub ahead : getD xs (b + u) 0 ≡ 0 → dist g v u < l
@@ -88,7 +88,7 @@ pub record Discovered (g : Network) (P : List ℕ) (q k : ℕ) (xs ys : List ℕ
   pub others : (p : ℕ) → p < nodeCount g → p ≢ v → getD ys (nodeCount g + p) 0 ≡ getD xs (nodeCount g + p) 0
   pub sound : getD ys (nodeCount g + v) 0 ≢ 0 → isListed g P q k v ≡ true
   pub told : isListed g P q k v ≡ true → getD ys (nodeCount g + v) 0 ≢ 0
-  pub counts : (u : ℕ) → u < nodeCount g → (getD ys u 0 ≡ getD xs u 0) ⊎ Nearer g P xs ys b l v u
+  pub counts : (u : ℕ) → u < nodeCount g → (getD ys u 0 ≡ getD xs u 0) ⊎ CountedBy g P xs ys b l v u
 
 -- an accepted network with a byte for each node, a site, and words that are all 0; then the found flags are those of the listed points
 pub record CanExplore (g : Network) (P xs : List ℕ) (b q : ℕ) : Type 0 where
@@ -99,6 +99,6 @@ pub record CanExplore (g : Network) (P xs : List ℕ) (b q : ℕ) : Type 0 where
   pub blank : Blank xs 0
   pub size : queueBase (nodeCount g) b + 2 * (arcCount g + 1) ≤ length xs
 
-pub record Explored (g : Network) (P : List ℕ) (q k : ℕ) (xs ys : List ℕ) : Type 0 where
+pub record ExploreLeft (g : Network) (P : List ℕ) (q k : ℕ) (xs ys : List ℕ) : Type 0 where
   pub size : length ys ≡ length xs
   pub found : select (isFound (nodeCount g) ys) (nodeCount g) ≡ listed g P q k

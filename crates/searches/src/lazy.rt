@@ -7,7 +7,7 @@ ghost use lib.ListN.{length, getD};
 ghost use Rattle.network.specs.Network.{network};
 ghost use Rattle.expansion.specs.Area.{queueBase};
 ghost use Rattle.searches.specs.Eager.{CanSearch};
-ghost use Rattle.searches.specs.Lazy.{visitBase, isLess, CanCount, CountedNode, CountedAll, CanDiscover, Discovered, CanExplore, Explored, SearchLeft};
+ghost use Rattle.searches.specs.Lazy.{visitBase, isLess, CanCount, CountedNode, CountedAll, CanDiscover, Discovered, CanExplore, ExploreLeft, SearchLeft};
 use crate::flags;
 use expansion::step;
 use expansion::step::Taken;
@@ -118,7 +118,7 @@ fn explore(
     k: usize,
 )
     requires { ⌜ CanExplore (network (now starts) (now neighbours) (now weights)) (now points) (now s) b q ⌝ }
-    ensures { λ _. ⌜ Explored (network (now (starts .entry)) (now (neighbours .entry)) (now (weights .entry))) (now (points .entry)) q k (now (s .entry)) (now (s .exit)) ⌝ }
+    ensures { λ _. ⌜ ExploreLeft (network (now (starts .entry)) (now (neighbours .entry)) (now (weights .entry))) (now (points .entry)) q k (now (s .entry)) (now (s .exit)) ⌝ }
 {
     let n = starts.len() - 1;
     step::start(s, b, n, q);
