@@ -39,5 +39,7 @@ overlap_verdict overlap_verify(OVERLAP_NETWORK, OVERLAP_POINTS, uint32_t p, uint
 overlap_listing overlap_eager(OVERLAP_NETWORK, OVERLAP_POINTS, uint32_t q, uint32_t k, uint32_t limit,
                        OVERLAP_SCRATCH, OVERLAP_ANSWERS);
 overlap_listing overlap_short_query(OVERLAP_NETWORK, OVERLAP_POINTS, uint32_t q, OVERLAP_SCRATCH, OVERLAP_ANSWERS);
+overlap_listing overlap_lazy(OVERLAP_NETWORK, OVERLAP_POINTS, uint32_t q, uint32_t k, OVERLAP_SCRATCH, OVERLAP_ANSWERS);
+overlap_listing overlap_lazy_ep(OVERLAP_NETWORK, OVERLAP_POINTS, uint32_t q, uint32_t k, OVERLAP_SCRATCH, OVERLAP_ANSWERS);
 
 #endif

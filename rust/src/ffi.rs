@@ -33,6 +33,24 @@ pub struct Verdict {
     pub yes: u32,
 }
 
+/// The form that lazy and lazy-EP share.
+pub(crate) type Search = unsafe extern "C" fn(
+    starts: *const u32,
+    starts_len: usize,
+    neighbours: *const u32,
+    neighbours_len: usize,
+    weights: *const u32,
+    weights_len: usize,
+    points: *const u8,
+    points_len: usize,
+    q: u32,
+    k: u32,
+    scratch: *mut u32,
+    scratch_len: usize,
+    answers: *mut u32,
+    answers_len: usize,
+) -> Listing;
+
 extern "C" {
     /// Reads the three arrays and writes nothing.
     pub(crate) fn overlap_network_check(
@@ -127,6 +145,42 @@ extern "C" {
         points: *const u8,
         points_len: usize,
         q: u32,
+        scratch: *mut u32,
+        scratch_len: usize,
+        answers: *mut u32,
+        answers_len: usize,
+    ) -> Listing;
+
+    /// Writes `scratch` and `answers`.
+    pub(crate) fn overlap_lazy(
+        starts: *const u32,
+        starts_len: usize,
+        neighbours: *const u32,
+        neighbours_len: usize,
+        weights: *const u32,
+        weights_len: usize,
+        points: *const u8,
+        points_len: usize,
+        q: u32,
+        k: u32,
+        scratch: *mut u32,
+        scratch_len: usize,
+        answers: *mut u32,
+        answers_len: usize,
+    ) -> Listing;
+
+    /// Writes `scratch` and `answers`.
+    pub(crate) fn overlap_lazy_ep(
+        starts: *const u32,
+        starts_len: usize,
+        neighbours: *const u32,
+        neighbours_len: usize,
+        weights: *const u32,
+        weights_len: usize,
+        points: *const u8,
+        points_len: usize,
+        q: u32,
+        k: u32,
         scratch: *mut u32,
         scratch_len: usize,
         answers: *mut u32,

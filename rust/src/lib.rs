@@ -4,8 +4,8 @@
 //! lockers a site receives. It is written in Rattle and proved: each call of it meets a contract
 //! that says what document 01, the requirements of the build, says. This crate lends Rust slices to
 //! the engine's static library `liboverlap.a` and hands back its answers. Of the engine's calls it
-//! has the [network check](network_check), [distances], [nearest], [verify], [eager] and the [short
-//! query](short_query).
+//! has the [network check](network_check), [distances], [nearest], [verify], and the searches
+//! [eager] with its [short query](short_query), [lazy] and [lazy-EP](lazy_ep).
 //!
 //! Each item below quotes the sentence of document 01 that it is. No call asks anything of its
 //! input: bad input is refused by a number, and [`meaning`] gives the condition that the number
@@ -38,6 +38,7 @@ mod answer;
 mod distances;
 mod eager;
 mod ffi;
+mod lazy;
 mod nearest;
 mod network;
 mod refusal;
@@ -47,6 +48,7 @@ mod verify;
 pub use distances::distances;
 pub use eager::{eager, short_query};
 pub use ffi::{Listing, Verdict};
+pub use lazy::{lazy, lazy_ep};
 pub use nearest::{nearest, Found};
 pub use network::{network_check, Network};
 pub use refusal::{accepted, meaning, Refusal};

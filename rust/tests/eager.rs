@@ -6,15 +6,15 @@ use common::all_pairs::AllPairs;
 use common::call::{assert_lower_numbers_first, assert_outcome, assert_random_calls};
 use common::call::{assert_refused, compare, Call, Outcome, LEAST_OF_EACH};
 use common::faults::Fault;
-use common::inputs::{enough, no_k, no_node, some_k, some_node};
-use common::inputs::{some_points, spoil_points, too_short};
+use common::inputs::{no_k, no_node, some_node, some_points, spoil_points};
 use common::lent::Lent;
+use common::nearest_rows::NearestRows;
 use common::network::{marks, network_n, OwnedNetwork, N_NODES, N_POINTS};
-use common::numbers::{eager_number, plain_scratch_len};
 use common::random::Random;
-use common::rows::{relaxed_row, verify_in};
+use common::rows::relaxed_row;
 use common::shapes::try_all_small_points;
 use common::shapes::{chain, grid, star, weight_by_product, weighted};
+use common::site::Site;
 use common::tally::Tally;
 use overlap::{eager, short_query, Listing};
 
@@ -25,13 +25,8 @@ const SHORT_LIMIT: u32 = 65_535;
 /// Everything that a call is lent.
 #[derive(Clone)]
 struct Eager {
-    network: OwnedNetwork,
-    points: Vec<u8>,
-    q: u32,
-    k: u32,
+    site: Site,
     limit: u32,
-    scratch: Lent,
-    answers: Lent,
 }
 
 /// The numbers that a call asks for: its q, k and limit.
@@ -42,31 +37,16 @@ impl Eager {
     /// one and k at most 16.
     fn exact(network: &OwnedNetwork, points: &[u8], asked: Asked, random: &mut Random) -> Self {
         let (q, k, limit) = asked;
-        Self {
-            network: network.clone(),
-            points: points.to_vec(),
-            q,
-            k,
-            limit,
-            scratch: Lent::junk(plain_scratch_len(network.lend(), k), random),
-            answers: Lent::junk(network.starts.len() - 1, random),
-        }
+        let site = Site::exact(network, points, (q, k), random);
+        Self { site, limit }
     }
 
-    /// Makes scratch and answers longer at times.
-    fn lengthen(mut self, random: &mut Random) -> Self {
-        for array in [&mut self.scratch, &mut self.answers] {
-            *array = Lent::junk(enough(array.len(), random), random);
-        }
-        self
-    }
-
-    /// "It [...] returns the list and the count of nodes expanded." "An accepted call with scratch
-    /// leaves it all zero. Answer arrays hold the answer, then their old entries."
+    /// "It [...] returns the list and the count of nodes expanded."
     fn accepted(&self, list: &[u32], count: u32) -> Outcome<Self> {
-        let mut left = self.clone();
-        left.scratch = left.scratch.cleared();
-        left.answers = left.answers.with_answer(list);
+        let left = Self {
+            site: self.site.left(list),
+            limit: self.limit,
+        };
         let listing = Listing {
             number: 0,
             count,
@@ -74,50 +54,43 @@ impl Eager {
         };
         (listing, left)
     }
-
-    fn expanded(&self, pairs: &AllPairs) -> u32 {
-        pairs.plain_expanded(&self.points, self.q, self.k)
-    }
 }
 
 impl Call for Eager {
     type Answer = Listing;
 
     const OWN_FAULTS: &'static [(u32, Fault<Self>)] = &[
-        (6, |c, r| spoil_points(&mut c.points, r)),
-        (7, |c, r| c.q = no_node(&c.network, r)),
-        (9, |c, r| c.k = no_k(r)),
-        (10, shorten_answers),
+        (6, |c, r| spoil_points(&mut c.site.points, r)),
+        (7, |c, r| c.site.q = no_node(&c.site.network, r)),
+        (9, |c, r| c.site.k = no_k(r)),
+        (10, |c, r| c.site.shorten_answers(r)),
         (12, lower_limit),
     ];
 
     fn random(network: &OwnedNetwork, pairs: &AllPairs, random: &mut Random) -> Self {
-        let (points, q) = (some_points(network, random), some_node(network, random));
-        let mut call = Self::exact(network, &points, (q, some_k(random), 0), random);
-        let expanded = call.expanded(pairs);
-        call.limit = random.pick(&[expanded, expanded, expanded + 1, 65_535, u32::MAX]);
-        call.lengthen(random)
+        let site = Site::random(network, random);
+        let expanded = site.expanded(pairs);
+        let limit = random.pick(&[expanded, expanded, expanded + 1, 65_535, u32::MAX]);
+        Self { site, limit }
     }
 
     fn run(&mut self) -> Listing {
-        let (q, k, limit) = (self.q, self.k, self.limit);
-        let (scratch, answers) = (self.scratch.part_mut(), self.answers.part_mut());
+        let site = &mut self.site;
         eager(
-            self.network.lend(),
-            &self.points,
-            q,
-            k,
-            limit,
-            scratch,
-            answers,
+            site.network.lend(),
+            &site.points,
+            site.q,
+            site.k,
+            self.limit,
+            site.scratch.part_mut(),
+            site.answers.part_mut(),
         )
     }
 
     fn number(&self) -> u32 {
-        let (network, points) = (self.network.lend(), &self.points);
-        let (scratch, answers) = (self.scratch.len(), self.answers.len());
-        match eager_number(network, points, self.q, self.k, scratch, answers) {
-            0 if self.expanded(&AllPairs::of(network)) > self.limit => 12,
+        let expanded = || self.site.expanded(&AllPairs::of(self.site.network.lend()));
+        match self.site.number() {
+            0 if expanded() > self.limit => 12,
             number => number,
         }
     }
@@ -131,76 +104,58 @@ impl Call for Eager {
     }
 
     fn accepted_by(&self, pairs: &AllPairs) -> Outcome<Self> {
-        let list = pairs.plain_listed(&self.points, self.q, self.k);
-        self.accepted(&list, self.expanded(pairs))
+        self.accepted(&self.site.list(pairs), self.site.expanded(pairs))
     }
 
     fn network(&self) -> &OwnedNetwork {
-        &self.network
+        &self.site.network
     }
 
     fn network_mut(&mut self) -> &mut OwnedNetwork {
-        &mut self.network
+        &mut self.site.network
     }
 
     fn points(&self) -> &[u8] {
-        &self.points
+        &self.site.points
     }
 
     fn m(&self) -> u32 {
-        self.k
+        self.site.k
     }
 
     fn scratch_mut(&mut self) -> &mut Lent {
-        &mut self.scratch
+        &mut self.site.scratch
     }
 
     fn arrays(&self) -> Vec<(&'static str, &Lent)> {
-        vec![("scratch", &self.scratch), ("answers", &self.answers)]
+        self.site.arrays()
     }
 
     fn asked(&self) -> String {
-        let (q, k, limit) = (self.q, self.k, self.limit);
+        let (q, k, limit) = (self.site.q, self.site.k, self.limit);
         format!("q {q}, k {k}, limit {limit}")
     }
 
     fn tally(&self, tally: &mut Tally, pairs: &AllPairs) {
-        let (points, q, k) = (&self.points, self.q, self.k);
-        let list = pairs.plain_listed(points, q, k);
-        let expanded = self.expanded(pairs);
-        let reached = pairs.row(q).iter().flatten().count() as u32;
-        let marked = points.iter().filter(|&&byte| byte == 1).count();
-        tally.add_k(k);
-        tally.add_if(self.limit == expanded, "a limit of just the count");
-        tally.add_if(expanded < reached, "a node that is not expanded");
-        tally.add_if(list.is_empty(), "an empty list");
-        tally.add_if(list.len() > 1, "two points or more");
-        tally.add_if(list.len() < marked, "a point that is not listed");
-        tally.add_if(list.contains(&q), "a point on q");
-        tally.add_if(self.answers.len() > points.len(), "longer answers");
+        self.site.tally(tally, pairs);
+        let just = self.limit == self.site.expanded(pairs);
+        tally.add_if(just, "a limit of just the count");
     }
 
     /// "A refusal [...] changes no buffer; 12 alone leaves the scratch all zero."
     fn refused(&self, number: u32) -> Outcome<Self> {
         let mut left = self.clone();
         if number == 12 {
-            left.scratch = left.scratch.cleared();
+            left.site.scratch = left.site.scratch.cleared();
         }
         (Self::refusal(number), left)
     }
 }
 
-/// An answer array with fewer than n places.
-fn shorten_answers(call: &mut Eager, random: &mut Random) {
-    let n = call.network.starts.len().saturating_sub(1);
-    call.answers = Lent::junk(too_short(n, random), random);
-}
-
 /// Lowers the limit below the count, often just below. A call with another fault gets limit 0.
 fn lower_limit(call: &mut Eager, random: &mut Random) {
-    let number = call.number();
-    let expanded = match number {
-        0 | 12 => call.expanded(&AllPairs::of(call.network.lend())),
+    let expanded = match call.site.number() {
+        0 => call.site.expanded(&AllPairs::of(call.site.network.lend())),
         _ => 1,
     };
     call.limit = random.pick(&[expanded - 1, expanded - 1, expanded / 2, 0]);
@@ -214,21 +169,22 @@ impl Call for Short {
     type Answer = Listing;
 
     const OWN_FAULTS: &'static [(u32, Fault<Self>)] = &[
-        (6, |c, r| spoil_points(&mut c.0.points, r)),
-        (7, |c, r| c.0.q = no_node(&c.0.network, r)),
-        (10, |c, r| shorten_answers(&mut c.0, r)),
+        (6, |c, r| spoil_points(&mut c.0.site.points, r)),
+        (7, |c, r| c.0.site.q = no_node(&c.0.site.network, r)),
+        (10, |c, r| c.0.site.shorten_answers(r)),
     ];
 
     fn random(network: &OwnedNetwork, _: &AllPairs, random: &mut Random) -> Self {
         let (points, q) = (some_points(network, random), some_node(network, random));
-        let asked = (q, SHORT_K, SHORT_LIMIT);
-        Self(Eager::exact(network, &points, asked, random).lengthen(random))
+        let site = Site::exact(network, &points, (q, SHORT_K), random).lengthen(random);
+        let limit = SHORT_LIMIT;
+        Self(Eager { site, limit })
     }
 
     fn run(&mut self) -> Listing {
-        let call = &mut self.0;
-        let (scratch, answers) = (call.scratch.part_mut(), call.answers.part_mut());
-        short_query(call.network.lend(), &call.points, call.q, scratch, answers)
+        let site = &mut self.0.site;
+        let (scratch, answers) = (site.scratch.part_mut(), site.answers.part_mut());
+        short_query(site.network.lend(), &site.points, site.q, scratch, answers)
     }
 
     fn number(&self) -> u32 {
@@ -245,15 +201,15 @@ impl Call for Short {
     }
 
     fn network(&self) -> &OwnedNetwork {
-        &self.0.network
+        &self.0.site.network
     }
 
     fn network_mut(&mut self) -> &mut OwnedNetwork {
-        &mut self.0.network
+        &mut self.0.site.network
     }
 
     fn points(&self) -> &[u8] {
-        &self.0.points
+        &self.0.site.points
     }
 
     fn m(&self) -> u32 {
@@ -261,7 +217,7 @@ impl Call for Short {
     }
 
     fn scratch_mut(&mut self) -> &mut Lent {
-        &mut self.0.scratch
+        &mut self.0.site.scratch
     }
 
     fn arrays(&self) -> Vec<(&'static str, &Lent)> {
@@ -269,7 +225,7 @@ impl Call for Short {
     }
 
     fn asked(&self) -> String {
-        format!("q {}", self.0.q)
+        format!("q {}", self.0.site.q)
     }
 
     fn tally(&self, tally: &mut Tally, pairs: &AllPairs) {
@@ -306,7 +262,7 @@ mod network_n {
     #[test]
     fn without_points_all_nodes_reached_are_expanded() {
         let mut call = call(0, 1, 5);
-        call.points = vec![0; 6];
+        call.site.points = vec![0; 6];
         assert_list(call, &[], 5);
     }
 
@@ -315,9 +271,9 @@ mod network_n {
     fn nothing_is_listed_in_p7() {
         let roads = [(0, 1, 4), (0, 3, 5), (1, 2, 3), (2, 4, 6), (3, 4, 3)];
         let mut call = call(0, 1, 65_535);
-        call.network = OwnedNetwork::from_roads(N_NODES, &roads);
-        let outcome = call.accepted(&[], call.expanded(&AllPairs::of(call.network.lend())));
-        assert_outcome(call, &outcome);
+        call.site.network = OwnedNetwork::from_roads(N_NODES, &roads);
+        let expanded = call.site.expanded(&AllPairs::of(call.site.network.lend()));
+        assert_list(call, &[], expanded);
     }
 
     /// "Limit 4 answers P2, limit 3 refuses." Limit 0 always refuses, as q itself is expanded.
@@ -339,15 +295,15 @@ mod network_n {
             change(&mut call);
             assert_refused(call, number);
         };
-        assert_number(6, |c| c.points[3] = 2);
-        assert_number(6, |c| c.points.truncate(5));
-        assert_number(6, |c| c.points.push(0));
-        assert_number(7, |c| c.q = 6);
-        assert_number(7, |c| c.q = u32::MAX);
-        assert_number(9, |c| c.k = 0);
-        assert_number(9, |c| c.k = 17);
-        assert_number(9, |c| c.k = u32::MAX);
-        assert_number(10, |c| c.answers = Lent::junk(5, &mut Random::new(0)));
+        assert_number(6, |c| c.site.points[3] = 2);
+        assert_number(6, |c| c.site.points.truncate(5));
+        assert_number(6, |c| c.site.points.push(0));
+        assert_number(7, |c| c.site.q = 6);
+        assert_number(7, |c| c.site.q = u32::MAX);
+        assert_number(9, |c| c.site.k = 0);
+        assert_number(9, |c| c.site.k = 17);
+        assert_number(9, |c| c.site.k = u32::MAX);
+        assert_number(10, |c| c.site.answers = Lent::junk(5, &mut Random::new(0)));
         assert_number(12, |c| c.limit = 3);
     }
 
@@ -357,7 +313,7 @@ mod network_n {
         for (k, length) in [(1, 224), (2, 352), (16, 2_144)] {
             for (length, number) in [(length - 1, 10), (length, 0), (length + 1, 0)] {
                 let mut call = call(0, k, 65_535);
-                call.scratch = Lent::junk(length, &mut Random::new(0));
+                call.site.scratch = Lent::junk(length, &mut Random::new(0));
                 assert_eq!(compare(call), number);
             }
         }
@@ -397,25 +353,16 @@ mod order {
 mod random {
     use super::*;
 
-    const NAMES: [&str; 6] = [
-        "a node that is not expanded",
-        "an empty list",
-        "two points or more",
-        "a point that is not listed",
-        "a point on q",
-        "longer answers",
-    ];
-
     #[test]
     fn engine_and_plain_calculation_agree() {
         let numbers = [0, 1, 2, 3, 4, 5, 6, 7, 9, 10, 12];
-        let names = [&NAMES[..], &["a limit of just the count"]].concat();
+        let names = [&Site::TALLIED[..], &["a limit of just the count"]].concat();
         assert_random_calls::<Eager>(&numbers, &names).assert_each_k(LEAST_OF_EACH);
     }
 
     #[test]
     fn short_query_and_plain_calculation_agree() {
-        assert_random_calls::<Short>(&[0, 1, 2, 3, 4, 5, 6, 7, 10], &NAMES);
+        assert_random_calls::<Short>(&[0, 1, 2, 3, 4, 5, 6, 7, 10], &Site::TALLIED);
     }
 }
 
@@ -491,20 +438,20 @@ mod limits {
         }
     }
 
-    /// The plain list is that of the points within ten rows of q, and the count is the engine's own:
-    /// all pairs of so many nodes take too long.
     #[test]
     fn a_grid_of_255_by_257_nodes() {
         let network = weighted(MOST_NODES, &grid(255, 257), weight_by_product);
         let points: Vec<u8> = (0..MOST_NODES).map(|p| u8::from(p % 100 == 0)).collect();
-        let q = MOST_NODES / 2;
-        let is_listed = |p: &u32| verify_in(&relaxed_row(network.lend(), *p), &points, *p, q, 1);
-        let near = (q - 2_600..q + 2_600).filter(|p| p % 100 == 0);
-        let list: Vec<u32> = near.filter(is_listed).collect();
-        assert!(list.len() > 1);
-        let call = Eager::exact(&network, &points, (q, 1, 65_535), &mut Random::new(8));
-        let count = call.clone().run().count;
-        let outcome = call.accepted(&list, count);
-        assert_outcome(call, &outcome);
+        let nearest = NearestRows::of(network.lend(), &points, 5);
+        for (q, k) in [(MOST_NODES / 2, 1), (100, 4)] {
+            let from_q = relaxed_row(network.lend(), q);
+            let list = nearest.listed(&points, &from_q, k);
+            let count = nearest.expanded(&from_q, k);
+            assert!(list.len() > 1);
+            assert_list(&network, &points, (q, k, count), (&list, count));
+            let asked = (q, k, count - 1);
+            let call = Eager::exact(&network, &points, asked, &mut Random::new(8));
+            assert_refused(call, 12);
+        }
     }
 }

@@ -4,17 +4,8 @@
 //! outer area.
 
 use super::area::Area;
-use super::network_check;
+use super::site::{listed, refused, Lent, Site};
 use overlap::{Listing, Network};
-
-/// What a search reads.
-#[derive(Clone, Copy)]
-struct Site<'a> {
-    network: Network<'a>,
-    points: &'a [u8],
-    q: u32,
-    k: usize,
-}
 
 #[inline(never)]
 pub fn eager(
@@ -26,51 +17,21 @@ pub fn eager(
     scratch: &mut [u32],
     answers: &mut [u32],
 ) -> Listing {
-    let lengths = [scratch.len(), answers.len()];
-    let number = number_of(network, points, q, k, lengths);
-    if number != 0 {
-        return refused(number);
-    }
-    let n = network.starts.len() - 1;
-    let k = k as usize;
-    let used = 2 * k + 6 * n + 4 * (network.neighbours.len() + 1);
-    scratch[..used].fill(0);
     let site = Site {
         network,
         points,
         q,
-        k,
+        k: k as usize,
     };
-    let listing = search(site, limit, &mut scratch[..used], answers);
-    scratch.fill(0);
-    listing
+    let lent = Lent { scratch, answers };
+    site.answer(lent, words, |words, answers| {
+        search(site, limit, words, answers)
+    })
 }
 
-fn refused(number: u32) -> Listing {
-    Listing {
-        number,
-        count: 0,
-        length: 0,
-    }
-}
-
-fn number_of(network: Network<'_>, points: &[u8], q: u32, k: u32, lengths: [usize; 2]) -> u32 {
-    let of_network = network_check(network);
-    if of_network != 0 {
-        return of_network;
-    }
-    let (n, arcs) = (network.starts.len() - 1, network.neighbours.len());
-    if points.len() != n || points.iter().any(|&byte| byte > 1) {
-        6
-    } else if q as usize >= n {
-        7
-    } else if k == 0 || k > 16 {
-        9
-    } else if lengths[0] < 16 * n + 8 * (arcs + n) * k as usize || lengths[1] < n {
-        10
-    } else {
-        0
-    }
+fn words(site: Site<'_>) -> usize {
+    let (n, arcs) = site.sizes();
+    6 * n + 2 * site.k + 4 * (arcs + 1)
 }
 
 fn search(site: Site<'_>, limit: u32, words: &mut [u32], answers: &mut [u32]) -> Listing {
@@ -91,12 +52,7 @@ fn search(site: Site<'_>, limit: u32, words: &mut [u32], answers: &mut [u32]) ->
             area.open(site.network, entry);
         }
     }
-    let length = write_found(&flags[n..2 * n], answers);
-    Listing {
-        number: 0,
-        count,
-        length,
-    }
+    listed(&flags[n..2 * n], answers, count)
 }
 
 /// Finds the points nearer to a node than the site and verifies each once. Returns how many.
@@ -108,7 +64,9 @@ fn look(site: Site<'_>, node: u32, label: u32, flags: &mut [u32], inner: &mut [u
     for &p in &ids[..found] {
         if flags[p as usize] == 0 {
             flags[p as usize] = 1;
-            flags[n + p as usize] = u32::from(verify(site, p, inner));
+            let (yes, area) = site.visit(p, inner);
+            flags[n + p as usize] = u32::from(yes);
+            area.clear();
         }
     }
     places.fill(0);
@@ -139,37 +97,4 @@ fn nearest(
     }
     area.clear();
     found
-}
-
-/// Whether fewer than k other points are strictly nearer to p than the site.
-fn verify(site: Site<'_>, p: u32, inner: &mut [u32]) -> bool {
-    let mut area = Area::start(inner, site.network, p);
-    let (mut label, mut below, mut level) = (0, 0, 0);
-    let mut yes = false;
-    while let Some(entry) = area.next() {
-        if entry.distance > label {
-            (label, below, level) = (entry.distance, below + level, 0);
-        }
-        if below >= site.k || entry.node() == site.q as usize {
-            yes = below < site.k;
-            break;
-        }
-        let other = entry.node() != p as usize && site.points[entry.node()] == 1;
-        level += usize::from(other);
-        area.settle(entry);
-        area.open(site.network, entry);
-    }
-    area.clear();
-    yes
-}
-
-fn write_found(flags: &[u32], answers: &mut [u32]) -> usize {
-    let mut length = 0;
-    for (p, &flag) in (0..).zip(flags) {
-        if flag != 0 {
-            answers[length] = p;
-            length += 1;
-        }
-    }
-    length
 }

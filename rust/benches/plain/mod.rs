@@ -7,8 +7,14 @@
 mod area;
 mod distances;
 mod eager;
+mod lazy;
+mod lazy_ep;
 mod network_check;
+mod queue;
+mod site;
 
 pub use distances::distances;
 pub use eager::eager;
+pub use lazy::{lazy, lazy_and_settled};
+pub use lazy_ep::{lazy_ep, lazy_ep_and_settled};
 pub use network_check::network_check;

@@ -72,9 +72,9 @@ pub fn verify_number(
     }
 }
 
-/// Eager but for 12: the conditions 1 to 7, 9 and 10. Scratch and answers are given by their
-/// lengths.
-pub fn eager_number(
+/// The searches, eager but for 12: the conditions 1 to 7, 9 and 10. Scratch and answers are given by
+/// their lengths.
+pub fn search_number(
     network: Network<'_>,
     points: &[u8],
     q: u32,

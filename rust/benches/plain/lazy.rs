@@ -1,0 +1,95 @@
+//! Lazy (000, 3.3): the verification of a point prunes the nodes that it visits nearer than the site
+//! is.
+//!
+//! Words of scratch: counts n, found flags n, inner area, outer area.
+
+use super::area::Area;
+use super::queue::Entry;
+use super::site::{listed, Lent, Site};
+use overlap::{Listing, Network};
+
+#[inline(never)]
+pub fn lazy(
+    network: Network<'_>,
+    points: &[u8],
+    q: u32,
+    k: u32,
+    scratch: &mut [u32],
+    answers: &mut [u32],
+) -> Listing {
+    lazy_and_settled(network, points, q, k, scratch, answers).0
+}
+
+/// The same, and how many nodes the expansion from q settled.
+pub fn lazy_and_settled(
+    network: Network<'_>,
+    points: &[u8],
+    q: u32,
+    k: u32,
+    scratch: &mut [u32],
+    answers: &mut [u32],
+) -> (Listing, usize) {
+    let site = Site {
+        network,
+        points,
+        q,
+        k: k as usize,
+    };
+    let lent = Lent { scratch, answers };
+    let mut settled = 0;
+    let listing = site.answer(lent, words, |words, answers| {
+        settled = search(site, words);
+        let n = points.len();
+        listed(&words[n..2 * n], answers, 0)
+    });
+    (listing, settled)
+}
+
+fn words(site: Site<'_>) -> usize {
+    let (n, arcs) = site.sizes();
+    6 * n + 4 * (arcs + 1)
+}
+
+/// Sets the found flags and returns how many nodes it settled.
+fn search(site: Site<'_>, words: &mut [u32]) -> usize {
+    let n = site.points.len();
+    let (flags, areas) = words.split_at_mut(2 * n);
+    let (counts, found) = flags.split_at_mut(n);
+    let (inner, outer) = areas.split_at_mut(areas.len() / 2);
+    let mut area = Area::start(outer, site.network, site.q);
+    while let Some(entry) = area.next() {
+        if is_pruned(site, entry, counts) {
+            continue;
+        }
+        area.settle(entry);
+        let node = entry.node();
+        if site.points[node] == 1 {
+            let (yes, visit) = site.visit(node as u32, inner);
+            found[node] = u32::from(yes);
+            count_visit(site, entry.distance, &visit, &area, counts);
+            visit.clear();
+        }
+        if (counts[node] as usize) < site.k {
+            area.open(site.network, entry);
+        }
+    }
+    area.settled().len()
+}
+
+/// Whether k points are nearer than the site to the entry's node, or to the node that put it in.
+fn is_pruned(site: Site<'_>, entry: Entry, counts: &[u32]) -> bool {
+    let (node, parent) = (entry.node(), entry.parent());
+    counts[node] as usize >= site.k || (parent != node && counts[parent] as usize >= site.k)
+}
+
+/// Counts the point for each node that its visit settled nearer than the site is, as far as the
+/// site's expansion has come to this label.
+fn count_visit(site: Site<'_>, label: u32, visit: &Area<'_>, area: &Area<'_>, counts: &mut [u32]) {
+    for &node in visit.settled() {
+        let node = node as usize;
+        let nearer = visit.label(node) < Some(area.label(node).unwrap_or(label));
+        if nearer && (counts[node] as usize) < site.k {
+            counts[node] += 1;
+        }
+    }
+}

@@ -1,0 +1,169 @@
+//! Lazy-EP (000, 4.2): the points that the site's expansion has come to are expanded too, and a node
+//! to which k of them are nearer than the site is pruned.
+//!
+//! Words of scratch: found flags n, row ids n × k, row distances n × k, second queue 2 × (k × A + n),
+//! inner area, outer area. An empty place of a row has 0 as its distance word, another one its
+//! distance plus one. The tag of an entry of the second queue is its point and then its node.
+
+use super::area::Area;
+use super::queue::{Entry, Queue};
+use super::site::{listed, Lent, Site};
+use overlap::{Listing, Network};
+
+#[inline(never)]
+pub fn lazy_ep(
+    network: Network<'_>,
+    points: &[u8],
+    q: u32,
+    k: u32,
+    scratch: &mut [u32],
+    answers: &mut [u32],
+) -> Listing {
+    lazy_ep_and_settled(network, points, q, k, scratch, answers).0
+}
+
+/// The same, and how many nodes the expansion from q settled.
+pub fn lazy_ep_and_settled(
+    network: Network<'_>,
+    points: &[u8],
+    q: u32,
+    k: u32,
+    scratch: &mut [u32],
+    answers: &mut [u32],
+) -> (Listing, usize) {
+    let site = Site {
+        network,
+        points,
+        q,
+        k: k as usize,
+    };
+    let lent = Lent { scratch, answers };
+    let mut settled = 0;
+    let listing = site.answer(lent, words, |words, answers| {
+        settled = search(site, words);
+        listed(&words[..points.len()], answers, 0)
+    });
+    (listing, settled)
+}
+
+fn words(site: Site<'_>) -> usize {
+    let (n, arcs) = site.sizes();
+    5 * n + 2 * n * site.k + second_words(site) + 4 * (arcs + 1)
+}
+
+fn second_words(site: Site<'_>) -> usize {
+    let (n, arcs) = site.sizes();
+    2 * (site.k * arcs + n)
+}
+
+/// Sets the found flags and returns how many nodes it settled.
+fn search(site: Site<'_>, words: &mut [u32]) -> usize {
+    let n = site.points.len();
+    let (found, rest) = words.split_at_mut(n);
+    let (rows, areas) = rest.split_at_mut(2 * n * site.k + second_words(site));
+    let (inner, outer) = areas.split_at_mut(areas.len() / 2);
+    let mut second = Second::new(site, rows);
+    let mut area = Area::start(outer, site.network, site.q);
+    while let Some(entry) = area.next() {
+        let (node, label) = (entry.node(), entry.distance);
+        second.advance(site, label);
+        if second.is_closed(node, label) || second.is_closed_parent(entry, &area) {
+            continue;
+        }
+        area.settle(entry);
+        if site.points[node] == 1 {
+            let (yes, visit) = site.visit(node as u32, inner);
+            found[node] = u32::from(yes);
+            visit.clear();
+            second.admit(site, Entry::new(0, node as u32, node as u32));
+        }
+        if !second.is_closed(node, label) {
+            area.open(site.network, entry);
+        }
+    }
+    area.settled().len()
+}
+
+/// The expansion of the points that were come to: k places for each node, and the queue.
+struct Second<'a> {
+    k: usize,
+    ids: &'a mut [u32],
+    distances: &'a mut [u32],
+    queue: Queue<'a>,
+}
+
+impl<'a> Second<'a> {
+    /// The words are all zero.
+    fn new(site: Site<'_>, words: &'a mut [u32]) -> Self {
+        let places = site.points.len() * site.k;
+        let (ids, rest) = words.split_at_mut(places);
+        let (distances, queue) = rest.split_at_mut(places);
+        Self {
+            k: site.k,
+            ids,
+            distances,
+            queue: Queue::new(queue),
+        }
+    }
+
+    /// Admits all entries below the label.
+    fn advance(&mut self, site: Site<'_>, label: u32) {
+        while self.queue.least().is_some_and(|least| least < label) {
+            if let Some(entry) = self.queue.pop() {
+                self.admit(site, entry);
+            }
+        }
+    }
+
+    /// Puts the point into the node's row where it lacks it and has a place for it, and pushes the
+    /// neighbours.
+    fn admit(&mut self, site: Site<'_>, entry: Entry) {
+        let (p, node) = (entry.first() as u32, entry.second());
+        if let Some(place) = self.place(p, node, entry.distance) {
+            self.ids[place] = p;
+            self.distances[place] = entry.distance + 1;
+            self.push_neighbours(site.network, entry);
+        }
+    }
+
+    /// The place for the point: an empty one, else the farthest if it is farther than the point.
+    fn place(&self, p: u32, node: usize, distance: u32) -> Option<usize> {
+        let mut farthest = node * self.k;
+        for place in node * self.k..(node + 1) * self.k {
+            if self.distances[place] == 0 {
+                return Some(place);
+            }
+            if self.ids[place] == p {
+                return None;
+            }
+            if self.distances[place] > self.distances[farthest] {
+                farthest = place;
+            }
+        }
+        (self.distances[farthest] > distance + 1).then_some(farthest)
+    }
+
+    /// Pushes an entry for each arc of the node while there is room.
+    fn push_neighbours(&mut self, network: Network<'_>, entry: Entry) {
+        let (p, node) = (entry.first() as u32, entry.second());
+        let arcs = network.starts[node] as usize..network.starts[node + 1] as usize;
+        let weights = &network.weights[arcs.clone()];
+        for (&to, &weight) in network.neighbours[arcs].iter().zip(weights) {
+            if self.queue.has_room() {
+                self.queue.push(Entry::new(entry.distance + weight, p, to));
+            }
+        }
+    }
+
+    /// Whether all places of the row are taken by points nearer than the label.
+    fn is_closed(&self, node: usize, label: u32) -> bool {
+        let row = &self.distances[node * self.k..(node + 1) * self.k];
+        row.iter().all(|&word| word != 0 && word <= label)
+    }
+
+    /// Whether the node that put the entry in is closed by now.
+    fn is_closed_parent(&self, entry: Entry, area: &Area<'_>) -> bool {
+        let label = area.label(entry.parent());
+        label.is_some_and(|label| self.is_closed(entry.parent(), label))
+    }
+}

@@ -1,0 +1,111 @@
+//! What the searches for a site share: the checks, the clearing, the verification of a point and the
+//! list.
+
+use super::area::Area;
+use super::network_check;
+use overlap::{Listing, Network};
+
+/// What a search reads.
+#[derive(Clone, Copy)]
+pub struct Site<'a> {
+    pub network: Network<'a>,
+    pub points: &'a [u8],
+    pub q: u32,
+    pub k: usize,
+}
+
+/// The arrays that a search writes.
+pub struct Lent<'a> {
+    pub scratch: &'a mut [u32],
+    pub answers: &'a mut [u32],
+}
+
+impl Site<'_> {
+    /// n and A of an accepted network.
+    pub fn sizes(self) -> (usize, usize) {
+        (self.network.starts.len() - 1, self.network.neighbours.len())
+    }
+
+    /// The checks, then a search in so many words of scratch, which are all zero. It is handed the
+    /// answers too. Behind it all of scratch is made zero.
+    pub fn answer(
+        self,
+        lent: Lent<'_>,
+        words: fn(Self) -> usize,
+        search: impl FnOnce(&mut [u32], &mut [u32]) -> Listing,
+    ) -> Listing {
+        let Lent { scratch, answers } = lent;
+        let number = self.number(scratch.len(), answers.len());
+        if number != 0 {
+            return refused(number);
+        }
+        let used = words(self);
+        scratch[..used].fill(0);
+        let listing = search(&mut scratch[..used], answers);
+        scratch.fill(0);
+        listing
+    }
+
+    fn number(self, scratch: usize, answers: usize) -> u32 {
+        let of_network = network_check(self.network);
+        if of_network != 0 {
+            return of_network;
+        }
+        let (n, arcs) = self.sizes();
+        if self.points.len() != n || self.points.iter().any(|&byte| byte > 1) {
+            6
+        } else if self.q as usize >= n {
+            7
+        } else if self.k == 0 || self.k > 16 {
+            9
+        } else if scratch < 16 * n + 8 * (arcs + n) * self.k || answers < n {
+            10
+        } else {
+            0
+        }
+    }
+
+    /// Expands from p until it is known whether fewer than k other points are strictly nearer to p
+    /// than the site. What it settles stays in the area.
+    pub fn visit<'a>(self, p: u32, words: &'a mut [u32]) -> (bool, Area<'a>) {
+        let mut area = Area::start(words, self.network, p);
+        let (mut label, mut below, mut level) = (0, 0, 0);
+        while let Some(entry) = area.next() {
+            if entry.distance > label {
+                (label, below, level) = (entry.distance, below + level, 0);
+            }
+            if below >= self.k || entry.node() == self.q as usize {
+                return (below < self.k, area);
+            }
+            let other = entry.node() != p as usize && self.points[entry.node()] == 1;
+            level += usize::from(other);
+            area.settle(entry);
+            area.open(self.network, entry);
+        }
+        (false, area)
+    }
+}
+
+pub fn refused(number: u32) -> Listing {
+    Listing {
+        number,
+        count: 0,
+        length: 0,
+    }
+}
+
+/// Writes the nodes whose flag is set and returns the listing.
+pub fn listed(flags: &[u32], answers: &mut [u32], count: u32) -> Listing {
+    let mut length = 0;
+    for (p, &flag) in (0..).zip(flags) {
+        if flag != 0 {
+            answers[length] = p;
+            length += 1;
+        }
+    }
+    Listing {
+        number: 0,
+        count,
+        length,
+    }
+}

@@ -1,0 +1,86 @@
+//! The nearest points of each node of a network that may be too large for all pairs, and the lists
+//! and counts of document 01 by them.
+
+use super::rows::Row;
+use overlap::Network;
+use std::collections::VecDeque;
+
+/// A distance and the point that is so far.
+pub type Far = (u64, u32);
+
+/// For each node the points that can be reached from it, by distance then node, cut after the first
+/// `most`.
+pub struct NearestRows {
+    most: usize,
+    rows: Vec<Vec<Far>>,
+}
+
+impl NearestRows {
+    /// By repeated relaxation: what comes into a row is handed on to the neighbours, until nothing
+    /// does. The network is an accepted one.
+    pub fn of(network: Network<'_>, points: &[u8], most: usize) -> Self {
+        let rows = vec![vec![]; points.len()];
+        let mut nearest = Self { most, rows };
+        let mut handed = VecDeque::new();
+        for p in (0..points.len()).filter(|&p| points[p] == 1) {
+            handed.push_back((p, (0, p as u32)));
+        }
+        while let Some((node, far)) = handed.pop_front() {
+            if nearest.takes(node, far) {
+                for arc in network.starts[node] as usize..network.starts[node + 1] as usize {
+                    let sum = far.0 + u64::from(network.weights[arc]);
+                    handed.push_back((network.neighbours[arc] as usize, (sum, far.1)));
+                }
+            }
+        }
+        nearest
+    }
+
+    /// Puts a point into a row, unless the row has it as near or has enough that come before it.
+    fn takes(&mut self, node: usize, far: Far) -> bool {
+        let row = &mut self.rows[node];
+        if row.iter().any(|old| old.1 == far.1 && old.0 <= far.0) {
+            return false;
+        }
+        row.retain(|old| old.1 != far.1);
+        row.push(far);
+        row.sort_unstable();
+        row.truncate(self.most);
+        row.contains(&far)
+    }
+
+    pub fn row(&self, node: u32) -> &[Far] {
+        &self.rows[node as usize]
+    }
+
+    /// The points that are listed for q, whose row of distances is given, and k: "it can be reached
+    /// from q and fewer than k other points p' have d(p, p') < d(p, q)".
+    pub fn listed(&self, points: &[u8], from_q: &Row, k: u32) -> Vec<u32> {
+        assert!(self.most > k as usize);
+        let is_listed = |&p: &u32| {
+            let others = |to_q| self.nearer(p, to_q).filter(|far| far.1 != p).count();
+            let reached = from_q[p as usize];
+            points[p as usize] == 1 && reached.is_some_and(|to_q| others(to_q) < k as usize)
+        };
+        self.nodes().filter(is_listed).collect()
+    }
+
+    /// "the number of nodes m that can be reached from q and have fewer than k points p (one on m
+    /// included) with d(m, p) < d(m, q)".
+    pub fn expanded(&self, from_q: &Row, k: u32) -> u32 {
+        assert!(self.most >= k as usize);
+        let is_counted = |&m: &u32| {
+            from_q[m as usize].is_some_and(|to_q| self.nearer(m, to_q).count() < k as usize)
+        };
+        self.nodes().filter(is_counted).count() as u32
+    }
+
+    fn nearer(&self, node: u32, bound: u64) -> impl Iterator<Item = &Far> {
+        let row = self.row(node).iter();
+        row.filter(move |far| far.0 < bound)
+    }
+
+    fn nodes(&self) -> std::ops::Range<u32> {
+        0..self.rows.len() as u32
+    }
+}

@@ -1,0 +1,116 @@
+//! Everything that a search for a site is lent, whichever search it is.
+
+use super::all_pairs::AllPairs;
+use super::inputs::{enough, some_k, some_node, some_points, too_short};
+use super::lent::Lent;
+use super::network::OwnedNetwork;
+use super::numbers::{plain_scratch_len, search_number};
+use super::random::Random;
+use super::tally::Tally;
+
+#[derive(Clone)]
+pub struct Site {
+    pub network: OwnedNetwork,
+    pub points: Vec<u8>,
+    pub q: u32,
+    pub k: u32,
+    pub scratch: Lent,
+    pub answers: Lent,
+}
+
+impl Site {
+    /// Arrays that are just long enough and full of junk. The network is an accepted one and k at
+    /// most 16.
+    pub fn exact(
+        network: &OwnedNetwork,
+        points: &[u8],
+        (q, k): (u32, u32),
+        random: &mut Random,
+    ) -> Self {
+        Self {
+            network: network.clone(),
+            points: points.to_vec(),
+            q,
+            k,
+            scratch: Lent::junk(plain_scratch_len(network.lend(), k), random),
+            answers: Lent::junk(network.starts.len() - 1, random),
+        }
+    }
+
+    /// Makes scratch and answers longer at times.
+    pub fn lengthen(mut self, random: &mut Random) -> Self {
+        for array in [&mut self.scratch, &mut self.answers] {
+            *array = Lent::junk(enough(array.len(), random), random);
+        }
+        self
+    }
+
+    /// Any points, site and k that are accepted, with arrays that are long enough.
+    pub fn random(network: &OwnedNetwork, random: &mut Random) -> Self {
+        let (points, q) = (some_points(network, random), some_node(network, random));
+        Self::exact(network, &points, (q, some_k(random)), random).lengthen(random)
+    }
+
+    /// What an accepted call leaves: "An accepted call with scratch leaves it all zero. Answer
+    /// arrays hold the answer, then their old entries."
+    pub fn left(&self, list: &[u32]) -> Self {
+        let mut left = self.clone();
+        left.scratch = left.scratch.cleared();
+        left.answers = left.answers.with_answer(list);
+        left
+    }
+
+    /// The first condition met of 1 to 7, 9 and 10, or 0.
+    pub fn number(&self) -> u32 {
+        let (network, points) = (self.network.lend(), &self.points);
+        let (scratch, answers) = (self.scratch.len(), self.answers.len());
+        search_number(network, points, self.q, self.k, scratch, answers)
+    }
+
+    pub fn list(&self, pairs: &AllPairs) -> Vec<u32> {
+        pairs.plain_listed(&self.points, self.q, self.k)
+    }
+
+    pub fn expanded(&self, pairs: &AllPairs) -> u32 {
+        pairs.plain_expanded(&self.points, self.q, self.k)
+    }
+
+    /// 10: "an array for answers shorter than n".
+    pub fn shorten_answers(&mut self, random: &mut Random) {
+        let n = self.network.starts.len().saturating_sub(1);
+        self.answers = Lent::junk(too_short(n, random), random);
+    }
+
+    pub fn arrays(&self) -> Vec<(&'static str, &Lent)> {
+        vec![("scratch", &self.scratch), ("answers", &self.answers)]
+    }
+
+    /// Counts what makes the call telling.
+    pub fn tally(&self, tally: &mut Tally, pairs: &AllPairs) {
+        let list = self.list(pairs);
+        let reached = pairs.row(self.q).iter().flatten().count() as u32;
+        let marked = self.points.iter().filter(|&&byte| byte == 1).count();
+        let happened = [
+            self.expanded(pairs) < reached,
+            list.is_empty(),
+            list.len() > 1,
+            list.len() < marked,
+            list.contains(&self.q),
+            self.answers.len() > self.points.len(),
+        ];
+        tally.add_k(self.k);
+        for (happened, name) in happened.into_iter().zip(Self::TALLIED) {
+            tally.add_if(happened, name);
+        }
+    }
+
+    /// The names under which things are counted.
+    pub const TALLIED: [&'static str; 6] = [
+        "a node with k points nearer than q",
+        "an empty list",
+        "two points or more",
+        "a point that is not listed",
+        "a point on q",
+        "longer answers",
+    ];
+}
