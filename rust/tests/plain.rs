@@ -4,6 +4,8 @@
 mod common;
 
 use common::all_pairs::AllPairs;
+use common::inputs::{some_k, some_node, some_points};
+use common::nearest_rows::NearestRows;
 use common::network::{marks, network_n, OwnedNetwork, N_NODES, N_POINTS};
 use common::numbers::plain_scratch_len;
 use common::random::Random;
@@ -83,6 +85,32 @@ mod rows {
                 assert_eq!(row, *pairs.row(node), "{network:?}");
                 assert_eq!(row, row_of(&pairs.plain_distances(node)));
             }
+        }
+    }
+}
+
+/// The nearest points of each node.
+mod nearest_rows {
+    use super::*;
+
+    #[test]
+    fn by_relaxation_are_those_by_all_pairs() {
+        for seed in 0..2_000 {
+            let mut random = Random::new(seed);
+            let network = random_network(&mut random);
+            let pairs = AllPairs::of(network.lend());
+            let (points, k) = (some_points(&network, &mut random), some_k(&mut random));
+            let nearest = NearestRows::of(network.lend(), &points, k as usize + 1);
+            for node in 0..points.len() as u32 {
+                let row = nearest.row(node).iter();
+                let row: Vec<_> = row.map(|&(far, p)| (p, far as u32)).collect();
+                assert_eq!(row, pairs.plain_nearest(&points, node, NONE, k + 1));
+            }
+            let q = some_node(&network, &mut random);
+            let list = nearest.listed(&points, pairs.row(q), k);
+            assert_eq!(list, pairs.plain_listed(&points, q, k), "{network:?}");
+            let count = nearest.expanded(pairs.row(q), k);
+            assert_eq!(count, pairs.plain_expanded(&points, q, k), "{network:?}");
         }
     }
 }

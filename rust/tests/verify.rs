@@ -16,7 +16,7 @@ use common::numbers::{plain_scratch_len, verify_number};
 use common::random::Random;
 use common::rows::{relaxed_row, verify_in};
 use common::shapes::try_all_small_points;
-use common::shapes::{chain, grid, star, weight_by_product, weighted};
+use common::shapes::{chain, chain_and_grid, grid, star, weight_by_product, weighted};
 use common::tally::Tally;
 use overlap::{verify, Verdict};
 
@@ -391,6 +391,30 @@ mod limits {
         let points = vec![1; MOST_NODES as usize];
         assert_verdict(&network, &points, (LAST, 0, 2), false);
         assert_verdict(&network, &points, (LAST, LAST, 1), true);
+    }
+
+    /// A long chain leads from p to a grid. The other points have distances above 2^31, where the
+    /// expansion has come to the whole width of the grid.
+    #[test]
+    fn many_nodes_at_large_distances() {
+        let (length, rows, columns) = (32_740, 160, 200);
+        let n = length + rows * columns;
+        let in_grid = |a, b| 1 + (u64::from(a) * u64::from(b) % 65_535) as u32;
+        let weight = |a, b| if b <= length { 65_535 } else { in_grid(a, b) };
+        let network = weighted(n, &chain_and_grid(length, rows, columns), weight);
+        let row = relaxed_row(network.lend(), 0);
+        let is_far = |node: u32| row[node as usize] > Some(1 << 31);
+        let is_point = |node| node == 0 || node % 50 == 0 && is_far(node);
+        let points: Vec<u8> = (0..n).map(|node| u8::from(is_point(node))).collect();
+        let mut far: Vec<u32> = (0..n).filter(|&node| is_far(node)).collect();
+        far.sort_unstable_by_key(|&node| row[node as usize]);
+        let mut verdicts = [0, 0];
+        for (&q, k) in far.iter().step_by(25).zip([1, 2, 4].repeat(5)) {
+            let yes = verify_in(&row, &points, 0, q, k);
+            verdicts[usize::from(yes)] += 1;
+            assert_verdict(&network, &points, (0, q, k), yes);
+        }
+        assert!(verdicts.iter().all(|&count| count > 0), "{verdicts:?}");
     }
 
     #[test]

@@ -3,7 +3,8 @@
 
 use super::rows::Row;
 use overlap::Network;
-use std::collections::VecDeque;
+use std::cmp::Reverse;
+use std::collections::BinaryHeap;
 
 /// A distance and the point that is so far.
 pub type Far = (u64, u32);
@@ -17,19 +18,19 @@ pub struct NearestRows {
 
 impl NearestRows {
     /// By repeated relaxation: what comes into a row is handed on to the neighbours, until nothing
-    /// does. The network is an accepted one.
+    /// does. The nearest goes first, so that little comes into a row in vain. The network is an
+    /// accepted one.
     pub fn of(network: Network<'_>, points: &[u8], most: usize) -> Self {
         let rows = vec![vec![]; points.len()];
         let mut nearest = Self { most, rows };
-        let mut handed = VecDeque::new();
-        for p in (0..points.len()).filter(|&p| points[p] == 1) {
-            handed.push_back((p, (0, p as u32)));
-        }
-        while let Some((node, far)) = handed.pop_front() {
+        let marked = (0..points.len()).filter(|&p| points[p] == 1);
+        let own = marked.map(|p| Reverse(((0, p as u32), p)));
+        let mut handed: BinaryHeap<Reverse<(Far, usize)>> = own.collect();
+        while let Some(Reverse((far, node))) = handed.pop() {
             if nearest.takes(node, far) {
                 for arc in network.starts[node] as usize..network.starts[node + 1] as usize {
                     let sum = far.0 + u64::from(network.weights[arc]);
-                    handed.push_back((network.neighbours[arc] as usize, (sum, far.1)));
+                    handed.push(Reverse(((sum, far.1), network.neighbours[arc] as usize)));
                 }
             }
         }
