@@ -12,6 +12,8 @@ use common::shapes::{grid, star, weight_by_product, weighted};
 use overlap::{distances, scratch_len, Network};
 use std::hint::black_box;
 
+const ROUNDS: usize = 41;
+
 /// The engine's call, or its twin in plain Rust.
 type Distances = fn(Network<'_>, u32, &mut [u32], &mut [u32]) -> u32;
 
@@ -45,6 +47,7 @@ fn run(name: &str, network: &OwnedNetwork, node: u32) {
     twin.run(plain::distances, network, node);
     assert!(engine.answers == twin.answers && engine.scratch == twin.scratch);
     let times = timing::compare(
+        ROUNDS,
         || engine.run(distances, black_box(network), black_box(node)),
         || twin.run(plain::distances, black_box(network), black_box(node)),
     );
@@ -52,7 +55,7 @@ fn run(name: &str, network: &OwnedNetwork, node: u32) {
 }
 
 fn main() {
-    timing::print_heading();
+    timing::print_heading(ROUNDS);
     let streets = weighted(65_535, &grid(255, 257), weight_by_product);
     run("grid of 255 x 257, from a corner", &streets, 0);
     run("grid of 255 x 257, from inside", &streets, 32_767);

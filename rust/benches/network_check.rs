@@ -12,12 +12,15 @@ use common::shapes::{grid, star, weight_by_product, weighted};
 use overlap::network_check;
 use std::hint::black_box;
 
+const ROUNDS: usize = 41;
+
 /// Times a network that both accept.
 fn run(name: &str, network: &OwnedNetwork) {
     let network = network.lend();
     assert_eq!(network_check(network), 0);
     assert_eq!(plain::network_check(network), 0);
     let times = timing::compare(
+        ROUNDS,
         || assert_eq!(network_check(black_box(network)), 0),
         || assert_eq!(plain::network_check(black_box(network)), 0),
     );
@@ -25,7 +28,7 @@ fn run(name: &str, network: &OwnedNetwork) {
 }
 
 fn main() {
-    timing::print_heading();
+    timing::print_heading(ROUNDS);
     let streets = weighted(65_535, &grid(255, 257), weight_by_product);
     run("grid of 255 x 257 nodes", &streets);
     let spokes = weighted(65_535, &star(65_535, 0), weight_by_product);

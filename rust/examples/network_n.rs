@@ -8,9 +8,8 @@
 mod common;
 
 use common::network::{network_n, OwnedNetwork, N_NODES, N_POINTS, N_ROADS};
-use overlap::{
-    distances, eager, meaning, nearest, network_check, scratch_len, verify, Found, NONE,
-};
+use overlap::{distances, eager, lazy, lazy_ep, nearest, network_check, verify};
+use overlap::{meaning, scratch_len, Found, Listing, NONE};
 use std::process::ExitCode;
 
 const PICTURE: &str = "
@@ -163,12 +162,28 @@ fn print_verdicts(network: &OwnedNetwork) -> bool {
     right
 }
 
-/// Prints the points that list a site and the nodes expanded, and returns whether P1 to P5 come out.
+/// The list of a site by each of the three searches, with the nodes that eager expanded.
+fn lists(network: &OwnedNetwork, q: u32, k: u32) -> [(Listing, Vec<u32>); 3] {
+    let (lent, points) = (network.lend(), point_bytes());
+    let mut scratch = vec![0; scratch_len(lent, k as usize)];
+    [0, 1, 2].map(|search| {
+        let mut answers = vec![0; N_NODES as usize];
+        let (words, list) = (&mut scratch[..], &mut answers[..]);
+        let listing = match search {
+            0 => eager(lent, &points, q, k, 65_535, words, list),
+            1 => lazy(lent, &points, q, k, words, list),
+            _ => lazy_ep(lent, &points, q, k, words, list),
+        };
+        answers.truncate(listing.length);
+        (listing, answers)
+    })
+}
+
+/// Prints the points that list a site and the nodes that eager expanded, and returns whether P1 to
+/// P5 come out, by eager, lazy and lazy-EP alike.
 fn print_lists(network: &OwnedNetwork) -> bool {
-    let lent = network.lend();
-    let points = point_bytes();
     let mut right = true;
-    println!("site   k   listed by   nodes expanded");
+    println!("site   k   eager       lazy        lazy-EP     nodes that eager expanded");
     for (q, k, list, count) in [
         (0, 1, &[2][..], 1),
         (0, 2, &[2, 4], 4),
@@ -176,13 +191,12 @@ fn print_lists(network: &OwnedNetwork) -> bool {
         (2, 1, &[2, 4], 3),
         (5, 1, &[5], 1),
     ] {
-        let mut scratch = vec![0; scratch_len(lent, k as usize)];
-        let mut answers = vec![0; N_NODES as usize];
-        let listing = eager(lent, &points, q, k, 65_535, &mut scratch, &mut answers);
-        let found = &answers[..listing.length];
-        let texts: Vec<String> = found.iter().map(u32::to_string).collect();
-        println!("{q:<6} {k:<3} {:<11} {}", texts.join(", "), listing.count);
-        right &= listing.number == 0 && found == list && listing.count == count;
+        let found = lists(network, q, k);
+        let [by_eager, by_lazy, by_lazy_ep] = found.each_ref().map(|(_, list)| listed(list));
+        let expanded = found[0].0.count;
+        println!("{q:<6} {k:<3} {by_eager:<11} {by_lazy:<11} {by_lazy_ep:<11} {expanded}");
+        right &= expanded == count;
+        right &= found.iter().all(|by| by.0.number == 0 && by.1 == list);
     }
     right
 }

@@ -15,7 +15,7 @@ use common::numbers::{distances_number, plain_scratch_len};
 use common::random::Random;
 use common::rows::{distances_in, relaxed_row, LARGEST_DISTANCE};
 use common::shapes::all_small_networks;
-use common::shapes::{belt, chain, chain_and_grid, grid, star, weight_by_product, weighted};
+use common::shapes::{belt, chain, far_grid, grid, star, weight_by_product, weighted};
 use common::tally::Tally;
 use overlap::{distances, NONE};
 
@@ -298,11 +298,7 @@ mod limits {
     #[test]
     fn many_nodes_at_large_distances() {
         for (length, rows, columns) in [(32_700, 160, 200), (64_000, 30, 50)] {
-            let n = length + rows * columns;
-            let in_grid = |a, b| 1 + (u64::from(a) * u64::from(b) % 65_535) as u32;
-            let weight = |a, b| if b <= length { 65_535 } else { in_grid(a, b) };
-            let network = weighted(n, &chain_and_grid(length, rows, columns), weight);
-            assert_relaxed(&network, 0);
+            assert_relaxed(&far_grid(length, rows, columns), 0);
         }
     }
 

@@ -12,16 +12,15 @@ use common::nearest_rows::NearestRows;
 use common::network::{marks, network_n, OwnedNetwork, N_NODES, N_POINTS};
 use common::random::Random;
 use common::rows::relaxed_row;
-use common::shapes::{belt, chain, chain_and_grid, complete, grid, random_network, ring};
-use common::shapes::{star, try_all_small_points, weight_by_product, weighted};
-use common::site::Site;
+use common::shapes::{belt, chain, chain_and_grid, complete, far_grid, grid};
+use common::shapes::{random_network, ring, star, try_all_small_points};
+use common::shapes::{weight_by_product, weighted};
+use common::site::{SearchCall, Site, EAGER};
 use common::tally::Tally;
-use overlap::{eager, lazy, lazy_ep, Listing, Network};
+use overlap::{lazy, lazy_ep, Listing};
 use std::marker::PhantomData;
 
-/// One of the two calls.
-type SearchCall = fn(Network<'_>, &[u8], u32, u32, &mut [u32], &mut [u32]) -> Listing;
-
+/// One of the two searches.
 trait Search: Clone + 'static {
     const NAME: &'static str;
     const CALL: SearchCall;
@@ -84,10 +83,7 @@ impl<S: Search> Call for By<S> {
     }
 
     fn run(&mut self) -> Listing {
-        let site = &mut self.site;
-        let (scratch, answers) = (site.scratch.part_mut(), site.answers.part_mut());
-        let (network, points) = (site.network.lend(), &site.points);
-        S::CALL(network, points, site.q, site.k, scratch, answers)
+        self.site.run(S::CALL)
     }
 
     fn number(&self) -> u32 {
@@ -256,12 +252,10 @@ mod network_n {
     fn a_call_behind_another() {
         let mut site = site(0, 2);
         for search in [lazy, lazy_ep, lazy, lazy_ep] {
-            let (network, points) = (site.network.lend(), &site.points);
-            let (scratch, answers) = (site.scratch.part_mut(), site.answers.part_mut());
-            let listing = search(network, points, 0, 2, scratch, answers);
+            let listing = site.run(search);
             assert_eq!((listing.number, listing.length), (0, 2));
-            assert_eq!(answers[..2], [2, 4]);
-            assert!(scratch.iter().all(|&word| word == 0));
+            assert_eq!(site.answers.part()[..2], [2, 4]);
+            assert!(site.scratch.part().iter().all(|&word| word == 0));
         }
     }
 }
@@ -296,18 +290,8 @@ mod random {
         assert_random::<LazyEp>();
     }
 
-    /// The list by a search, whose limit is never met if it has one.
-    fn list_by(search: SearchCall, mut site: Site) -> Vec<u32> {
-        let (network, points) = (site.network.lend(), &site.points);
-        let (scratch, answers) = (site.scratch.part_mut(), site.answers.part_mut());
-        let listing = search(network, points, site.q, site.k, scratch, answers);
-        assert_eq!(listing.number, 0);
-        answers[..listing.length].to_vec()
-    }
-
     #[test]
     fn all_searches_and_the_plain_calculation_agree() {
-        let eager: SearchCall = |n, points, q, k, s, a| eager(n, points, q, k, 65_535, s, a);
         for seed in 10_000..20_000 {
             let mut random = Random::new(seed);
             let network = random_network(&mut random);
@@ -315,8 +299,10 @@ mod random {
             for _ in 0..4 {
                 let site = Site::random(&network, &mut random);
                 let list = site.list(&pairs);
-                for search in [eager, lazy, lazy_ep] {
-                    assert_eq!(list_by(search, site.clone()), list, "{network:?}");
+                for search in [EAGER, lazy, lazy_ep] {
+                    let mut site = site.clone();
+                    let listing = site.run(search);
+                    assert_eq!(site.answers.part()[..listing.length], list, "{network:?}");
                 }
             }
         }
@@ -605,9 +591,7 @@ mod limits {
     fn many_nodes_at_large_distances() {
         for (length, rows, columns) in [(32_700, 160, 200), (64_000, 30, 50)] {
             let n = length + rows * columns;
-            let in_grid = |a, b| 1 + (u64::from(a) * u64::from(b) % 65_535) as u32;
-            let weight = |a, b| if b <= length { 65_535 } else { in_grid(a, b) };
-            let network = weighted(n, &chain_and_grid(length, rows, columns), weight);
+            let network = far_grid(length, rows, columns);
             let points = marks(n, &[1, 2, length + columns / 2, n - columns, n - 2, n - 1]);
             assert_relaxed(&network, &points, &[(0, 4), (0, 6)]);
         }

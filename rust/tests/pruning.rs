@@ -8,43 +8,27 @@ mod plain;
 use common::network::{marks, OwnedNetwork};
 use common::random::Random;
 use common::shapes::random_network;
-use common::site::Site;
-use overlap::{eager, lazy, lazy_ep, Listing, Network};
-
-/// A search, or its twin.
-type SearchCall = fn(Network<'_>, &[u8], u32, u32, &mut [u32], &mut [u32]) -> Listing;
+use common::site::{SearchCall, Site, EAGER};
+use overlap::{lazy, lazy_ep, Listing};
 
 /// A twin that also says how many nodes it settled.
-type CountingCall = fn(Network<'_>, &[u8], u32, u32, &mut [u32], &mut [u32]) -> (Listing, usize);
+type CountingCall = SearchCall<(Listing, usize)>;
 
 /// Each search of the engine and its twin.
 const PAIRS: [(SearchCall, SearchCall); 3] = [
-    (
-        |n, points, q, k, s, a| eager(n, points, q, k, 65_535, s, a),
-        |n, points, q, k, s, a| plain::eager(n, points, q, k, 65_535, s, a),
-    ),
+    (EAGER, |n, points, q, k, s, a| {
+        plain::eager(n, points, q, k, 65_535, s, a)
+    }),
     (lazy, plain::lazy),
     (lazy_ep, plain::lazy_ep),
 ];
 
-/// Runs a call with copies of all that it is lent, and returns its answer and these.
-fn run<T>(
-    call: fn(Network<'_>, &[u8], u32, u32, &mut [u32], &mut [u32]) -> T,
-    site: &Site,
-) -> (T, Site) {
-    let mut left = site.clone();
-    let (scratch, answers) = (left.scratch.part_mut(), left.answers.part_mut());
-    let (network, points) = (left.network.lend(), &left.points);
-    let answer = call(network, points, left.q, left.k, scratch, answers);
-    (answer, left)
-}
-
 /// Sees that engine and twin return the same and leave the same.
 fn assert_same(site: &Site) {
     for (engine, twin) in PAIRS {
-        let ((listing, left), (by_twin, left_by_twin)) = (run(engine, site), run(twin, site));
-        assert_eq!(listing, by_twin);
-        for ((name, is), (_, wanted)) in left.arrays().into_iter().zip(left_by_twin.arrays()) {
+        let [mut is, mut wanted] = [site.clone(), site.clone()];
+        assert_eq!(is.run(engine), wanted.run(twin));
+        for ((name, is), (_, wanted)) in is.arrays().into_iter().zip(wanted.arrays()) {
             assert_eq!(is.difference(wanted), None, "{name}");
         }
     }
@@ -63,7 +47,7 @@ fn engine_and_twins_agree() {
 
 /// How many nodes a twin settles.
 fn settled(twin: CountingCall, site: &Site) -> usize {
-    run(twin, site).0 .1
+    site.clone().run(twin).1
 }
 
 /// 000, Fig. 12, for any k: the site is n1 = 0. Each of the k nodes n2 = 1 to k has a point and the
@@ -89,9 +73,10 @@ fn lazy_ep_stops_in_figure_12_where_lazy_goes_on() {
     for (k, line) in [(1, 60_000), (2, 60_000), (3, 2_000), (16, 2_000)] {
         let site = figure_12(k, line);
         assert_same(&site);
-        let ((listing, left), points) = (run(lazy_ep, &site), 1..=k);
-        assert_eq!(listing.length, k as usize);
-        assert!(left.answers.part()[..k as usize].iter().copied().eq(points));
+        let mut searched = site.clone();
+        let listing = searched.run(lazy_ep);
+        let points: Vec<u32> = (1..=k).collect();
+        assert_eq!(searched.answers.part()[..listing.length], points);
         // All nodes; and all but n4 and the line.
         let nodes = site.points.len();
         assert_eq!(settled(plain::lazy_and_settled, &site), nodes);

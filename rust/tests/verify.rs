@@ -16,7 +16,7 @@ use common::numbers::{plain_scratch_len, verify_number};
 use common::random::Random;
 use common::rows::{relaxed_row, verify_in};
 use common::shapes::try_all_small_points;
-use common::shapes::{chain, chain_and_grid, grid, star, weight_by_product, weighted};
+use common::shapes::{chain, far_grid, grid, star, weight_by_product, weighted};
 use common::tally::Tally;
 use overlap::{verify, Verdict};
 
@@ -399,9 +399,7 @@ mod limits {
     fn many_nodes_at_large_distances() {
         let (length, rows, columns) = (32_740, 160, 200);
         let n = length + rows * columns;
-        let in_grid = |a, b| 1 + (u64::from(a) * u64::from(b) % 65_535) as u32;
-        let weight = |a, b| if b <= length { 65_535 } else { in_grid(a, b) };
-        let network = weighted(n, &chain_and_grid(length, rows, columns), weight);
+        let network = far_grid(length, rows, columns);
         let row = relaxed_row(network.lend(), 0);
         let is_far = |node: u32| row[node as usize] > Some(1 << 31);
         let is_point = |node| node == 0 || node % 50 == 0 && is_far(node);

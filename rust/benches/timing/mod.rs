@@ -2,8 +2,6 @@
 
 use std::time::Instant;
 
-const ROUNDS: usize = 41;
-
 /// The median times of the two, in milliseconds.
 pub struct Times {
     pub engine: f64,
@@ -11,11 +9,11 @@ pub struct Times {
 }
 
 /// Times each once a round; the one that goes first changes from round to round.
-pub fn compare(mut engine: impl FnMut(), mut plain: impl FnMut()) -> Times {
+pub fn compare(rounds: usize, mut engine: impl FnMut(), mut plain: impl FnMut()) -> Times {
     let (mut engine_times, mut plain_times) = (Vec::new(), Vec::new());
     engine();
     plain();
-    for round in 0..ROUNDS {
+    for round in 0..rounds {
         if round % 2 == 0 {
             engine_times.push(milliseconds(&mut engine));
             plain_times.push(milliseconds(&mut plain));
@@ -41,9 +39,9 @@ fn median(mut times: Vec<f64>) -> f64 {
     times[times.len() / 2]
 }
 
-pub fn print_heading() {
+pub fn print_heading(rounds: usize) {
     println!(
-        "median of {ROUNDS} runs, engine and plain Rust in turn; ratio is engine / plain Rust"
+        "median of {rounds} runs, engine and plain Rust in turn; ratio is engine / plain Rust"
     );
     println!(
         "{:<32} {:>12} {:>12} {:>8}",

@@ -63,6 +63,14 @@ pub fn chain_and_grid(length: u32, rows: u32, columns: u32) -> Vec<Pair> {
     pairs
 }
 
+/// A chain of the heaviest roads, and behind its last node a grid of all weights.
+pub fn far_grid(length: u32, rows: u32, columns: u32) -> OwnedNetwork {
+    let in_grid = |a, b| 1 + (u64::from(a) * u64::from(b) % 65_535) as u32;
+    let weight = |a, b| if b <= length { 65_535 } else { in_grid(a, b) };
+    let pairs = chain_and_grid(length, rows, columns);
+    weighted(length + rows * columns, &pairs, weight)
+}
+
 /// This many roads around a ring of n nodes: each node to the one 1 further, then each to the one 2
 /// further, and so on. No step reaches n / 2, so no pair comes twice.
 pub fn belt(n: u32, roads: u32) -> Vec<Pair> {

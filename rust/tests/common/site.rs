@@ -7,6 +7,14 @@ use super::network::OwnedNetwork;
 use super::numbers::{plain_scratch_len, search_number};
 use super::random::Random;
 use super::tally::Tally;
+use overlap::{eager, Listing, Network};
+
+/// The form of a search without a limit: its network, points, q, k, scratch and answers.
+pub type SearchCall<Answer = Listing> =
+    fn(Network<'_>, &[u8], u32, u32, &mut [u32], &mut [u32]) -> Answer;
+
+/// Eager with a limit that is never met.
+pub const EAGER: SearchCall = |n, points, q, k, s, a| eager(n, points, q, k, 65_535, s, a);
 
 #[derive(Clone)]
 pub struct Site {
@@ -49,6 +57,13 @@ impl Site {
     pub fn random(network: &OwnedNetwork, random: &mut Random) -> Self {
         let (points, q) = (some_points(network, random), some_node(network, random));
         Self::exact(network, &points, (q, some_k(random)), random).lengthen(random)
+    }
+
+    /// Lends everything to a search; the arrays are then what it leaves.
+    pub fn run<Answer>(&mut self, call: SearchCall<Answer>) -> Answer {
+        let (scratch, answers) = (self.scratch.part_mut(), self.answers.part_mut());
+        let (network, points) = (self.network.lend(), &self.points);
+        call(network, points, self.q, self.k, scratch, answers)
     }
 
     /// What an accepted call leaves: "An accepted call with scratch leaves it all zero. Answer

@@ -1,0 +1,104 @@
+//! The time of eager, lazy and lazy-EP, engine against the same algorithms in plain Rust.
+//!
+//! Run it by hand with `cargo bench --bench searches`.
+
+#[path = "../tests/common/mod.rs"]
+mod common;
+mod plain;
+mod timing;
+
+use common::shapes::{grid, weight_by_product, weighted};
+use common::site::{SearchCall, EAGER};
+use overlap::{lazy, lazy_ep, scratch_len, Listing, Network};
+use std::hint::black_box;
+
+const NODES: u32 = 65_535;
+const SITES: u32 = 24;
+const ROUNDS: usize = 5;
+
+/// A search of the engine and its twin in plain Rust.
+struct Search {
+    name: &'static str,
+    engine: SearchCall,
+    twin: SearchCall,
+}
+
+const SEARCHES: [Search; 3] = [
+    Search {
+        name: "eager",
+        engine: EAGER,
+        twin: |n, points, q, k, s, a| plain::eager(n, points, q, k, NODES, s, a),
+    },
+    Search {
+        name: "lazy",
+        engine: lazy,
+        twin: plain::lazy,
+    },
+    Search {
+        name: "lazy-EP",
+        engine: lazy_ep,
+        twin: plain::lazy_ep,
+    },
+];
+
+/// What all calls read.
+#[derive(Clone, Copy)]
+struct Read<'a> {
+    network: Network<'a>,
+    points: &'a [u8],
+    k: u32,
+}
+
+/// The arrays that a call writes.
+struct Lent {
+    scratch: Vec<u32>,
+    answers: Vec<u32>,
+}
+
+impl Lent {
+    /// Arrays that are just long enough, with old entries.
+    fn new(read: Read<'_>) -> Self {
+        Self {
+            scratch: vec![1; scratch_len(read.network, read.k as usize)],
+            answers: vec![1; NODES as usize],
+        }
+    }
+
+    /// Runs a call for each site and returns the listings.
+    fn run(&mut self, call: SearchCall, read: Read<'_>) -> Vec<Listing> {
+        let site = |i| (i * 2_731 + 17) % NODES;
+        let mut listing = |q| {
+            let (scratch, answers) = (&mut self.scratch, &mut self.answers);
+            call(read.network, read.points, q, read.k, scratch, answers)
+        };
+        (0..SITES).map(|i| listing(site(i))).collect()
+    }
+}
+
+/// Times a call for each of the sites, which are the same for both; all are accepted.
+fn run(search: &Search, read: Read<'_>) {
+    let (mut engine, mut twin) = (Lent::new(read), Lent::new(read));
+    let listings = engine.run(search.engine, read);
+    assert_eq!(listings, twin.run(search.twin, read));
+    assert!(listings.iter().all(|listing| listing.number == 0));
+    assert!(engine.answers == twin.answers && engine.scratch == twin.scratch);
+    let times = timing::compare(
+        ROUNDS,
+        || drop(engine.run(search.engine, black_box(read))),
+        || drop(twin.run(search.twin, black_box(read))),
+    );
+    let name = format!("{}, {SITES} sites, k = {}", search.name, read.k);
+    timing::print_row(&name, &times);
+}
+
+fn main() {
+    timing::print_heading(ROUNDS);
+    let streets = weighted(NODES, &grid(255, 257), weight_by_product);
+    let points: Vec<u8> = (0..NODES).map(|p| u8::from(p % 100 == 0)).collect();
+    for search in SEARCHES {
+        for k in [1, 4, 16] {
+            let (network, points) = (streets.lend(), &points);
+            run(&search, Read { network, points, k });
+        }
+    }
+}
