@@ -7,7 +7,8 @@ mod common;
 mod plain;
 mod timing;
 
-use common::shapes::{grid, weight_by_product, weighted};
+use common::network::marks;
+use common::shapes::{figure_12, grid, weight_by_product, weighted};
 use common::site::{SearchCall, EAGER};
 use overlap::{lazy, lazy_ep, scratch_len, Listing, Network};
 use std::hint::black_box;
@@ -15,6 +16,8 @@ use std::hint::black_box;
 const NODES: u32 = 65_535;
 const SITES: u32 = 24;
 const ROUNDS: usize = 5;
+/// The nodes of the line in 000, Fig. 12.
+const LINE: u32 = 60_000;
 
 /// A search of the engine and its twin in plain Rust.
 struct Search {
@@ -46,6 +49,7 @@ const SEARCHES: [Search; 3] = [
 struct Read<'a> {
     network: Network<'a>,
     points: &'a [u8],
+    sites: &'a [u32],
     k: u32,
 }
 
@@ -60,23 +64,22 @@ impl Lent {
     fn new(read: Read<'_>) -> Self {
         Self {
             scratch: vec![1; scratch_len(read.network, read.k as usize)],
-            answers: vec![1; NODES as usize],
+            answers: vec![1; read.points.len()],
         }
     }
 
     /// Runs a call for each site and returns the listings.
     fn run(&mut self, call: SearchCall, read: Read<'_>) -> Vec<Listing> {
-        let site = |i| (i * 2_731 + 17) % NODES;
-        let mut listing = |q| {
+        let listing = |&q| {
             let (scratch, answers) = (&mut self.scratch, &mut self.answers);
             call(read.network, read.points, q, read.k, scratch, answers)
         };
-        (0..SITES).map(|i| listing(site(i))).collect()
+        read.sites.iter().map(listing).collect()
     }
 }
 
-/// Times a call for each of the sites, which are the same for both; all are accepted.
-fn run(search: &Search, read: Read<'_>) {
+/// Times a call for each of the sites; all are accepted.
+fn run(name: &str, search: &Search, read: Read<'_>) {
     let (mut engine, mut twin) = (Lent::new(read), Lent::new(read));
     let listings = engine.run(search.engine, read);
     assert_eq!(listings, twin.run(search.twin, read));
@@ -87,18 +90,43 @@ fn run(search: &Search, read: Read<'_>) {
         || drop(engine.run(search.engine, black_box(read))),
         || drop(twin.run(search.twin, black_box(read))),
     );
-    let name = format!("{}, {SITES} sites, k = {}", search.name, read.k);
-    timing::print_row(&name, &times);
+    timing::print_row(&format!("{}, {name}", search.name), &times);
+}
+
+/// Sites on a grid with many points.
+fn run_grid() {
+    let streets = weighted(NODES, &grid(255, 257), weight_by_product);
+    let points: Vec<u8> = (0..NODES).map(|p| u8::from(p % 100 == 0)).collect();
+    let sites: Vec<u32> = (0..SITES).map(|i| (i * 2_731 + 17) % NODES).collect();
+    for k in [1, 4, 16] {
+        let read = Read {
+            network: streets.lend(),
+            points: &points,
+            sites: &sites,
+            k,
+        };
+        for search in SEARCHES {
+            run(&format!("{SITES} sites, k = {k}"), &search, read);
+        }
+    }
+}
+
+/// The line on which lazy goes on and lazy-EP stops.
+fn run_line() {
+    let network = figure_12(1, LINE);
+    let read = Read {
+        network: network.lend(),
+        points: &marks(LINE + 4, &[1]),
+        sites: &[0; SITES as usize],
+        k: 1,
+    };
+    for search in SEARCHES {
+        run(&format!("{SITES} times Fig. 12"), &search, read);
+    }
 }
 
 fn main() {
     timing::print_heading(ROUNDS);
-    let streets = weighted(NODES, &grid(255, 257), weight_by_product);
-    let points: Vec<u8> = (0..NODES).map(|p| u8::from(p % 100 == 0)).collect();
-    for search in SEARCHES {
-        for k in [1, 4, 16] {
-            let (network, points) = (streets.lend(), &points);
-            run(&search, Read { network, points, k });
-        }
-    }
+    run_line();
+    run_grid();
 }

@@ -5,9 +5,9 @@ mod common;
 #[path = "../benches/plain/mod.rs"]
 mod plain;
 
-use common::network::{marks, OwnedNetwork};
+use common::network::marks;
 use common::random::Random;
-use common::shapes::random_network;
+use common::shapes::{figure_12, random_network};
 use common::site::{SearchCall, Site, EAGER};
 use overlap::{lazy, lazy_ep, Listing};
 
@@ -50,32 +50,18 @@ fn settled(twin: CountingCall, site: &Site) -> usize {
     site.clone().run(twin).1
 }
 
-/// 000, Fig. 12, for any k: the site is n1 = 0. Each of the k nodes n2 = 1 to k has a point and the
-/// roads n1-n2 of 1 and n2-n4 of 2; n3 = k + 1 has the roads n1-n3 of 3 and n3-n4 of 1. Behind
-/// n4 = k + 2 is a long line.
-fn figure_12(k: u32, line: u32) -> Site {
-    let (n3, n4) = (k + 1, k + 2);
-    let mut roads = vec![(0, n3, 3), (n3, n4, 1)];
-    for n2 in 1..=k {
-        roads.extend([(0, n2, 1), (n2, n4, 2)]);
-    }
-    roads.extend((n4..n4 + line).map(|node| (node, node + 1, 1)));
-    let n = n4 + line + 1;
-    let points: Vec<u32> = (1..=k).collect();
-    let network = OwnedNetwork::from_roads(n, &roads);
-    Site::exact(&network, &marks(n, &points), (0, k), &mut Random::new(1))
-}
-
 /// "The verification of p1 will not prune any node. Thus, [...] lazy will continue with n4 possibly
 /// reaching numerous nodes before termination." "The lazy-EP algorithm [...] avoids such cases".
 #[test]
 fn lazy_ep_stops_in_figure_12_where_lazy_goes_on() {
     for (k, line) in [(1, 60_000), (2, 60_000), (3, 2_000), (16, 2_000)] {
-        let site = figure_12(k, line);
+        let network = figure_12(k, line);
+        let points: Vec<u32> = (1..=k).collect();
+        let marked = marks(k + line + 3, &points);
+        let site = Site::exact(&network, &marked, (0, k), &mut Random::new(1));
         assert_same(&site);
         let mut searched = site.clone();
         let listing = searched.run(lazy_ep);
-        let points: Vec<u32> = (1..=k).collect();
         assert_eq!(searched.answers.part()[..listing.length], points);
         // All nodes; and all but n4 and the line.
         let nodes = site.points.len();
@@ -85,8 +71,6 @@ fn lazy_ep_stops_in_figure_12_where_lazy_goes_on() {
     }
 }
 
-/// On no network does lazy-EP prune what must be settled: both have the same list by `tests/lazy.rs`.
-/// Here it is seen that each search prunes at all.
 #[test]
 fn both_prune_on_random_networks() {
     let mut pruned = [0, 0];

@@ -71,6 +71,19 @@ pub fn far_grid(length: u32, rows: u32, columns: u32) -> OwnedNetwork {
     weighted(length + rows * columns, &pairs, weight)
 }
 
+/// 000, Fig. 12, for any k: the site is n1 = 0. Each of the k nodes n2 = 1 to k, on which the points
+/// stand, has the roads n1-n2 of 1 and n2-n4 of 2; n3 = k + 1 has the roads n1-n3 of 3 and n3-n4 of
+/// 1. Behind n4 = k + 2 is a line of so many nodes.
+pub fn figure_12(k: u32, line: u32) -> OwnedNetwork {
+    let (n3, n4) = (k + 1, k + 2);
+    let mut roads = vec![(0, n3, 3), (n3, n4, 1)];
+    for n2 in 1..=k {
+        roads.extend([(0, n2, 1), (n2, n4, 2)]);
+    }
+    roads.extend((n4..n4 + line).map(|node| (node, node + 1, 1)));
+    OwnedNetwork::from_roads(n4 + line + 1, &roads)
+}
+
 /// This many roads around a ring of n nodes: each node to the one 1 further, then each to the one 2
 /// further, and so on. No step reaches n / 2, so no pair comes twice.
 pub fn belt(n: u32, roads: u32) -> Vec<Pair> {
