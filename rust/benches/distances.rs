@@ -55,7 +55,7 @@ fn run(name: &str, network: &OwnedNetwork, node: u32) {
 }
 
 fn main() {
-    timing::print_heading(ROUNDS);
+    timing::print_heading();
     let streets = weighted(65_535, &grid(255, 257), weight_by_product);
     run("grid of 255 x 257, from a corner", &streets, 0);
     run("grid of 255 x 257, from inside", &streets, 32_767);

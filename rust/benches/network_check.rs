@@ -28,7 +28,7 @@ fn run(name: &str, network: &OwnedNetwork) {
 }
 
 fn main() {
-    timing::print_heading(ROUNDS);
+    timing::print_heading();
     let streets = weighted(65_535, &grid(255, 257), weight_by_product);
     run("grid of 255 x 257 nodes", &streets);
     let spokes = weighted(65_535, &star(65_535, 0), weight_by_product);

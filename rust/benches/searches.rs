@@ -1,6 +1,6 @@
 //! The time of eager, lazy and lazy-EP, engine against the same algorithms in plain Rust.
 //!
-//! Run it by hand with `cargo bench --bench searches`.
+//! Run it by hand with `cargo bench --bench searches`; it takes some minutes.
 
 #[path = "../tests/common/mod.rs"]
 mod common;
@@ -15,7 +15,6 @@ use std::hint::black_box;
 
 const NODES: u32 = 65_535;
 const SITES: u32 = 24;
-const ROUNDS: usize = 5;
 /// The nodes of the line in 000, Fig. 12.
 const LINE: u32 = 60_000;
 
@@ -79,14 +78,14 @@ impl Lent {
 }
 
 /// Times a call for each of the sites; all are accepted.
-fn run(name: &str, search: &Search, read: Read<'_>) {
+fn run(name: &str, rounds: usize, search: &Search, read: Read<'_>) {
     let (mut engine, mut twin) = (Lent::new(read), Lent::new(read));
     let listings = engine.run(search.engine, read);
     assert_eq!(listings, twin.run(search.twin, read));
     assert!(listings.iter().all(|listing| listing.number == 0));
     assert!(engine.answers == twin.answers && engine.scratch == twin.scratch);
     let times = timing::compare(
-        ROUNDS,
+        rounds,
         || drop(engine.run(search.engine, black_box(read))),
         || drop(twin.run(search.twin, black_box(read))),
     );
@@ -98,7 +97,7 @@ fn run_grid() {
     let streets = weighted(NODES, &grid(255, 257), weight_by_product);
     let points: Vec<u8> = (0..NODES).map(|p| u8::from(p % 100 == 0)).collect();
     let sites: Vec<u32> = (0..SITES).map(|i| (i * 2_731 + 17) % NODES).collect();
-    for k in [1, 4, 16] {
+    for (k, rounds) in [(1, 11), (4, 11), (16, 3)] {
         let read = Read {
             network: streets.lend(),
             points: &points,
@@ -106,7 +105,7 @@ fn run_grid() {
             k,
         };
         for search in SEARCHES {
-            run(&format!("{SITES} sites, k = {k}"), &search, read);
+            run(&format!("{SITES} sites, k = {k}"), rounds, &search, read);
         }
     }
 }
@@ -121,12 +120,12 @@ fn run_line() {
         k: 1,
     };
     for search in SEARCHES {
-        run(&format!("{SITES} times Fig. 12"), &search, read);
+        run(&format!("{SITES} times Fig. 12"), 11, &search, read);
     }
 }
 
 fn main() {
-    timing::print_heading(ROUNDS);
+    timing::print_heading();
     run_line();
     run_grid();
 }

@@ -302,6 +302,7 @@ mod random {
                 for search in [EAGER, lazy, lazy_ep] {
                     let mut site = site.clone();
                     let listing = site.run(search);
+                    assert_eq!(listing.number, 0, "{network:?}");
                     assert_eq!(site.answers.part()[..listing.length], list, "{network:?}");
                 }
             }
@@ -323,7 +324,7 @@ mod exhaustive {
     }
 }
 
-/// "Equal distances [...]. Lazy counts a verification's visit at an equal distance and prunes a node
+/// Where searches slip: "Lazy counts a verification's visit at an equal distance and prunes a node
 /// that must be expanded."
 mod equal_distances {
     use super::*;
@@ -376,7 +377,7 @@ mod equal_distances {
         let mut back = there.clone();
         random.shuffle(&mut back);
         let weights = [there, back].concat();
-        // The road between node i and the next one has weight i, and the last joins node 0.
+        // Road i leads from node i to the next one, the last road to node 0.
         weighted(2 * half, &ring(2 * half), |a, _| weights[a as usize])
     }
 

@@ -4,15 +4,15 @@ use std::time::Instant;
 
 /// The median times of the two, in milliseconds.
 pub struct Times {
+    rounds: usize,
     pub engine: f64,
     pub plain: f64,
 }
 
-/// Times each once a round; the one that goes first changes from round to round.
+/// Times each once a round; the one that goes first changes from round to round. Both have run
+/// before.
 pub fn compare(rounds: usize, mut engine: impl FnMut(), mut plain: impl FnMut()) -> Times {
     let (mut engine_times, mut plain_times) = (Vec::new(), Vec::new());
-    engine();
-    plain();
     for round in 0..rounds {
         if round % 2 == 0 {
             engine_times.push(milliseconds(&mut engine));
@@ -23,6 +23,7 @@ pub fn compare(rounds: usize, mut engine: impl FnMut(), mut plain: impl FnMut())
         }
     }
     Times {
+        rounds,
         engine: median(engine_times),
         plain: median(plain_times),
     }
@@ -39,20 +40,20 @@ fn median(mut times: Vec<f64>) -> f64 {
     times[times.len() / 2]
 }
 
-pub fn print_heading(rounds: usize) {
+pub fn print_heading() {
+    println!("medians, engine and plain Rust in turn; ratio is engine / plain Rust");
     println!(
-        "median of {rounds} runs, engine and plain Rust in turn; ratio is engine / plain Rust"
-    );
-    println!(
-        "{:<32} {:>12} {:>12} {:>8}",
-        "", "engine", "plain Rust", "ratio"
+        "{:<32} {:>4} {:>12} {:>12} {:>8}",
+        "", "runs", "engine", "plain Rust", "ratio"
     );
 }
 
 pub fn print_row(name: &str, times: &Times) {
-    let ratio = times.engine / times.plain;
-    println!(
-        "{name:<32} {:>9.3} ms {:>9.3} ms {ratio:>8.2}",
-        times.engine, times.plain
-    );
+    let Times {
+        rounds,
+        engine,
+        plain,
+    } = times;
+    let ratio = engine / plain;
+    println!("{name:<32} {rounds:>4} {engine:>9.3} ms {plain:>9.3} ms {ratio:>8.2}");
 }
