@@ -20,6 +20,8 @@
 typedef struct { uint32_t number, count; size_t length; } overlap_listing;
 /* number 0 and yes (1) or no (0) */
 typedef struct { uint32_t number, yes; } overlap_verdict;
+/* number 0 and how many rows changed */
+typedef struct { uint32_t number, changed; } overlap_update;
 
 #define OVERLAP_NETWORK                                   \
     const uint32_t *starts, size_t starts_len,            \
@@ -27,6 +29,9 @@ typedef struct { uint32_t number, yes; } overlap_verdict;
     const uint32_t *weights, size_t weights_len
 
 #define OVERLAP_POINTS const uint8_t *points, size_t points_len
+#define OVERLAP_TABLE                                     \
+    const uint32_t *ids, size_t ids_len,                  \
+    const uint32_t *distances, size_t distances_len
 #define OVERLAP_SCRATCH uint32_t *scratch, size_t scratch_len
 #define OVERLAP_ANSWERS uint32_t *answers, size_t answers_len
 
@@ -41,5 +46,11 @@ overlap_listing overlap_eager(OVERLAP_NETWORK, OVERLAP_POINTS, uint32_t q, uint3
 overlap_listing overlap_short_query(OVERLAP_NETWORK, OVERLAP_POINTS, uint32_t q, OVERLAP_SCRATCH, OVERLAP_ANSWERS);
 overlap_listing overlap_lazy(OVERLAP_NETWORK, OVERLAP_POINTS, uint32_t q, uint32_t k, OVERLAP_SCRATCH, OVERLAP_ANSWERS);
 overlap_listing overlap_lazy_ep(OVERLAP_NETWORK, OVERLAP_POINTS, uint32_t q, uint32_t k, OVERLAP_SCRATCH, OVERLAP_ANSWERS);
+
+uint32_t overlap_build(OVERLAP_NETWORK, OVERLAP_POINTS, uint32_t places, OVERLAP_SCRATCH,
+                       uint32_t *ids, size_t ids_len, uint32_t *distances, size_t distances_len);
+overlap_update overlap_insert(OVERLAP_NETWORK, uint8_t *points, size_t points_len, uint32_t node, uint32_t places,
+                        OVERLAP_SCRATCH, uint32_t *ids, size_t ids_len, uint32_t *distances, size_t distances_len);
+overlap_verdict overlap_table_check(OVERLAP_NETWORK, OVERLAP_POINTS, uint32_t places, OVERLAP_TABLE);
 
 #endif

@@ -1,6 +1,6 @@
 //! From the answer of a call to a `Result`.
 
-use crate::{accepted, Listing, Refusal, Verdict};
+use crate::{accepted, Listing, Refusal, Update, Verdict};
 
 impl Listing {
     /// The listing of an accepted call.
@@ -37,5 +37,23 @@ impl Verdict {
     /// The refusal, where the number is not 0.
     pub fn accepted(self) -> Result<bool, Refusal> {
         accepted(self.number).map(|()| self.yes == 1)
+    }
+}
+
+impl Update {
+    /// The number of rows that an accepted call changed.
+    ///
+    /// ```
+    /// use overlap::Update;
+    ///
+    /// assert_eq!(Update { number: 0, changed: 4 }.accepted(), Ok(4));
+    /// assert!(Update { number: 11, changed: 0 }.accepted().is_err());
+    /// ```
+    ///
+    /// # Errors
+    ///
+    /// The refusal, where the number is not 0.
+    pub fn accepted(self) -> Result<u32, Refusal> {
+        accepted(self.number).map(|()| self.changed)
     }
 }

@@ -33,6 +33,20 @@ pub struct Verdict {
     pub yes: u32,
 }
 
+/// The answer of a call that changes a table: `overlap_update` of `overlap.h`.
+///
+/// Document 01: "each brings the table up to date and returns the number of rows whose contents
+/// differ before and after". "A refusal returns its number, count 0 and no".
+#[repr(C)]
+#[must_use]
+#[derive(Clone, Copy, Debug, Default, PartialEq, Eq)]
+pub struct Update {
+    /// 0, or the number of the refusal.
+    pub number: u32,
+    /// The rows that changed; 0 on a refusal.
+    pub changed: u32,
+}
+
 /// The form that lazy and lazy-EP share.
 pub(crate) type Search = unsafe extern "C" fn(
     starts: *const u32,
@@ -50,6 +64,26 @@ pub(crate) type Search = unsafe extern "C" fn(
     answers: *mut u32,
     answers_len: usize,
 ) -> Listing;
+
+/// The form of a call that changes a table.
+pub(crate) type Change = unsafe extern "C" fn(
+    starts: *const u32,
+    starts_len: usize,
+    neighbours: *const u32,
+    neighbours_len: usize,
+    weights: *const u32,
+    weights_len: usize,
+    points: *mut u8,
+    points_len: usize,
+    node: u32,
+    places: u32,
+    scratch: *mut u32,
+    scratch_len: usize,
+    ids: *mut u32,
+    ids_len: usize,
+    distances: *mut u32,
+    distances_len: usize,
+) -> Update;
 
 extern "C" {
     /// Reads the three arrays and writes nothing.
@@ -186,4 +220,60 @@ extern "C" {
         answers: *mut u32,
         answers_len: usize,
     ) -> Listing;
+
+    /// Writes `scratch`, `ids` and `distances`.
+    pub(crate) fn overlap_build(
+        starts: *const u32,
+        starts_len: usize,
+        neighbours: *const u32,
+        neighbours_len: usize,
+        weights: *const u32,
+        weights_len: usize,
+        points: *const u8,
+        points_len: usize,
+        places: u32,
+        scratch: *mut u32,
+        scratch_len: usize,
+        ids: *mut u32,
+        ids_len: usize,
+        distances: *mut u32,
+        distances_len: usize,
+    ) -> u32;
+
+    /// Writes `points`, `scratch`, `ids` and `distances`.
+    pub(crate) fn overlap_insert(
+        starts: *const u32,
+        starts_len: usize,
+        neighbours: *const u32,
+        neighbours_len: usize,
+        weights: *const u32,
+        weights_len: usize,
+        points: *mut u8,
+        points_len: usize,
+        node: u32,
+        places: u32,
+        scratch: *mut u32,
+        scratch_len: usize,
+        ids: *mut u32,
+        ids_len: usize,
+        distances: *mut u32,
+        distances_len: usize,
+    ) -> Update;
+
+    /// Reads all arrays and writes nothing.
+    pub(crate) fn overlap_table_check(
+        starts: *const u32,
+        starts_len: usize,
+        neighbours: *const u32,
+        neighbours_len: usize,
+        weights: *const u32,
+        weights_len: usize,
+        points: *const u8,
+        points_len: usize,
+        places: u32,
+        ids: *const u32,
+        ids_len: usize,
+        distances: *const u32,
+        distances_len: usize,
+    ) -> Verdict;
 }

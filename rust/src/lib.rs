@@ -4,13 +4,14 @@
 //! lockers a site receives. It is written in Rattle and proved: each call of it meets a contract
 //! that says what document 01, the requirements of the build, says. This crate lends Rust slices to
 //! the engine's static library `liboverlap.a` and hands back its answers. Of the engine's calls it
-//! has the [network check](network_check), [distances], [nearest], [verify], and the searches
-//! [eager] with its [short query](short_query), [lazy] and [lazy-EP](lazy_ep).
+//! has the [network check](network_check), [distances], [nearest], [verify], the searches [eager]
+//! with its [short query](short_query), [lazy] and [lazy-EP](lazy_ep), and for a table of nearest
+//! points [build], [insert] and the [table check](table_check).
 //!
 //! Each item below quotes the sentence of document 01 that it is. No call asks anything of its
 //! input: bad input is refused by a number, and [`meaning`] gives the condition that the number
-//! stands for. A call answers its number alone, a [`Listing`] or a [`Verdict`], as the engine
-//! returns it; [`accepted`] and the methods of that name make a `Result` of it.
+//! stands for. A call answers its number alone, a [`Listing`], a [`Verdict`] or an [`Update`], as
+//! the engine returns it; [`accepted`] and the methods of that name make a `Result` of it.
 //!
 //! The engine allocates nothing. A call that needs working space is lent it as scratch, whose
 //! length [`scratch_len`] gives; the arrays for its answers are lent as well.
@@ -43,16 +44,18 @@ mod nearest;
 mod network;
 mod refusal;
 mod scratch;
+mod table;
 mod verify;
 
 pub use distances::distances;
 pub use eager::{eager, short_query};
-pub use ffi::{Listing, Verdict};
+pub use ffi::{Listing, Update, Verdict};
 pub use lazy::{lazy, lazy_ep};
 pub use nearest::{nearest, Found};
 pub use network::{network_check, Network};
 pub use refusal::{accepted, meaning, Refusal};
 pub use scratch::scratch_len;
+pub use table::{build, insert, table_check, Table, TableMut};
 pub use verify::verify;
 
 /// Document 01: "NONE = 4,294,967,295 is an associated constant of the distance and stands for
