@@ -1,5 +1,5 @@
 //! Shows network N of document 01 to the engine: its check, whole and then damaged in five ways, and
-//! its distances, nearest points, verdicts and lists.
+//! its distances, nearest points, verdicts, lists and table.
 //!
 //! Run it with `cargo run --release --example network_n`. It ends with an error if an answer is not
 //! the one that document 01 gives.
@@ -8,6 +8,7 @@
 mod common;
 
 use common::network::{network_n, OwnedNetwork, N_NODES, N_POINTS, N_ROADS};
+use overlap::{build, insert, table_check, Table, TableMut};
 use overlap::{distances, eager, lazy, lazy_ep, nearest, network_check, verify};
 use overlap::{meaning, scratch_len, Found, Listing, NONE};
 use std::process::ExitCode;
@@ -201,6 +202,59 @@ fn print_lists(network: &OwnedNetwork) -> bool {
     right
 }
 
+/// An entry of a row as document 01 writes it.
+fn entry_text(id: u32, distance: u32) -> String {
+    if id == NONE {
+        "(NONE, NONE)".to_string()
+    } else {
+        format!("({id}, {distance})")
+    }
+}
+
+/// The rows of a table with K = 2.
+fn row_texts(ids: &[u32], distances: &[u32]) -> Vec<String> {
+    let entries = ids.iter().zip(distances);
+    let texts: Vec<String> = entries.map(|(&p, &d)| entry_text(p, d)).collect();
+    texts.chunks(2).map(|row| row.join(", ")).collect()
+}
+
+/// Prints the table with K = 2 as it is built and behind the insertion of node 0, and returns whether
+/// P8 to P10 come out and the check says yes.
+fn print_table(network: &OwnedNetwork) -> bool {
+    let lent = network.lend();
+    let mut points = point_bytes();
+    let mut scratch = vec![0; scratch_len(lent, 2)];
+    let (mut ids, mut far) = ([0; 12], [0; 12]);
+    let number = build(lent, &points, &mut scratch, table_of(&mut ids, &mut far));
+    let built = row_texts(&ids, &far);
+    let table = table_of(&mut ids, &mut far);
+    let update = insert(lent, &mut points, 0, &mut scratch, table);
+    let inserted = row_texts(&ids, &far);
+    println!("row    the table, K = 2       after insert 0");
+    for (node, (before, after)) in built.iter().zip(&inserted).enumerate() {
+        println!("{node:<6} {before:<22} {after}");
+    }
+    println!("rows changed: {}", update.changed);
+    let table = Table {
+        places: 2,
+        ids: &ids,
+        distances: &far,
+    };
+    let verdict = table_check(lent, &points, table);
+    let rows = [&built[0], &built[5], &inserted[2]];
+    let right = rows == ["(2, 7), (4, 8)", "(5, 0), (NONE, NONE)", "(2, 0), (0, 7)"];
+    right && number == 0 && (update.number, update.changed) == (0, 4) && verdict.yes == 1
+}
+
+/// A table with K = 2.
+fn table_of<'a>(ids: &'a mut [u32], distances: &'a mut [u32]) -> TableMut<'a> {
+    TableMut {
+        places: 2,
+        ids,
+        distances,
+    }
+}
+
 fn print_variants() -> bool {
     println!("{:<34} {:^6}  meaning", "what is changed", "number");
     let right = VARIANTS.iter().filter(|variant| print_answer(variant));
@@ -217,8 +271,10 @@ fn main() -> ExitCode {
     println!();
     let lists_right = print_lists(&network);
     println!();
+    let table_right = print_table(&network);
+    println!();
     let variants_right = print_variants();
-    if nodes_right && verdicts_right && lists_right && variants_right {
+    if nodes_right && verdicts_right && lists_right && table_right && variants_right {
         ExitCode::SUCCESS
     } else {
         ExitCode::FAILURE

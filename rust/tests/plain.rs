@@ -4,14 +4,15 @@
 mod common;
 
 use common::all_pairs::AllPairs;
-use common::inputs::{some_k, some_node, some_points};
+use common::inputs::{some_k, some_node, some_places, some_points};
 use common::nearest_rows::NearestRows;
 use common::network::{marks, network_n, OwnedNetwork, N_NODES, N_POINTS};
 use common::numbers::plain_scratch_len;
 use common::random::Random;
 use common::rows::{relaxed_row, row_of};
 use common::shapes::random_network;
-use overlap::{accepted, meaning, scratch_len, Listing, Network, Verdict, NONE};
+use common::table::PlainTable;
+use overlap::{accepted, meaning, scratch_len, Listing, Network, Update, Verdict, NONE};
 
 /// The cases of document 01.
 mod cases {
@@ -69,6 +70,17 @@ mod cases {
         let changed = (0..N_NODES).filter(|&node| row(&points, node) != row(&inserted, node));
         assert_eq!(changed.count(), 4);
     }
+
+    #[test]
+    fn p8_to_p10_by_the_table() {
+        let (pairs, points) = (pairs_of_n(), marks(N_NODES, &N_POINTS));
+        let table = PlainTable::of(&pairs, &points, 2);
+        assert_eq!(table.row(0), [(2, 7), (4, 8)]);
+        assert_eq!(table.row(5), [(5, 0), (NONE, NONE)]);
+        let inserted = PlainTable::of(&pairs, &marks(N_NODES, &[0, 2, 4, 5]), 2);
+        assert_eq!(inserted.row(2), [(2, 0), (0, 7)]);
+        assert_eq!(table.changed(&inserted), 4);
+    }
 }
 
 /// The distances of one node.
@@ -111,6 +123,23 @@ mod nearest_rows {
             assert_eq!(list, pairs.plain_listed(&points, q, k), "{network:?}");
             let count = nearest.expanded(pairs.row(q), k);
             assert_eq!(count, pairs.plain_expanded(&points, q, k), "{network:?}");
+        }
+    }
+}
+
+/// The table.
+mod tables {
+    use super::*;
+
+    #[test]
+    fn by_relaxation_are_those_by_all_pairs() {
+        for seed in 0..2_000 {
+            let mut random = Random::new(seed);
+            let network = random_network(&mut random);
+            let pairs = AllPairs::of(network.lend());
+            let (points, places) = (some_points(&network, &mut random), some_places(&mut random));
+            let table = PlainTable::of(&pairs, &points, places);
+            assert_eq!(table, PlainTable::of_large(&network, &points, places));
         }
     }
 }
@@ -171,6 +200,9 @@ mod answers {
         for (yes, answer) in [(0, false), (1, true)] {
             assert_eq!(Verdict { number: 0, yes }.accepted(), Ok(answer));
         }
+        for changed in [0, 4] {
+            assert_eq!(Update { number: 0, changed }.accepted(), Ok(changed));
+        }
     }
 
     #[test]
@@ -185,6 +217,7 @@ mod answers {
             };
             assert_eq!(listing.accepted(), Err(refusal));
             assert_eq!(Verdict { number, yes: 0 }.accepted(), Err(refusal));
+            assert_eq!(Update { number, changed: 0 }.accepted(), Err(refusal));
         }
     }
 }

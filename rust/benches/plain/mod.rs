@@ -12,9 +12,11 @@ mod lazy_ep;
 mod network_check;
 mod queue;
 mod site;
+mod table;
 
 pub use distances::distances;
 pub use eager::eager;
 pub use lazy::{lazy, lazy_and_settled};
 pub use lazy_ep::{lazy_ep, lazy_ep_and_settled};
 pub use network_check::network_check;
+pub use table::{build, insert};

@@ -12,14 +12,27 @@ pub struct Times {
 /// Times each once a round; the one that goes first changes from round to round. Both have run
 /// before.
 pub fn compare(rounds: usize, mut engine: impl FnMut(), mut plain: impl FnMut()) -> Times {
+    compare_timed(
+        rounds,
+        || milliseconds(&mut engine),
+        || milliseconds(&mut plain),
+    )
+}
+
+/// The same for two that return their own times, in milliseconds.
+pub fn compare_timed(
+    rounds: usize,
+    mut engine: impl FnMut() -> f64,
+    mut plain: impl FnMut() -> f64,
+) -> Times {
     let (mut engine_times, mut plain_times) = (Vec::new(), Vec::new());
     for round in 0..rounds {
         if round % 2 == 0 {
-            engine_times.push(milliseconds(&mut engine));
-            plain_times.push(milliseconds(&mut plain));
+            engine_times.push(engine());
+            plain_times.push(plain());
         } else {
-            plain_times.push(milliseconds(&mut plain));
-            engine_times.push(milliseconds(&mut engine));
+            plain_times.push(plain());
+            engine_times.push(engine());
         }
     }
     Times {
@@ -29,7 +42,7 @@ pub fn compare(rounds: usize, mut engine: impl FnMut(), mut plain: impl FnMut())
     }
 }
 
-fn milliseconds(work: &mut impl FnMut()) -> f64 {
+pub fn milliseconds(work: &mut impl FnMut()) -> f64 {
     let start = Instant::now();
     work();
     start.elapsed().as_secs_f64() * 1e3

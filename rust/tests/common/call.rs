@@ -22,6 +22,9 @@ pub trait Call: Clone + 'static {
     /// Faults of each condition that the call tests beyond those of the network and of scratch.
     const OWN_FAULTS: &'static [(u32, Fault<Self>)];
 
+    /// Whether the call is lent scratch. "Both checks have no scratch."
+    const HAS_SCRATCH: bool = true;
+
     /// A call that is accepted, with arrays that are long enough.
     fn random(network: &OwnedNetwork, pairs: &AllPairs, random: &mut Random) -> Self;
 
@@ -56,6 +59,9 @@ pub trait Call: Clone + 'static {
 
     /// The numbers asked for, in words, for the message of a failed test.
     fn asked(&self) -> String;
+
+    /// Brings in line what belongs together, where damage has left a call that is accepted.
+    fn mend(&mut self) {}
 
     /// Counts what makes an accepted call telling.
     fn tally(&self, tally: &mut Tally, pairs: &AllPairs);
@@ -121,8 +127,10 @@ fn faults<C: Call>() -> Vec<(u32, Fault<C>)> {
         (3, |c, _| NETWORK_FAULTS[2](c.network_mut())),
         (4, |c, _| NETWORK_FAULTS[3](c.network_mut())),
         (5, |c, _| NETWORK_FAULTS[4](c.network_mut())),
-        (10, shorten_scratch),
     ];
+    if C::HAS_SCRATCH {
+        faults.push((10, shorten_scratch));
+    }
     faults.extend(C::OWN_FAULTS);
     faults.sort_by_key(|fault| fault.0);
     faults
@@ -153,6 +161,7 @@ fn faulty<C: Call>(network: &OwnedNetwork, pairs: &AllPairs, random: &mut Random
     }
     let times = random.pick(&[0, 0, 1, 2]);
     damage(call.network_mut(), times, random);
+    call.mend();
     call
 }
 
@@ -171,7 +180,9 @@ fn try_network<C: Call>(seed: u64, tally: &mut Tally) {
     let pairs = AllPairs::of(network.lend());
     for _ in 0..CALLS_OF_A_NETWORK {
         let call = C::random(&network, &pairs, &mut random);
-        tally_scratch(&call, tally);
+        if C::HAS_SCRATCH {
+            tally_scratch(&call, tally);
+        }
         call.tally(tally, &pairs);
         let outcome = call.accepted_by(&pairs);
         assert_outcome(call, &outcome);
@@ -191,7 +202,11 @@ pub fn assert_random_calls<C: Call>(numbers: &[u32], names: &[&str]) -> Tally {
     }
     tally.print();
     tally.assert_numbers(LEAST_OF_EACH, numbers);
-    for name in [names, &["scratch of S words", "longer scratch"]].concat() {
+    let of_scratch: &[&str] = match C::HAS_SCRATCH {
+        true => &["scratch of S words", "longer scratch"],
+        false => &[],
+    };
+    for name in [names, of_scratch].concat() {
         tally.assert_at_least(LEAST_OF_EACH, name);
     }
     tally

@@ -47,6 +47,19 @@ pub fn no_k(random: &mut Random) -> u32 {
     random.pick(&[0, 0, 17, 17, 18, 32, wrap, u32::MAX, large])
 }
 
+/// A K from 2 to 17, small ones more often.
+pub fn some_places(random: &mut Random) -> u32 {
+    let most = random.pick(&[2, 4, 17, 17]);
+    random.between(2, most)
+}
+
+/// 8: "K not 2 to 17".
+pub fn no_places(random: &mut Random) -> u32 {
+    let large = random.between(18, u32::MAX);
+    let wrap = random.pick(&[(1 << 16) + 2, (1 << 28) + 2, (1 << 29) + 2, (1 << 31) + 2]);
+    random.pick(&[0, 1, 1, 18, 18, 19, 34, wrap, u32::MAX, large])
+}
+
 /// Points of any density, from none to all.
 pub fn some_points(network: &OwnedNetwork, random: &mut Random) -> Vec<u8> {
     let n = network.starts.len() - 1;

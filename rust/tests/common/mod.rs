@@ -6,6 +6,7 @@
 
 pub mod all_pairs;
 pub mod call;
+pub mod change;
 pub mod damage;
 pub mod faults;
 pub mod inputs;
@@ -18,4 +19,6 @@ pub mod random;
 pub mod rows;
 pub mod shapes;
 pub mod site;
+pub mod table;
+pub mod table_damage;
 pub mod tally;

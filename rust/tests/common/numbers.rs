@@ -96,6 +96,50 @@ pub fn search_number(
     }
 }
 
+/// What the conditions are asked of a table: its K and the lengths of ids and distances.
+pub type TableSizes = (u32, [usize; 2]);
+
+/// Table check: the conditions 1 to 6 and 8.
+pub fn table_check_number(network: Network<'_>, points: &[u8], table: TableSizes) -> u32 {
+    match points_number(network, points) {
+        0 if is_no_table(network, table) => 8,
+        number => number,
+    }
+}
+
+/// Build: the conditions 1 to 6, 8 and 10. Scratch is given by its length.
+pub fn build_number(network: Network<'_>, points: &[u8], table: TableSizes, scratch: usize) -> u32 {
+    match table_check_number(network, points, table) {
+        0 if scratch < plain_scratch_len(network, table.0) => 10,
+        number => number,
+    }
+}
+
+/// Insert, which gives its node the mark 1, and remove, which gives it 0: the conditions 1 to 8, 10
+/// and 11. Scratch is given by its length.
+pub fn change_number(
+    network: Network<'_>,
+    points: &[u8],
+    (node, mark): (u32, u8),
+    table: TableSizes,
+    scratch: usize,
+) -> u32 {
+    let of_points = points_number(network, points);
+    if of_points != 0 {
+        of_points
+    } else if is_no_node(network, node) {
+        7
+    } else if is_no_table(network, table) {
+        8
+    } else if scratch < plain_scratch_len(network, table.0) {
+        10
+    } else if points[node as usize] == mark {
+        11
+    } else {
+        0
+    }
+}
+
 /// The first condition met of 1 to 6, or 0.
 fn points_number(network: Network<'_>, points: &[u8]) -> u32 {
     let of_network = plain_check(network);
@@ -111,6 +155,12 @@ fn points_number(network: Network<'_>, points: &[u8]) -> u32 {
 /// 7: "a node given is n or more".
 fn is_no_node(network: Network<'_>, node: u32) -> bool {
     node as usize >= node_count(network)
+}
+
+/// 8: "K not 2 to 17, or a table array not n × K long".
+fn is_no_table(network: Network<'_>, (places, lengths): TableSizes) -> bool {
+    let is_wrong = |&length| length != node_count(network) * places as usize;
+    !(2..=17).contains(&places) || lengths.iter().any(is_wrong)
 }
 
 /// 9: "k is 0 or above 16".

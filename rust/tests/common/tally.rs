@@ -30,6 +30,11 @@ impl Tally {
         self.add(&k_name(k));
     }
 
+    /// Counts a call by its K.
+    pub fn add_places(&mut self, places: u32) {
+        self.add(&places_name(places));
+    }
+
     pub fn assert_at_least(&self, least: usize, name: &str) {
         let count = self.counts.get(name).copied().unwrap_or(0);
         assert!(count >= least, "{name}: {count} of at least {least}");
@@ -49,6 +54,13 @@ impl Tally {
         }
     }
 
+    /// Sees that each K from 2 to 17 came often enough.
+    pub fn assert_each_places(&self, least: usize) {
+        for places in 2..=17 {
+            self.assert_at_least(least, &places_name(places));
+        }
+    }
+
     pub fn print(&self) {
         for (name, count) in &self.counts {
             println!("{count:>9} {name}");
@@ -62,4 +74,8 @@ fn number_name(number: u32) -> String {
 
 fn k_name(k: u32) -> String {
     format!("k {k:>2}")
+}
+
+fn places_name(places: u32) -> String {
+    format!("K {places:>2}")
 }

@@ -1,0 +1,159 @@
+//! The table: build and insert, and the checks of all its calls.
+//!
+//! Words of scratch of build: the length of each row n, queue 2 × (n + K × A). The tag of an entry is
+//! its point and then its node. Those of insert: an area.
+
+use super::area::Area;
+use super::network_check;
+use super::queue::{Entry, Queue};
+use overlap::{Network, TableMut, Update, NONE};
+
+#[inline(never)]
+pub fn build(
+    network: Network<'_>,
+    points: &[u8],
+    scratch: &mut [u32],
+    mut table: TableMut<'_>,
+) -> u32 {
+    let number = number_of(network, points, None, scratch.len(), &table);
+    if number == 0 {
+        let (n, arcs) = (points.len(), network.neighbours.len());
+        let used = n + 2 * (n + table.places as usize * arcs);
+        scratch[..used].fill(0);
+        table.ids.fill(NONE);
+        table.distances.fill(NONE);
+        spread(network, points, &mut scratch[..used], &mut table);
+        scratch.fill(0);
+    }
+    number
+}
+
+#[inline(never)]
+pub fn insert(
+    network: Network<'_>,
+    points: &mut [u8],
+    node: u32,
+    scratch: &mut [u32],
+    mut table: TableMut<'_>,
+) -> Update {
+    let number = number_of(network, points, Some((node, 1)), scratch.len(), &table);
+    if number != 0 {
+        return Update { number, changed: 0 };
+    }
+    let used = 2 * points.len() + 2 * (network.neighbours.len() + 1);
+    scratch[..used].fill(0);
+    let changed = expand(network, node, &mut scratch[..used], &mut table);
+    points[node as usize] = 1;
+    scratch.fill(0);
+    Update { number, changed }
+}
+
+/// The first condition met of 1 to 6, 7 where a node is given, 8, 10, and 11 where the node's mark is
+/// the one given with it.
+pub fn number_of(
+    network: Network<'_>,
+    points: &[u8],
+    node: Option<(u32, u8)>,
+    scratch: usize,
+    table: &TableMut<'_>,
+) -> u32 {
+    let of_network = network_check(network);
+    if of_network != 0 {
+        return of_network;
+    }
+    let (n, arcs) = (network.starts.len() - 1, network.neighbours.len());
+    let places = table.places as usize;
+    if points.len() != n || points.iter().any(|&byte| byte > 1) {
+        6
+    } else if node.is_some_and(|(node, _)| node as usize >= n) {
+        7
+    } else if !(2..=17).contains(&places)
+        || table.ids.len() != n * places
+        || table.distances.len() != n * places
+    {
+        8
+    } else if scratch < 16 * n + 8 * (arcs + n) * places {
+        10
+    } else if node.is_some_and(|(node, mark)| points[node as usize] == mark) {
+        11
+    } else {
+        0
+    }
+}
+
+/// Offers each point to its own row. The least offer is taken out; a row that has a free place and
+/// lacks the point takes it, and the neighbours are offered it. The words are all zero and all places
+/// of the table empty.
+fn spread(network: Network<'_>, points: &[u8], words: &mut [u32], table: &mut TableMut<'_>) {
+    let (lengths, words) = words.split_at_mut(points.len());
+    let mut queue = Queue::new(words);
+    for (p, &mark) in (0..).zip(points) {
+        if mark == 1 {
+            queue.push(Entry::new(0, p, p));
+        }
+    }
+    while let Some(entry) = queue.pop() {
+        let (p, node) = (entry.first() as u32, entry.second());
+        if append(table, &mut lengths[node], node, p, entry.distance) {
+            let arcs = network.starts[node] as usize..network.starts[node + 1] as usize;
+            let weights = &network.weights[arcs.clone()];
+            for (&to, &weight) in network.neighbours[arcs].iter().zip(weights) {
+                queue.push(Entry::new(entry.distance + weight, p, to));
+            }
+        }
+    }
+}
+
+/// Puts the point behind the entries of a row that has a free place and lacks it.
+fn append(table: &mut TableMut<'_>, length: &mut u32, node: usize, p: u32, distance: u32) -> bool {
+    let places = table.places as usize;
+    let (ids, distances) = row(table, node);
+    let taken = *length as usize;
+    if taken == places || ids[..taken].contains(&p) {
+        return false;
+    }
+    ids[taken] = p;
+    distances[taken] = distance;
+    *length += 1;
+    true
+}
+
+/// A node's row of ids and distances.
+pub fn row<'a>(table: &'a mut TableMut<'_>, node: usize) -> (&'a mut [u32], &'a mut [u32]) {
+    let places = table.places as usize;
+    let part = node * places..(node + 1) * places;
+    (&mut table.ids[part.clone()], &mut table.distances[part])
+}
+
+/// Expands from the new point as far as rows take it, and returns how many do. The words are all zero.
+fn expand(network: Network<'_>, node: u32, words: &mut [u32], table: &mut TableMut<'_>) -> u32 {
+    let mut area = Area::start(words, network, node);
+    let mut changed = 0;
+    while let Some(entry) = area.next() {
+        let taken = put(table, entry.node(), node, entry.distance);
+        area.settle(entry);
+        if taken {
+            changed += 1;
+            area.open(network, entry);
+        }
+    }
+    area.clear();
+    changed
+}
+
+/// Puts the point into a row in front of what comes behind it; the last entry drops.
+fn put(table: &mut TableMut<'_>, node: usize, p: u32, distance: u32) -> bool {
+    let (ids, distances) = row(table, node);
+    let mut entries = ids.iter().zip(distances.iter());
+    let Some(place) = entries.position(|(&id, &far)| (distance, p) < (far, id)) else {
+        return false;
+    };
+    put_at(ids, place, p);
+    put_at(distances, place, distance);
+    true
+}
+
+fn put_at(row: &mut [u32], place: usize, word: u32) {
+    row.copy_within(place..row.len() - 1, place + 1);
+    row[place] = word;
+}
