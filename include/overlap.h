@@ -6,8 +6,6 @@
  *
  * A call that answers a number alone returns it. The others return a struct by value, all of whose
  * fields but `number` are 0 on a refusal.
- *
- * Only the calls that the library has stand here; the others of the fixed interface come with their proofs.
  */
 #ifndef OVERLAP_H
 #define OVERLAP_H
@@ -51,6 +49,10 @@ uint32_t overlap_build(OVERLAP_NETWORK, OVERLAP_POINTS, uint32_t places, OVERLAP
                        uint32_t *ids, size_t ids_len, uint32_t *distances, size_t distances_len);
 overlap_update overlap_insert(OVERLAP_NETWORK, uint8_t *points, size_t points_len, uint32_t node, uint32_t places,
                         OVERLAP_SCRATCH, uint32_t *ids, size_t ids_len, uint32_t *distances, size_t distances_len);
+overlap_update overlap_remove(OVERLAP_NETWORK, uint8_t *points, size_t points_len, uint32_t node, uint32_t places,
+                        OVERLAP_SCRATCH, uint32_t *ids, size_t ids_len, uint32_t *distances, size_t distances_len);
+overlap_listing overlap_table_query(OVERLAP_NETWORK, OVERLAP_POINTS, uint32_t q, uint32_t k, uint32_t places,
+                             OVERLAP_TABLE, OVERLAP_SCRATCH, OVERLAP_ANSWERS);
 overlap_verdict overlap_table_check(OVERLAP_NETWORK, OVERLAP_POINTS, uint32_t places, OVERLAP_TABLE);
 
 #endif

@@ -1,4 +1,4 @@
-//! The time of build and insert, engine against the same algorithms in plain Rust.
+//! The time of build, insert and remove, engine against the same algorithms in plain Rust.
 //!
 //! Run it by hand with `cargo bench --bench table`.
 
@@ -9,7 +9,7 @@ mod timing;
 
 use common::change::ChangeCall;
 use common::shapes::{grid, weight_by_product, weighted};
-use overlap::{build, insert, scratch_len, Network, TableMut, Update};
+use overlap::{build, insert, remove, scratch_len, Network, TableMut, Update};
 use std::hint::black_box;
 
 const ROUNDS: usize = 41;
@@ -147,8 +147,14 @@ fn main() {
     let streets = weighted(SIDE * SIDE, &grid(SIDE, SIDE), weight_by_product);
     let network = streets.lend();
     timing::print_heading();
-    let (_, built) = run_build(network);
+    let (build_time, built) = run_build(network);
     let name = format!("insert, mean of {INSERTED}");
     let calls = (insert as ChangeCall, plain::insert as ChangeCall);
     run_changes(&name, calls, network, &unmarked(), &built);
+    let lockers: Vec<u32> = (0..SIDE * SIDE).step_by(STEP as usize).collect();
+    let name = format!("remove, mean of {}", lockers.len());
+    let calls = (remove as ChangeCall, plain::remove as ChangeCall);
+    let remove_time = run_changes(&name, calls, network, &lockers, &built);
+    let part = remove_time / build_time;
+    println!("a removal takes {part:.3} of the engine's build");
 }

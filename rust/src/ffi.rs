@@ -276,4 +276,47 @@ extern "C" {
         distances: *const u32,
         distances_len: usize,
     ) -> Verdict;
+
+    /// Writes `points`, `scratch`, `ids` and `distances`.
+    pub(crate) fn overlap_remove(
+        starts: *const u32,
+        starts_len: usize,
+        neighbours: *const u32,
+        neighbours_len: usize,
+        weights: *const u32,
+        weights_len: usize,
+        points: *mut u8,
+        points_len: usize,
+        node: u32,
+        places: u32,
+        scratch: *mut u32,
+        scratch_len: usize,
+        ids: *mut u32,
+        ids_len: usize,
+        distances: *mut u32,
+        distances_len: usize,
+    ) -> Update;
+
+    /// Writes `scratch` and `answers`.
+    pub(crate) fn overlap_table_query(
+        starts: *const u32,
+        starts_len: usize,
+        neighbours: *const u32,
+        neighbours_len: usize,
+        weights: *const u32,
+        weights_len: usize,
+        points: *const u8,
+        points_len: usize,
+        q: u32,
+        k: u32,
+        places: u32,
+        ids: *const u32,
+        ids_len: usize,
+        distances: *const u32,
+        distances_len: usize,
+        scratch: *mut u32,
+        scratch_len: usize,
+        answers: *mut u32,
+        answers_len: usize,
+    ) -> Listing;
 }

@@ -6,7 +6,8 @@
 //! the engine's static library `liboverlap.a` and hands back its answers. Of the engine's calls it
 //! has the [network check](network_check), [distances], [nearest], [verify], the searches [eager]
 //! with its [short query](short_query), [lazy] and [lazy-EP](lazy_ep), and for a table of nearest
-//! points [build], [insert] and the [table check](table_check).
+//! points [build], [insert], [remove], the [table query](table_query) and the
+//! [table check](table_check).
 //!
 //! Each item below quotes the sentence of document 01 that it is. No call asks anything of its
 //! input: bad input is refused by a number, and [`meaning`] gives the condition that the number
@@ -45,6 +46,8 @@ mod network;
 mod refusal;
 mod scratch;
 mod table;
+mod table_query;
+mod table_remove;
 mod verify;
 
 pub use distances::distances;
@@ -56,6 +59,8 @@ pub use network::{network_check, Network};
 pub use refusal::{accepted, meaning, Refusal};
 pub use scratch::scratch_len;
 pub use table::{build, insert, table_check, Table, TableMut};
+pub use table_query::table_query;
+pub use table_remove::remove;
 pub use verify::verify;
 
 /// Document 01: "NONE = 4,294,967,295 is an associated constant of the distance and stands for

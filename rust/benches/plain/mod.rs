@@ -13,6 +13,7 @@ mod network_check;
 mod queue;
 mod site;
 mod table;
+mod table_remove;
 
 pub use distances::distances;
 pub use eager::eager;
@@ -20,3 +21,4 @@ pub use lazy::{lazy, lazy_and_settled};
 pub use lazy_ep::{lazy_ep, lazy_ep_and_settled};
 pub use network_check::network_check;
 pub use table::{build, insert};
+pub use table_remove::remove;

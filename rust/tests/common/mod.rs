@@ -5,6 +5,7 @@
 #![allow(dead_code)]
 
 pub mod all_pairs;
+pub mod book;
 pub mod call;
 pub mod change;
 pub mod damage;

@@ -140,6 +140,30 @@ pub fn change_number(
     }
 }
 
+/// Table query: the conditions 1 to 10. Scratch and answers are given by their lengths.
+pub fn table_query_number(
+    network: Network<'_>,
+    points: &[u8],
+    (q, k): (u32, u32),
+    table: TableSizes,
+    (scratch, answers): (usize, usize),
+) -> u32 {
+    let of_points = points_number(network, points);
+    if of_points != 0 {
+        of_points
+    } else if is_no_node(network, q) {
+        7
+    } else if is_no_table(network, table) {
+        8
+    } else if k == 0 || k > table.0 - 1 {
+        9
+    } else if scratch < plain_scratch_len(network, k) || answers < node_count(network) {
+        10
+    } else {
+        0
+    }
+}
+
 /// The first condition met of 1 to 6, or 0.
 fn points_number(network: Network<'_>, points: &[u8]) -> u32 {
     let of_network = plain_check(network);
