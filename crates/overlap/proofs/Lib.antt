@@ -2,3 +2,5 @@
 pub mod Ready
 pub mod Outcomes
 pub mod Copied
+pub mod Demand
+pub mod Instance

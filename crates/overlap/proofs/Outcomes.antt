@@ -17,8 +17,15 @@ use Rattle.overlap.specs.declared.verify.Rule.the-variants.{Answer}
 use Rattle.overlap.specs.Distances.{DistancesOutcome, distancesNumber, distancesOutcome}
 use Rattle.overlap.specs.Nearest.{NearestOutcome, nearestNumber, nearestOutcome, NearestDone}
 use Rattle.overlap.specs.Verify.{VerifyOutcome, verifyNumber, verifyOutcome}
-use Rattle.overlap.specs.Eager.{EagerOutcome, eagerNumber, eagerOutcome}
-use Rattle.overlap.specs.declared.eager.Listed.the-variants as is
+use Rattle.table.specs.Flat.{IsTable}
+use Rattle.table.specs.Check.{isTable}
+use Rattle.overlap.specs.Numbers.{buildNumber, tableCheckNumber}
+use Rattle.overlap.specs.TableCheck.{tableCheckAnswer}
+use Rattle.overlap.specs.Build.{BuildOutcome, buildOutcome}
+use Rattle.overlap.specs.Listed.{SearchOutcome, searchNumber}
+use Rattle.overlap.specs.Eager.{eagerOutcome}
+use Rattle.overlap.specs.Lazy.{lazyOutcome, LazyDone}
+use Rattle.overlap.specs.declared.listed.Listed.the-variants as is
 
 module _ (g : Network) (node : ℕ) (scratch answers : List ℕ) where
   pub distances-refused : (number : ℕ) → number ≡ distancesNumber g node scratch answers → number ≢ 0
@@ -58,19 +65,53 @@ module _ (g : Network) (P : List ℕ) (p q k : ℕ) (scratch : List ℕ) where
   verify-done e z h = rw (eq-eqb (verifyNumber g P p q k scratch) 0 e, z, h)
 
 module _ (g : Network) (P : List ℕ) (q k limit : ℕ) (scratch answers : List ℕ) where
-  pub eager-refused : (number : ℕ) → number ≡ eagerNumber g P q k scratch answers → number ≢ 0
-      → _≡_ {A = EagerOutcome} (record { answer = is.Refused number; scratch = scratch; answers = answers }) (eagerOutcome g P q k limit scratch answers)
+  pub eager-refused : (number : ℕ) → number ≡ searchNumber g P q k scratch answers → number ≢ 0
+      → _≡_ {A = SearchOutcome} (record { answer = is.Refused number; scratch = scratch; answers = answers }) (eagerOutcome g P q k limit scratch answers)
   unfolding eagerOutcome
   eager-refused number e n = rw (← e, ne-eqb number 0 n)
 
-  pub eager-beyond : {s a : List ℕ} → eagerNumber g P q k scratch answers ≡ 0 → s ≡ replicate (length scratch) 0 → limit < expanded g P q k
+  pub eager-beyond : {s a : List ℕ} → searchNumber g P q k scratch answers ≡ 0 → s ≡ replicate (length scratch) 0 → limit < expanded g P q k
       → a ≡ answers
-      → _≡_ {A = EagerOutcome} (record { answer = is.Refused 12; scratch = s; answers = a }) (eagerOutcome g P q k limit scratch answers)
+      → _≡_ {A = SearchOutcome} (record { answer = is.Refused 12; scratch = s; answers = a }) (eagerOutcome g P q k limit scratch answers)
   unfolding eagerOutcome exceedsLimit
-  eager-beyond e z l h = rw (eq-eqb (eagerNumber g P q k scratch answers) 0 e, lt-ltb limit (expanded g P q k) l, z, h)
+  eager-beyond e z l h = rw (eq-eqb (searchNumber g P q k scratch answers) 0 e, lt-ltb limit (expanded g P q k) l, z, h)
 
-  pub eager-done : {s a : List ℕ} {size count : ℕ} → eagerNumber g P q k scratch answers ≡ 0 → s ≡ replicate (length scratch) 0
+  pub eager-done : {s a : List ℕ} {size count : ℕ} → searchNumber g P q k scratch answers ≡ 0 → s ≡ replicate (length scratch) 0
       → expanded g P q k ≤ limit → size ≡ length (listed g P q k) → count ≡ expanded g P q k → a ≡ answered (listed g P q k) answers
-      → _≡_ {A = EagerOutcome} (record { answer = is.Points size count; scratch = s; answers = a }) (eagerOutcome g P q k limit scratch answers)
+      → _≡_ {A = SearchOutcome} (record { answer = is.Points size count; scratch = s; answers = a }) (eagerOutcome g P q k limit scratch answers)
   unfolding eagerOutcome exceedsLimit
-  eager-done e z l m n h = rw (eq-eqb (eagerNumber g P q k scratch answers) 0 e, le-ltb limit (expanded g P q k) l, z, m, n, h)
+  eager-done e z l m n h = rw (eq-eqb (searchNumber g P q k scratch answers) 0 e, le-ltb limit (expanded g P q k) l, z, m, n, h)
+
+module _ (g : Network) (P : List ℕ) (q k : ℕ) (scratch answers : List ℕ) where
+  pub lazy-refused : (number : ℕ) → number ≡ searchNumber g P q k scratch answers → number ≢ 0
+      → _≡_ {A = SearchOutcome} (record { answer = is.Refused number; scratch = scratch; answers = answers }) (lazyOutcome g P q k scratch answers)
+  unfolding lazyOutcome
+  lazy-refused number e n = rw (← e, ne-eqb number 0 n)
+
+  pub lazy-done : {s a : List ℕ} {size : ℕ} → searchNumber g P q k scratch answers ≡ 0 → s ≡ replicate (length scratch) 0
+      → LazyDone g P q k answers a size
+      → _≡_ {A = SearchOutcome} (record { answer = is.Points size 0; scratch = s; answers = a }) (lazyOutcome g P q k scratch answers)
+  unfolding lazyOutcome
+  lazy-done e z h = rw (eq-eqb (searchNumber g P q k scratch answers) 0 e, z, h .sized, h .answers)
+
+module _ (g : Network) (P : List ℕ) (K : ℕ) (scratch ids distances : List ℕ) where
+  pub build-refused : (number : ℕ) → number ≡ buildNumber g P K scratch ids distances → number ≢ 0
+      → _≡_ {A = BuildOutcome} (record { number = number; scratch = scratch; ids = ids; distances = distances }) (buildOutcome g P K scratch ids distances)
+  unfolding buildOutcome
+  build-refused number e n = rw (← e, ne-eqb number 0 n)
+
+  pub build-done : {s i d : List ℕ} → buildNumber g P K scratch ids distances ≡ 0 → s ≡ replicate (length scratch) 0 → IsTable g P K i d
+      → _≡_ {A = BuildOutcome} (record { number = 0; scratch = s; ids = i; distances = d }) (buildOutcome g P K scratch ids distances)
+  unfolding buildOutcome
+  build-done e z t = rw (eq-eqb (buildNumber g P K scratch ids distances) 0 e, z, t .same-ids, t .same-dists)
+
+module _ (g : Network) (P : List ℕ) (K : ℕ) (ids distances : List ℕ) where
+  pub check-refused : (number : ℕ) → number ≡ tableCheckNumber g P K ids distances → number ≢ 0
+      → _≡_ {A = Rule} (Rule.Refused number) (tableCheckAnswer g P K ids distances)
+  unfolding tableCheckAnswer
+  check-refused number e n = rw (← e, ne-eqb number 0 n)
+
+  pub check-done : {L : ℕ} {yes : Bool} → L ≡ K → tableCheckNumber g P K ids distances ≡ 0 → yes ≡ isTable g P L ids distances
+      → _≡_ {A = Rule} (Answer yes) (tableCheckAnswer g P K ids distances)
+  unfolding tableCheckAnswer
+  check-done l e h = rw (eq-eqb (tableCheckNumber g P K ids distances) 0 e, h, l)

@@ -15,13 +15,22 @@ use Rattle.network.specs.Count.{any}
 use Rattle.network.specs.Network.{Network, nodeCount, arcCount}
 use Rattle.network.specs.Accepted.{Accepted}
 use Rattle.network.specs.Check.{networkNumber}
+use Rattle.network.specs.Points.{marked}
 use Rattle.network.proofs.Tests.{or-parts}
 use Rattle.network.proofs.NumberZero.{number-zero}
-use Rattle.overlap.specs.Numbers.{firstNumber, badByteAt, pointsNumber, nodeNumber, kNumber, scratchWords, shortNumber, queryNumber}
+use Rattle.overlap.specs.Numbers.{firstNumber, badByteAt, pointsNumber, nodeNumber, tableNumber, kNumber, scratchWords, shortNumber, markedNumber, unmarkedNumber, queryNumber, tableCheckNumber, tableNodeNumber, tableKNumber, tableQueryNumber, buildNumber, updateNumber}
 use Rattle.overlap.specs.Distances.{distancesNumber, DistancesReady}
 use Rattle.overlap.specs.Nearest.{nearestNumber, NearestReady}
 use Rattle.overlap.specs.Verify.{verifyNumber, VerifyReady}
-use Rattle.overlap.specs.Eager.{eagerNumber, EagerReady}
+use Rattle.overlap.specs.declared.lazy.Method.{Method}
+use Rattle.overlap.specs.declared.lazy.Method.the-variants.{Lazy, LazyEp}
+use Rattle.overlap.specs.Build.{TableReady, BuildReady}
+use Rattle.overlap.specs.declared.updated.Kind.{Kind}
+use Rattle.overlap.specs.declared.updated.Kind.the-variants.{Insert, Remove}
+use Rattle.overlap.specs.Updated.{kindNumber, kindMark, changeNumber, UpdateReady, ChangeReady}
+use Rattle.overlap.specs.TableQuery.{TableQueryReady}
+use Rattle.overlap.specs.Listed.{searchNumber, SearchReady}
+use Rattle.overlap.specs.Lazy.{methodWords}
 
 -- the clauses of `firstNumber`: the first number is not 0; it is
 pub first-is : (x : ℕ) (xs : List ℕ) (r : ℕ) → r ≡ x → r ≢ 0 → r ≡ firstNumber (x ∷ xs)
@@ -32,7 +41,7 @@ pub first-later : (x : ℕ) (xs : List ℕ) (r y : ℕ) → r ≡ x → r ≡ 0 
 unfolding firstNumber
 first-later x xs r y e z h = h ∙ rw (eq-eqb x 0 (sym e ∙ z))
 
-first-none : 0 ≡ firstNumber []
+pub first-none : 0 ≡ firstNumber []
 unfolding firstNumber
 first-none = refl
 
@@ -53,7 +62,7 @@ first-zero x xs e =
     ]
 
 -- a condition's number of 0: its test did not pass
-number-none : (b : Bool) (number : ℕ) → number ≢ 0 → cond b number 0 ≡ 0 → b ≡ false
+pub number-none : (b : Bool) (number : ℕ) → number ≢ 0 → cond b number 0 ≡ 0 → b ≡ false
 number-none true number n e = absurd (n e)
 number-none false number n e = refl
 
@@ -73,6 +82,19 @@ k-ready k e =
     let r = or-parts (eqb k 0) _ (number-none (eqb k 0 || ltb 16 k) 9 (omega arith) e) in
     let n = eqb-false k 0 (r .0) in
     (omega arith, ltb-false 16 k (r .1))
+
+pub table-ready : (n K ids distances : ℕ) → tableNumber n K ids distances ≡ 0 → (2 ≤ K) × (K ≤ 17) × (ids ≡ n * K) × (distances ≡ n * K)
+unfolding tableNumber
+table-ready n K ids distances e =
+    let t = number-none (ltb K 2 || ltb 17 K || not (eqb ids (n * K)) || not (eqb distances (n * K))) 8 (omega arith) e in
+    let a = or-parts (ltb K 2 || ltb 17 K || not (eqb ids (n * K))) _ t in
+    let b = or-parts (ltb K 2 || ltb 17 K) _ (a .0) in
+    let c = or-parts (ltb K 2) _ (b .0) in (
+      ltb-false K 2 (c .0),
+      ltb-false 17 K (c .1),
+      eqb-true ids (n * K) (not-false (eqb ids (n * K)) (b .1)),
+      eqb-true distances (n * K) (not-false (eqb distances (n * K)) (a .1)),
+    )
 
 pub short-ready : (have need : ℕ) → shortNumber have need ≡ 0 → need ≤ have
 unfolding shortNumber
@@ -136,10 +158,10 @@ nearest-ready g P node k scratch ids distances e =
       distance-places = short-ready (length distances) k (c .0);
     }
 
-pub eager-ready : (g : Network) (P : List ℕ) (q k : ℕ) (scratch answers : List ℕ) → eagerNumber g P q k scratch answers ≡ 0
-    → EagerReady g P q k scratch answers
-unfolding eagerNumber
-eager-ready g P q k scratch answers e =
+pub search-ready : (g : Network) (P : List ℕ) (q k : ℕ) (scratch answers : List ℕ) → searchNumber g P q k scratch answers ≡ 0
+    → SearchReady g P q k scratch answers
+unfolding searchNumber
+search-ready g P q k scratch answers e =
     let a = first-zero (queryNumber g P q k scratch) _ e in
     let b = first-zero (shortNumber (length answers) (nodeCount g)) [] (a .1) in
     let ready = query-ready g P q k scratch (a .0) in
@@ -172,6 +194,105 @@ verify-ready g P p q k scratch e =
       room = short-ready (length scratch) (scratchWords g k) (h .0);
     }
 
+pub table-check-ready : (g : Network) (P : List ℕ) (K : ℕ) (ids distances : List ℕ) → tableCheckNumber g P K ids distances ≡ 0 → TableReady g P K ids distances
+unfolding tableCheckNumber
+table-check-ready g P K ids distances e =
+    let a = first-zero (networkNumber g) _ e in
+    let b = first-zero (pointsNumber (nodeCount g) P) _ (a .1) in
+    let c = first-zero (tableNumber (nodeCount g) K (length ids) (length distances)) [] (b .1) in
+    let t = table-ready (nodeCount g) K (length ids) (length distances) (c .0) in
+    record {
+      accepted = number-zero g .0 (a .0);
+      points = points-ready (nodeCount g) P (b .0);
+      least = t .0;
+      most = t .1;
+      sized = record { all-ids = t .2; all-dists = t .3 };
+    }
+
+pub build-ready : (g : Network) (P : List ℕ) (K : ℕ) (scratch ids distances : List ℕ) → buildNumber g P K scratch ids distances ≡ 0
+    → BuildReady g P K scratch ids distances
+unfolding buildNumber
+build-ready g P K scratch ids distances e =
+    let a = first-zero (tableCheckNumber g P K ids distances) _ e in
+    let b = first-zero (shortNumber (length scratch) (scratchWords g K)) [] (a .1) in
+    record { ready = table-check-ready g P K ids distances (a .0); room = short-ready (length scratch) (scratchWords g K) (b .0) }
+
+-- of the same K by another name
+pub ready-same : {g : Network} {P ids distances : List ℕ} {K L : ℕ} → L ≡ K → TableReady g P K ids distances → TableReady g P L ids distances
+ready-same e r = rw e r
+
+pub table-node-ready : (g : Network) (P : List ℕ) (node K : ℕ) (ids distances : List ℕ) → tableNodeNumber g P node K ids distances ≡ 0
+    → (node < nodeCount g) × TableReady g P K ids distances
+unfolding tableNodeNumber
+table-node-ready g P node K ids distances e =
+    let a = first-zero (networkNumber g) _ e in
+    let b = first-zero (pointsNumber (nodeCount g) P) _ (a .1) in
+    let c = first-zero (nodeNumber (nodeCount g) node) _ (b .1) in
+    let d = first-zero (tableNumber (nodeCount g) K (length ids) (length distances)) [] (c .1) in
+    let t = table-ready (nodeCount g) K (length ids) (length distances) (d .0) in (
+      node-ready (nodeCount g) node (c .0),
+      record {
+        accepted = number-zero g .0 (a .0);
+        points = points-ready (nodeCount g) P (b .0);
+        least = t .0;
+        most = t .1;
+        sized = record { all-ids = t .2; all-dists = t .3 };
+      },
+    )
+
+pub update-ready : (g : Network) (P : List ℕ) (node K : ℕ) (scratch ids distances : List ℕ) → updateNumber g P node K scratch ids distances ≡ 0
+    → UpdateReady g P node K scratch ids distances
+unfolding updateNumber
+update-ready g P node K scratch ids distances e =
+    let a = first-zero (tableNodeNumber g P node K ids distances) _ e in
+    let b = first-zero (shortNumber (length scratch) (scratchWords g K)) [] (a .1) in
+    let t = table-node-ready g P node K ids distances (a .0) in
+    record { inside = t .0; ready = t .1; room = short-ready (length scratch) (scratchWords g K) (b .0) }
+
+-- 11 is not met: the mark is what the kind asks
+mark-ready : (kind : Kind) (P : List ℕ) (node : ℕ) → kindNumber kind P node ≡ 0 → marked P node ≡ kindMark kind
+unfolding markedNumber unmarkedNumber
+mark-ready Insert P node e = number-none (marked P node) 11 (omega arith) e
+mark-ready Remove P node e = by (marked P node) e
+  where
+    by : (b : Bool) → _≡_ {A = ℕ} (cond b 0 11) 0 → b ≡ true
+    by true e = refl
+    by false e = absurd (omega (arith, e))
+
+pub change-ready : (kind : Kind) (g : Network) (P : List ℕ) (node K : ℕ) (scratch ids distances : List ℕ)
+    → changeNumber kind g P node K scratch ids distances ≡ 0 → ChangeReady kind g P node K scratch ids distances
+unfolding changeNumber
+change-ready kind g P node K scratch ids distances e =
+    let a = first-zero (updateNumber g P node K scratch ids distances) _ e in
+    let b = first-zero (kindNumber kind P node) [] (a .1) in
+    record { update = update-ready g P node K scratch ids distances (a .0); mark = mark-ready kind P node (b .0) }
+
+pub table-k-ready : (k K : ℕ) → tableKNumber k K ≡ 0 → (1 ≤ k) × (k < K)
+unfolding tableKNumber
+table-k-ready k K e =
+    let r = or-parts (eqb k 0) _ (number-none (eqb k 0 || leb K k) 9 (omega arith) e) in
+    let n = eqb-false k 0 (r .0) in
+    (omega arith, leb-false K k (r .1))
+
+pub table-query-ready : (g : Network) (P : List ℕ) (q k K : ℕ) (ids distances scratch answers : List ℕ)
+    → tableQueryNumber g P q k K ids distances scratch answers ≡ 0 → TableQueryReady g P q k K ids distances scratch answers
+unfolding tableQueryNumber
+table-query-ready g P q k K ids distances scratch answers e =
+    let a = first-zero (tableNodeNumber g P q K ids distances) _ e in
+    let b = first-zero (tableKNumber k K) _ (a .1) in
+    let c = first-zero (shortNumber (length scratch) (scratchWords g k)) _ (b .1) in
+    let d = first-zero (shortNumber (length answers) (nodeCount g)) [] (c .1) in
+    let t = table-node-ready g P q K ids distances (a .0) in
+    let m = table-k-ready k K (b .0) in
+    record {
+      site = t .0;
+      ready = t .1;
+      some = m .0;
+      few = m .1;
+      room = short-ready (length scratch) (scratchWords g k) (c .0);
+      places = short-ready (length answers) (nodeCount g) (d .0);
+    }
+
 -- words that are all 0, as many as they are
 pub all-zero : {xs : List ℕ} (l m : ℕ) → xs ≡ replicate l 0 → length xs ≡ m → xs ≡ replicate m 0
 all-zero l m e h =
@@ -192,3 +313,12 @@ pub words-for-eager : (g : Network) (k : ℕ) → 1 ≤ k → k ≤ 16 → 1 ≤
 words-for-eager g k h few some =
     let low : 8 ≤ 8 * (arcCount g + nodeCount g) = omega arith in
     omega (arith, words-enough g k h, mul-le-mul-right k low)
+
+-- so do lazy, and lazy-EP with its rows and its second queue
+pub words-for-method : (m : Method) (g : Network) (k : ℕ) → 1 ≤ k → k ≤ 16 → 1 ≤ nodeCount g → methodWords m (nodeCount g) (arcCount g) k ≤ scratchWords g k
+words-for-method Lazy g k h few some = words-for-eager g k h few some
+words-for-method LazyEp g k h few some = omega (arith, mul-le-mul-left (arcCount g) h, mul-le-mul-left (nodeCount g) h)
+
+-- build uses n + 2 (n + K A)
+pub words-for-build : (g : Network) (K : ℕ) → nodeCount g + 2 * (nodeCount g + K * arcCount g) ≤ scratchWords g K
+words-for-build g K = omega arith

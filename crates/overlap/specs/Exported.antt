@@ -7,7 +7,7 @@ use Rattle.overlap.specs.declared.Listing.{Listing}
 use Rattle.overlap.specs.declared.Verdict.{Verdict}
 use Rattle.overlap.specs.Nearest.{NearestOutcome, foundListing}
 use Rattle.overlap.specs.Verify.{VerifyOutcome, ruleVerdict}
-use Rattle.overlap.specs.Eager.{EagerOutcome, listedListing}
+use Rattle.overlap.specs.Listed.{SearchOutcome, listedListing}
 
 pub record NearestExported (outcome : NearestOutcome) (r : Listing) (scratch ids distances : List ℕ) : Type 0 where
   pub answer : r ≡ foundListing (outcome .answer)
@@ -19,7 +19,7 @@ pub record VerifyExported (outcome : VerifyOutcome) (r : Verdict) (scratch : Lis
   pub answer : r ≡ ruleVerdict (outcome .answer)
   pub scratch-left : scratch ≡ outcome .scratch
 
-pub record EagerExported (outcome : EagerOutcome) (r : Listing) (scratch answers : List ℕ) : Type 0 where
+pub record SearchExported (outcome : SearchOutcome) (r : Listing) (scratch answers : List ℕ) : Type 0 where
   pub answer : r ≡ listedListing (outcome .answer)
   pub scratch-left : scratch ≡ outcome .scratch
   pub answers-left : answers ≡ outcome .answers

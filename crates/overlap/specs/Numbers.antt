@@ -30,6 +30,10 @@ nodeNumber n v = cond (leb n v) 7 0
 unfoldable pub kNumber : ℕ → ℕ
 kNumber k = cond (eqb k 0 || ltb 16 k) 9 0
 
+-- 9: 'by table, above K - 1'
+unfoldable pub tableKNumber : ℕ → ℕ → ℕ
+tableKNumber k K = cond (eqb k 0 || leb K k) 9 0
+
 -- 'Length S = 16 × n + 8 × (A + n) × m entries'
 abbrev pub scratchWords : Network → ℕ → ℕ
 scratchWords g m = 16 * nodeCount g + 8 * (arcCount g + nodeCount g) * m
@@ -38,7 +42,14 @@ scratchWords g m = 16 * nodeCount g + 8 * (arcCount g + nodeCount g) * m
 unfoldable pub shortNumber : ℕ → ℕ → ℕ
 shortNumber have need = cond (ltb have need) 10 0
 
--- 11: 'verify of an unmarked one'
+-- 8: 'K not 2 to 17, or a table array not n × K long', of arrays of so many ids and distances
+unfoldable pub tableNumber : ℕ → ℕ → ℕ → ℕ → ℕ
+tableNumber n K ids distances = cond (ltb K 2 || ltb 17 K || not (eqb ids (n * K)) || not (eqb distances (n * K))) 8 0
+
+-- 11: 'insert on a marked node; remove or verify of an unmarked one'
+unfoldable pub markedNumber : List ℕ → ℕ → ℕ
+markedNumber P p = cond (marked P p) 11 0
+
 unfoldable pub unmarkedNumber : List ℕ → ℕ → ℕ
 unmarkedNumber P p = cond (marked P p) 0 11
 
@@ -51,4 +62,49 @@ queryNumber g P node k scratch =
     ∷ nodeNumber (nodeCount g) node
     ∷ kNumber k
     ∷ shortNumber (length scratch) (scratchWords g k)
+    ∷ [])
+
+-- what build and the table check test first: 1 to 5, 6, 8
+unfoldable pub tableCheckNumber : Network → List ℕ → ℕ → List ℕ → List ℕ → ℕ
+tableCheckNumber g P K ids distances =
+    firstNumber
+    (networkNumber g
+    ∷ pointsNumber (nodeCount g) P
+    ∷ tableNumber (nodeCount g) K (length ids) (length distances)
+    ∷ [])
+
+-- what build tests: 10 of scratch too, where m is K
+unfoldable pub buildNumber : Network → List ℕ → ℕ → List ℕ → List ℕ → List ℕ → ℕ
+buildNumber g P K scratch ids distances =
+    firstNumber
+    (tableCheckNumber g P K ids distances
+    ∷ shortNumber (length scratch) (scratchWords g K)
+    ∷ [])
+
+-- what the calls with a node and a table test first: 1 to 5, 6, 7, 8
+unfoldable pub tableNodeNumber : Network → List ℕ → ℕ → ℕ → List ℕ → List ℕ → ℕ
+tableNodeNumber g P node K ids distances =
+    firstNumber
+    (networkNumber g
+    ∷ pointsNumber (nodeCount g) P
+    ∷ nodeNumber (nodeCount g) node
+    ∷ tableNumber (nodeCount g) K (length ids) (length distances)
+    ∷ [])
+
+-- what insert and remove test before 11: 10 of scratch too, where m is K
+unfoldable pub updateNumber : Network → List ℕ → ℕ → ℕ → List ℕ → List ℕ → List ℕ → ℕ
+updateNumber g P node K scratch ids distances =
+    firstNumber
+    (tableNodeNumber g P node K ids distances
+    ∷ shortNumber (length scratch) (scratchWords g K)
+    ∷ [])
+
+-- what the table query tests: 9 and 10 too, where m is k
+unfoldable pub tableQueryNumber : Network → List ℕ → ℕ → ℕ → ℕ → List ℕ → List ℕ → List ℕ → List ℕ → ℕ
+tableQueryNumber g P q k K ids distances scratch answers =
+    firstNumber
+    (tableNodeNumber g P q K ids distances
+    ∷ tableKNumber k K
+    ∷ shortNumber (length scratch) (scratchWords g k)
+    ∷ shortNumber (length answers) (nodeCount g)
     ∷ [])

@@ -4,12 +4,12 @@ ghost use lib.ListN.{length, replicate};
 ghost use Rattle.network.specs.Network.{network};
 ghost use Rattle.network.specs.Distance.{distancesFrom};
 ghost use Rattle.network.specs.Answers.{answered};
-ghost use Rattle.overlap.specs.Distances.{distancesNumber, DistancesReady, DistancesArea};
+ghost use Rattle.overlap.specs.Distances.{distancesNumber, distancesOutcome, DistancesReady, DistancesArea};
 use crate::numbers;
 use expansion::words;
 
 // The first condition met of 1 to 5, 7, 10, or 0.
-pub fn number(
+fn number(
     starts: &[u32],
     neighbours: &[u32],
     weights: &[u32],
@@ -53,7 +53,7 @@ fn write(
 }
 
 // Writes the distances and leaves the whole scratch zero. Only the words that are used are cleared before.
-pub fn run(
+fn run(
     starts: &[u32],
     neighbours: &[u32],
     weights: &[u32],
@@ -74,4 +74,23 @@ pub fn run(
         answers,
     );
     words::zero(scratch);
+}
+
+// The whole call.
+pub fn answer(
+    starts: &[u32],
+    neighbours: &[u32],
+    weights: &[u32],
+    node: u32,
+    scratch: &mut [u32],
+    answers: &mut [u32],
+) -> u32
+    ensures { λ r. ⌜ record { number = r; scratch = now (scratch .exit); answers = now (answers .exit) } ≡ distancesOutcome (network (now (starts .entry)) (now (neighbours .entry)) (now (weights .entry))) node (now (scratch .entry)) (now (answers .entry)) ⌝ }
+{
+    let number = number(starts, neighbours, weights, node, scratch, answers);
+    if number != 0 {
+        return number;
+    }
+    run(starts, neighbours, weights, node, scratch, answers);
+    0
 }

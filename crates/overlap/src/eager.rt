@@ -1,38 +1,14 @@
-// The eager call: its number, and its work once no condition of 1 to 10 is met.
+// The eager call: its work once no condition of 1 to 10 is met.
 ghost use mathlib.Core.Path.{_≡_};
 ghost use lib.ListN.{length, replicate};
 ghost use Rattle.network.specs.Network.{network};
-ghost use Rattle.overlap.specs.Eager.{eagerNumber, eagerOutcome, EagerReady, EagerArea, EagerDone};
-use crate::numbers;
+ghost use Rattle.overlap.specs.Listed.{SearchReady, SearchArea};
+ghost use Rattle.overlap.specs.Eager.{eagerOutcome, eagerWords, EagerDone};
+use crate::listed;
+use crate::listed::Listed;
 use expansion::words;
 use network::arcs::wide;
 use searches::eager::Answer;
-
-// The answer: refused with a number, or the length of the list and the nodes expanded.
-pub enum Listed {
-    Refused(u32),
-    Points { length: usize, count: u32 },
-}
-
-// The first condition met of 1 to 5, 6, 7, 9, 10, or 0.
-fn number(
-    starts: &[u32],
-    neighbours: &[u32],
-    weights: &[u32],
-    points: &[u8],
-    q: u32,
-    k: u32,
-    scratch: &[u32],
-    answers: &[u32],
-) -> u32
-    ensures { λ r. ⌜ r ≡ eagerNumber (network (now (starts .entry)) (now (neighbours .entry)) (now (weights .entry))) (now (points .entry)) q k (now (scratch .entry)) (now (answers .entry)) ⌝ }
-{
-    let number = numbers::query_number(starts, neighbours, weights, points, q, k, scratch);
-    if number != 0 {
-        return number;
-    }
-    numbers::short_number(answers.len(), starts.len() - 1)
-}
 
 // Searches, over an area of any contents.
 fn search(
@@ -46,7 +22,7 @@ fn search(
     area: &mut [u32],
     answers: &mut [u32],
 ) -> Answer
-    requires { ⌜ EagerArea (network (now starts) (now neighbours) (now weights)) (now points) q k (now area) (now answers) ⌝ }
+    requires { ⌜ SearchArea (network (now starts) (now neighbours) (now weights)) (now points) q k (eagerWords (network (now starts) (now neighbours) (now weights)) k) (now area) (now answers) ⌝ }
     ensures { λ r. ⌜ EagerDone (network (now (starts .entry)) (now (neighbours .entry)) (now (weights .entry))) (now (points .entry)) q k limit (now (answers .entry)) (now (answers .exit)) r ⌝ }
 {
     words::zero(area);
@@ -75,7 +51,7 @@ fn run(
     scratch: &mut [u32],
     answers: &mut [u32],
 ) -> Answer
-    requires { ⌜ EagerReady (network (now starts) (now neighbours) (now weights)) (now points) q k (now scratch) (now answers) ⌝ }
+    requires { ⌜ SearchReady (network (now starts) (now neighbours) (now weights)) (now points) q k (now scratch) (now answers) ⌝ }
     ensures { λ r. ⌜ (now (scratch .exit) ≡ replicate (length (now (scratch .entry))) 0) × EagerDone (network (now (starts .entry)) (now (neighbours .entry)) (now (weights .entry))) (now (points .entry)) q k limit (now (answers .entry)) (now (answers .exit)) r ⌝ }
 {
     let used = 2 * wide(k) + 6 * (starts.len() - 1) + 4 * (neighbours.len() + 1);
@@ -108,7 +84,7 @@ pub fn answer(
 ) -> Listed
     ensures { λ r. ⌜ record { answer = r; scratch = now (scratch .exit); answers = now (answers .exit) } ≡ eagerOutcome (network (now (starts .entry)) (now (neighbours .entry)) (now (weights .entry))) (now (points .entry)) q k limit (now (scratch .entry)) (now (answers .entry)) ⌝ }
 {
-    let refusal = number(starts, neighbours, weights, points, q, k, scratch, answers);
+    let refusal = listed::number(starts, neighbours, weights, points, q, k, scratch, answers);
     if refusal != 0 {
         return Listed::Refused(refusal);
     }

@@ -6,15 +6,32 @@ ghost use Rattle.overlap.specs.Distances.{distancesOutcome};
 ghost use Rattle.overlap.specs.Nearest.{nearestOutcome, foundListing};
 ghost use Rattle.overlap.specs.Verify.{verifyOutcome, ruleVerdict};
 ghost use Rattle.overlap.specs.Eager.{eagerOutcome};
-ghost use Rattle.overlap.specs.Exported.{NearestExported, VerifyExported, EagerExported};
-use eager::Listed;
+ghost use Rattle.overlap.specs.Lazy.{lazyOutcome};
+ghost use Rattle.overlap.specs.Listed.{listedListing};
+ghost use Rattle.overlap.specs.Numbers.{tableQueryNumber};
+ghost use Rattle.overlap.specs.TableCheck.{tableCheckAnswer};
+ghost use Rattle.overlap.specs.declared.updated.Kind.the-variants.{Insert, Remove};
+ghost use Rattle.overlap.specs.TableQuery.{QueryLeft};
+ghost use Rattle.overlap.specs.Build.{buildOutcome};
+ghost use Rattle.overlap.specs.Updated.{ChangeLeft, updatedUpdate};
+ghost use Rattle.overlap.specs.Exported.{NearestExported, VerifyExported, SearchExported};
+use lazy::Method;
+use listed::Listed;
 use nearest::Found;
+use updated::Kind;
+use updated::Updated;
 use verify::Rule;
 
+mod build;
 mod distances;
 mod eager;
+mod lazy;
+mod listed;
 mod nearest;
 mod numbers;
+mod table_check;
+mod table_query;
+mod updated;
 mod verify;
 
 // Number 0 and the length of a list; the count is 0 but for eager.
@@ -30,6 +47,13 @@ pub struct Listing {
 pub struct Verdict {
     pub number: u32,
     pub yes: u32,
+}
+
+// Number 0 and how many rows changed.
+#[repr(C)]
+pub struct Update {
+    pub number: u32,
+    pub changed: u32,
 }
 
 // The network check. Lent: the three network arrays, of any lengths and values, and nothing is written. Returned: 0 for an accepted network, or
@@ -56,12 +80,7 @@ pub extern "C" fn overlap_distances(
 ) -> u32
     ensures { λ r. ⌜ record { number = r; scratch = now (scratch .exit); answers = now (answers .exit) } ≡ distancesOutcome (network (now (starts .entry)) (now (neighbours .entry)) (now (weights .entry))) node (now (scratch .entry)) (now (answers .entry)) ⌝ }
 {
-    let number = distances::number(starts, neighbours, weights, node, scratch, answers);
-    if number != 0 {
-        return number;
-    }
-    distances::run(starts, neighbours, weights, node, scratch, answers);
-    0
+    distances::answer(starts, neighbours, weights, node, scratch, answers)
 }
 
 // Nearest. Lent: the network, the points, scratch of S entries with m = k, and two arrays for k answers each. Returned: number 0 and how many
@@ -108,6 +127,22 @@ pub extern "C" fn overlap_nearest(
     }
 }
 
+// The struct of an answer yes or no.
+fn verdict_of(rule: Rule) -> Verdict
+    ensures { λ r. ⌜ r ≡ ruleVerdict rule ⌝ }
+{
+    match rule {
+        Rule::Refused(number) => Verdict { number, yes: 0 },
+        Rule::Answer(yes) => {
+            if yes {
+                Verdict { number: 0, yes: 1 }
+            } else {
+                Verdict { number: 0, yes: 0 }
+            }
+        }
+    }
+}
+
 // Verify. Lent: the network, the points and scratch of S entries with m = k. Returned: number 0 and yes or no, or 1 to 5, 6, 7, 9, 10, 11.
 // Accepted: the whole scratch is zero. Refused: nothing is written. Document 01: 'Verify: for a marked p and q, yes or no by the rule above.'
 #[no_mangle]
@@ -123,15 +158,24 @@ pub extern "C" fn overlap_verify(
 ) -> Verdict
     ensures { λ r. ⌜ VerifyExported (verifyOutcome (network (now (starts .entry)) (now (neighbours .entry)) (now (weights .entry))) (now (points .entry)) p q k (now (scratch .entry))) r (now (scratch .exit)) ⌝ }
 {
-    match verify::answer(starts, neighbours, weights, points, p, q, k, scratch) {
-        Rule::Refused(number) => Verdict { number, yes: 0 },
-        Rule::Answer(yes) => {
-            if yes {
-                Verdict { number: 0, yes: 1 }
-            } else {
-                Verdict { number: 0, yes: 0 }
-            }
-        }
+    verdict_of(verify::answer(starts, neighbours, weights, points, p, q, k, scratch))
+}
+
+// The struct of a search's answer.
+fn listing_of(answer: Listed) -> Listing
+    ensures { λ r. ⌜ r ≡ listedListing answer ⌝ }
+{
+    match answer {
+        Listed::Refused(number) => Listing {
+            number,
+            count: 0,
+            length: 0,
+        },
+        Listed::Points { length, count } => Listing {
+            number: 0,
+            count,
+            length,
+        },
     }
 }
 
@@ -151,9 +195,9 @@ pub extern "C" fn overlap_eager(
     scratch: &mut [u32],
     answers: &mut [u32],
 ) -> Listing
-    ensures { λ r. ⌜ EagerExported (eagerOutcome (network (now (starts .entry)) (now (neighbours .entry)) (now (weights .entry))) (now (points .entry)) q k limit (now (scratch .entry)) (now (answers .entry))) r (now (scratch .exit)) (now (answers .exit)) ⌝ }
+    ensures { λ r. ⌜ SearchExported (eagerOutcome (network (now (starts .entry)) (now (neighbours .entry)) (now (weights .entry))) (now (points .entry)) q k limit (now (scratch .entry)) (now (answers .entry))) r (now (scratch .exit)) (now (answers .exit)) ⌝ }
 {
-    match eager::answer(
+    listing_of(eager::answer(
         starts,
         neighbours,
         weights,
@@ -163,18 +207,7 @@ pub extern "C" fn overlap_eager(
         limit,
         scratch,
         answers,
-    ) {
-        Listed::Refused(number) => Listing {
-            number,
-            count: 0,
-            length: 0,
-        },
-        Listed::Points { length, count } => Listing {
-            number: 0,
-            count,
-            length,
-        },
-    }
+    ))
 }
 
 // The short query. Lent: the network, the points, scratch of S entries with m = 1, and an array for n answers. Returned and left: as eager with k =
@@ -189,7 +222,7 @@ pub extern "C" fn overlap_short_query(
     scratch: &mut [u32],
     answers: &mut [u32],
 ) -> Listing
-    ensures { λ r. ⌜ EagerExported (eagerOutcome (network (now (starts .entry)) (now (neighbours .entry)) (now (weights .entry))) (now (points .entry)) q 1 65535 (now (scratch .entry)) (now (answers .entry))) r (now (scratch .exit)) (now (answers .exit)) ⌝ }
+    ensures { λ r. ⌜ SearchExported (eagerOutcome (network (now (starts .entry)) (now (neighbours .entry)) (now (weights .entry))) (now (points .entry)) q 1 65535 (now (scratch .entry)) (now (answers .entry))) r (now (scratch .exit)) (now (answers .exit)) ⌝ }
 {
     overlap_eager(
         starts,
@@ -202,4 +235,211 @@ pub extern "C" fn overlap_short_query(
         scratch,
         answers,
     )
+}
+
+// Lazy. Lent: the network, the points, scratch of S entries with m = k, and an array for n answers. Returned: number 0 and the length of the list,
+// or 1 to 5, 6, 7, 9, 10. Accepted: the answers are the listed points, ascending, then the old entries, and the whole scratch is zero. Refused:
+// nothing is written. Document 01: 'Lazy (000, 3.3) and lazy-EP (000, 4.2): the list.'
+#[no_mangle]
+pub extern "C" fn overlap_lazy(
+    starts: &[u32],
+    neighbours: &[u32],
+    weights: &[u32],
+    points: &[u8],
+    q: u32,
+    k: u32,
+    scratch: &mut [u32],
+    answers: &mut [u32],
+) -> Listing
+    ensures { λ r. ⌜ SearchExported (lazyOutcome (network (now (starts .entry)) (now (neighbours .entry)) (now (weights .entry))) (now (points .entry)) q k (now (scratch .entry)) (now (answers .entry))) r (now (scratch .exit)) (now (answers .exit)) ⌝ }
+{
+    listing_of(lazy::answer(
+        Method::Lazy,
+        starts,
+        neighbours,
+        weights,
+        points,
+        q,
+        k,
+        scratch,
+        answers,
+    ))
+}
+
+// Lazy with extended pruning. Lent, returned and left: as lazy.
+#[no_mangle]
+pub extern "C" fn overlap_lazy_ep(
+    starts: &[u32],
+    neighbours: &[u32],
+    weights: &[u32],
+    points: &[u8],
+    q: u32,
+    k: u32,
+    scratch: &mut [u32],
+    answers: &mut [u32],
+) -> Listing
+    ensures { λ r. ⌜ SearchExported (lazyOutcome (network (now (starts .entry)) (now (neighbours .entry)) (now (weights .entry))) (now (points .entry)) q k (now (scratch .entry)) (now (answers .entry))) r (now (scratch .exit)) (now (answers .exit)) ⌝ }
+{
+    listing_of(lazy::answer(
+        Method::LazyEp,
+        starts,
+        neighbours,
+        weights,
+        points,
+        q,
+        k,
+        scratch,
+        answers,
+    ))
+}
+
+// Build. Lent: the network, the points, scratch of S entries with m = K, and both table arrays of any contents. Returned: 0, or 1 to 5, 6, 8, 10.
+// Accepted: both arrays are the table of the points, and the whole scratch is zero. Refused: nothing is written. Document 01: 'Build fills it.'
+#[no_mangle]
+pub extern "C" fn overlap_build(
+    starts: &[u32],
+    neighbours: &[u32],
+    weights: &[u32],
+    points: &[u8],
+    places: u32,
+    scratch: &mut [u32],
+    ids: &mut [u32],
+    distances: &mut [u32],
+) -> u32
+    ensures { λ r. ⌜ record { number = r; scratch = now (scratch .exit); ids = now (ids .exit); distances = now (distances .exit) } ≡ buildOutcome (network (now (starts .entry)) (now (neighbours .entry)) (now (weights .entry))) (now (points .entry)) places (now (scratch .entry)) (now (ids .entry)) (now (distances .entry)) ⌝ }
+{
+    build::answer(
+        starts,
+        neighbours,
+        weights,
+        points,
+        places,
+        scratch,
+        ids,
+        distances,
+    )
+}
+
+// The struct of an update's answer.
+fn update_of(answer: Updated) -> Update
+    ensures { λ r. ⌜ r ≡ updatedUpdate answer ⌝ }
+{
+    match answer {
+        Updated::Refused(number) => Update { number, changed: 0 },
+        Updated::Changed(changed) => Update { number: 0, changed },
+    }
+}
+
+// Insert. Lent: the network, the points, scratch of S entries with m = K, and both table arrays. Returned: number 0 and how many rows changed, or 1
+// to 5, 6, 7, 8, 10, 11. Accepted: the node is marked, the table of the points before is the table of the points after, and the whole scratch is
+// zero; of a table that the check would deny nothing is said but its length and that the count is at most n. Refused: nothing is written. Document
+// 01: 'Insert marks a node, remove clears one; each brings the table up to date and returns the number of rows whose contents differ before and
+// after.'
+#[no_mangle]
+pub extern "C" fn overlap_insert(
+    starts: &[u32],
+    neighbours: &[u32],
+    weights: &[u32],
+    points: &mut [u8],
+    node: u32,
+    places: u32,
+    scratch: &mut [u32],
+    ids: &mut [u32],
+    distances: &mut [u32],
+) -> Update
+    ensures { λ r. ⌜ ChangeLeft Insert (network (now (starts .entry)) (now (neighbours .entry)) (now (weights .entry))) node places (record { points = now (points .entry); scratch = now (scratch .entry); ids = now (ids .entry); distances = now (distances .entry) }) (record { points = now (points .exit); scratch = now (scratch .exit); ids = now (ids .exit); distances = now (distances .exit) }) r ⌝ }
+{
+    update_of(updated::answer(
+        Kind::Insert,
+        starts,
+        neighbours,
+        weights,
+        points,
+        node,
+        places,
+        scratch,
+        ids,
+        distances,
+    ))
+}
+
+// Remove. Lent, returned and left: as insert, but the node's mark is cleared.
+#[no_mangle]
+pub extern "C" fn overlap_remove(
+    starts: &[u32],
+    neighbours: &[u32],
+    weights: &[u32],
+    points: &mut [u8],
+    node: u32,
+    places: u32,
+    scratch: &mut [u32],
+    ids: &mut [u32],
+    distances: &mut [u32],
+) -> Update
+    ensures { λ r. ⌜ ChangeLeft Remove (network (now (starts .entry)) (now (neighbours .entry)) (now (weights .entry))) node places (record { points = now (points .entry); scratch = now (scratch .entry); ids = now (ids .entry); distances = now (distances .entry) }) (record { points = now (points .exit); scratch = now (scratch .exit); ids = now (ids .exit); distances = now (distances .exit) }) r ⌝ }
+{
+    update_of(updated::answer(
+        Kind::Remove,
+        starts,
+        neighbours,
+        weights,
+        points,
+        node,
+        places,
+        scratch,
+        ids,
+        distances,
+    ))
+}
+
+// The table check. Lent: the network, the points and both table arrays of any contents, and nothing is written. Returned: number 0 and yes or no, or
+// 1 to 5, 6, 8. Document 01: 'Table check: yes exactly when both arrays are the table that build would write, whoever filled them.'
+#[no_mangle]
+pub extern "C" fn overlap_table_check(
+    starts: &[u32],
+    neighbours: &[u32],
+    weights: &[u32],
+    points: &[u8],
+    places: u32,
+    ids: &[u32],
+    distances: &[u32],
+) -> Verdict
+    ensures { λ r. ⌜ r ≡ ruleVerdict (tableCheckAnswer (network (now (starts .entry)) (now (neighbours .entry)) (now (weights .entry))) (now (points .entry)) places (now (ids .entry)) (now (distances .entry))) ⌝ }
+{
+    verdict_of(table_check::answer(starts, neighbours, weights, points, places, ids, distances))
+}
+
+// The table query. Lent: the network, the points, both table arrays, scratch of S entries with m = k, and an array for n answers. Returned: number 0
+// and the length of the list, or 1 to 5, 6, 7, 8, 9, 10. Accepted: the answers are the listed points, ascending, then the old entries, and the whole
+// scratch is zero; with a table that the check would deny they are some points, ascending. Refused: nothing is written. Document 01: 'Table query
+// (eager-M): the list, k from 1 to K - 1, since a point's row spends one place on itself.'
+#[no_mangle]
+pub extern "C" fn overlap_table_query(
+    starts: &[u32],
+    neighbours: &[u32],
+    weights: &[u32],
+    points: &[u8],
+    q: u32,
+    k: u32,
+    places: u32,
+    ids: &[u32],
+    distances: &[u32],
+    scratch: &mut [u32],
+    answers: &mut [u32],
+) -> Listing
+    ensures { λ r. ⌜ QueryLeft (tableQueryNumber (network (now (starts .entry)) (now (neighbours .entry)) (now (weights .entry))) (now (points .entry)) q k places (now (ids .entry)) (now (distances .entry)) (now (scratch .entry)) (now (answers .entry))) (network (now (starts .entry)) (now (neighbours .entry)) (now (weights .entry))) (now (points .entry)) q k places (now (ids .entry)) (now (distances .entry)) (now (scratch .entry)) (now (scratch .exit)) (now (answers .entry)) (now (answers .exit)) r ⌝ }
+{
+    listing_of(table_query::answer(
+        starts,
+        neighbours,
+        weights,
+        points,
+        q,
+        k,
+        places,
+        ids,
+        distances,
+        scratch,
+        answers,
+    ))
 }

@@ -4,7 +4,7 @@ ghost use Prim.Native.Nat.{_+_, _*_, _≤_, _<_};
 ghost use lib.ListN.{length};
 ghost use Rattle.network.specs.Count.{any};
 ghost use Rattle.network.specs.Network.{network};
-ghost use Rattle.overlap.specs.Numbers.{badByteAt, pointsNumber, nodeNumber, kNumber, shortNumber, unmarkedNumber, queryNumber};
+ghost use Rattle.overlap.specs.Numbers.{badByteAt, pointsNumber, nodeNumber, tableNumber, kNumber, tableKNumber, shortNumber, markedNumber, unmarkedNumber, queryNumber, tableCheckNumber, tableNodeNumber, updateNumber};
 use network::arcs::wide;
 
 // Of 6: a byte above 1.
@@ -45,6 +45,27 @@ pub fn node_number(n: usize, node: u32) -> u32
     0
 }
 
+// 8: K is not 2 to 17, or a table array has not n × K entries.
+pub fn table_number(n: usize, places: u32, ids: usize, distances: usize) -> u32
+    requires { ⌜ n ≤ 65535 ⌝ }
+    ensures { λ r. ⌜ r ≡ tableNumber n places ids distances ⌝ }
+{
+    if places < 2 {
+        return 8;
+    }
+    if 17 < places {
+        return 8;
+    }
+    let entries = n * wide(places);
+    if ids != entries {
+        return 8;
+    }
+    if distances != entries {
+        return 8;
+    }
+    0
+}
+
 // 9: k is 0 or above 16.
 pub fn k_number(k: u32) -> u32
     ensures { λ r. ⌜ r ≡ kNumber k ⌝ }
@@ -53,6 +74,19 @@ pub fn k_number(k: u32) -> u32
         return 9;
     }
     if 16 < k {
+        return 9;
+    }
+    0
+}
+
+// 9, by table: k is 0 or above K - 1.
+pub fn table_k_number(k: u32, places: u32) -> u32
+    ensures { λ r. ⌜ r ≡ tableKNumber k places ⌝ }
+{
+    if k == 0 {
+        return 9;
+    }
+    if places <= k {
         return 9;
     }
     0
@@ -76,7 +110,19 @@ pub fn short_number(have: usize, need: usize) -> u32
     0
 }
 
-// 11: verify of an unmarked node.
+// 11: insert on a marked node.
+pub fn marked_number(points: &[u8], p: u32) -> u32
+    requires { ⌜ p < length (now points) ⌝ }
+    ensures { λ r. ⌜ r ≡ markedNumber (now (points .entry)) p ⌝ }
+{
+    let mark = points[wide(p)];
+    if mark == 1 {
+        return 11;
+    }
+    0
+}
+
+// 11: remove or verify of an unmarked node.
 pub fn unmarked_number(points: &[u8], p: u32) -> u32
     requires { ⌜ p < length (now points) ⌝ }
     ensures { λ r. ⌜ r ≡ unmarkedNumber (now (points .entry)) p ⌝ }
@@ -118,5 +164,89 @@ pub fn query_number(
         return number;
     }
     let need = scratch_words(n, neighbours.len(), k);
+    short_number(scratch.len(), need)
+}
+
+// What build and the table check test first: 1 to 5, 6, 8.
+pub fn table_check_number(
+    starts: &[u32],
+    neighbours: &[u32],
+    weights: &[u32],
+    points: &[u8],
+    places: u32,
+    ids: &[u32],
+    distances: &[u32],
+) -> u32
+    ensures { λ r. ⌜ r ≡ tableCheckNumber (network (now (starts .entry)) (now (neighbours .entry)) (now (weights .entry))) (now (points .entry)) places (now (ids .entry)) (now (distances .entry)) ⌝ }
+{
+    let number = network::check::network_number(starts, neighbours, weights);
+    if number != 0 {
+        return number;
+    }
+    let n = starts.len() - 1;
+    let number = points_number(n, points);
+    if number != 0 {
+        return number;
+    }
+    table_number(n, places, ids.len(), distances.len())
+}
+
+// What the calls with a node and a table test first: 1 to 5, 6, 7, 8.
+pub fn table_node_number(
+    starts: &[u32],
+    neighbours: &[u32],
+    weights: &[u32],
+    points: &[u8],
+    node: u32,
+    places: u32,
+    ids: &[u32],
+    distances: &[u32],
+) -> u32
+    ensures { λ r. ⌜ r ≡ tableNodeNumber (network (now (starts .entry)) (now (neighbours .entry)) (now (weights .entry))) (now (points .entry)) node places (now (ids .entry)) (now (distances .entry)) ⌝ }
+{
+    let number = network::check::network_number(starts, neighbours, weights);
+    if number != 0 {
+        return number;
+    }
+    let n = starts.len() - 1;
+    let number = points_number(n, points);
+    if number != 0 {
+        return number;
+    }
+    let number = node_number(n, node);
+    if number != 0 {
+        return number;
+    }
+    table_number(n, places, ids.len(), distances.len())
+}
+
+// What insert and remove test before the marks: 10 of scratch too.
+pub fn update_number(
+    starts: &[u32],
+    neighbours: &[u32],
+    weights: &[u32],
+    points: &[u8],
+    node: u32,
+    places: u32,
+    scratch: &[u32],
+    ids: &[u32],
+    distances: &[u32],
+) -> u32
+    ensures { λ r. ⌜ r ≡ updateNumber (network (now (starts .entry)) (now (neighbours .entry)) (now (weights .entry))) (now (points .entry)) node places (now (scratch .entry)) (now (ids .entry)) (now (distances .entry)) ⌝ }
+{
+    let number = table_node_number(
+        starts,
+        neighbours,
+        weights,
+        points,
+        node,
+        places,
+        ids,
+        distances,
+    );
+    if number != 0 {
+        return number;
+    }
+    let need = scratch_words(starts.len() - 1, neighbours.len(), places);
     short_number(scratch.len(), need)
 }

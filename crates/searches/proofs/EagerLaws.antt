@@ -19,7 +19,7 @@ use Rattle.searches.specs.Eager.{CanSearch, CanExplore, isFound, Complet
 use Rattle.searches.proofs.Listed.{own-listed}
 use Rattle.searches.proofs.Selected.{select-same}
 
-bit-true : (x : Bool) → bit x ≢ 0 → x ≡ true
+pub bit-true : (x : Bool) → bit x ≢ 0 → x ≡ true
 bit-true true n = refl
 bit-true false n = absurd (n refl)
 

@@ -1,8 +1,8 @@
 -- The laws of the searches, from the bottom up. Of pruning: beaten nodes; who is listed; where the listed points are found; what a search has found
 -- at its end; a node behind which an expansion stops. Of lists: lent parts; the loop that writes what passes a test. Of eager: its flags; looking
--- at a node; the expansion under way; where it begins and ends; clearing. Of lazy, with or without extended pruning: the
--- search under way. Of lazy alone: the list of the nodes that a verification has settled; how they are counted; a node verified; the search with its
--- counts.
+-- at a node; the expansion under way; where it begins and ends; clearing. Of lazy, with or without extended pruning: the search under way. Of lazy:
+-- the nodes that a verification settles; counting them; verifying a point; the search with the counts. Of lazy with extended pruning: rows of places;
+-- the second expansion; the search with both.
 pub mod Beaten
 pub mod Listed
 pub mod Finds
@@ -21,3 +21,6 @@ pub mod Places
 pub mod CountLaws
 pub mod Discovery
 pub mod Lazily
+pub mod RowLaws
+pub mod SecondLaws
+pub mod LazyEpLaws

@@ -30,12 +30,12 @@ flags-same {g} same f =
     }
 
 -- a place of a list holds a member, and a member has a place
-getD-member : (xs : List (ℕ × ℕ)) (i : ℕ) → i < length xs → List·Memᴰ (getD xs i (0, 0)) xs
+pub getD-member : (xs : List (ℕ × ℕ)) (i : ℕ) → i < length xs → List·Memᴰ (getD xs i (0, 0)) xs
 getD-member [] i h = absurd (omega arith)
 getD-member (x ∷ xs) zero h = List·Memᴰ·head refl
 getD-member (x ∷ xs) (suc i) h = List·Memᴰ·tail (getD-member xs i (omega arith))
 
-place-of : (xs : List (ℕ × ℕ)) (z : ℕ × ℕ) → List·Memᴰ z xs → (i : ℕ) × Next xs i z
+pub place-of : (xs : List (ℕ × ℕ)) (z : ℕ × ℕ) → List·Memᴰ z xs → (i : ℕ) × Next xs i z
 place-of [] z m = absurd (List·Memᴰ·not-nil m)
 place-of (x ∷ xs) z m =
     ⊎-elim

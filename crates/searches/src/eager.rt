@@ -32,7 +32,7 @@ struct End {
 }
 
 // The site's own flag: 1 where it is a point.
-fn own_flag(points: &[u8], q: u32) -> u32
+pub fn own_flag(points: &[u8], q: u32) -> u32
     requires { ⌜ q < length (now points) ⌝ }
     ensures { λ r. ⌜ r ≡ bit (marked (now (points .entry)) q) ⌝ }
 {

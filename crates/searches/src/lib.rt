@@ -1,4 +1,6 @@
-// The searches for the points that list a site: eager, and lazy.
+// The searches for the points that list a site: eager, lazy, and lazy with extended pruning.
 pub mod eager;
-mod flags;
+pub mod flags;
 pub mod lazy;
+pub mod lazy_ep;
+mod second;

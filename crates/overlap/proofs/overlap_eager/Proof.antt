@@ -1,7 +1,7 @@
--- `overlap::overlap_eager` meets its contract: the struct of the answer, case by case, and the arrays as the answer leaves them.
+-- `overlap::overlap_eager` meets its contract: the struct of the answer, and the arrays as the answer leaves them.
 -- Assumes nothing.
-use mathlib.Core.Path.{sym, ap, _∙_}
-use Rattle.overlap.specs.Eager.{EagerOutcome, listedListing}
+use mathlib.Core.Path.{ap, _∙_}
+use Rattle.overlap.specs.Listed.{SearchOutcome, listedListing}
 use borrow.Author.Needs.{needs}
 use Rattle.overlap.proofs.overlap_eager.Statement.{statement}
 use Rattle.overlap.proofs.overlap_eager.Tie as tie
@@ -9,11 +9,8 @@ use Rattle.overlap.proofs.overlap_eager.Tie as tie
 answer-requires : tie.Need-answer-requires
 answer-requires c κs = search needs
 
-enum-known-number : tie.Need-enum-known-number
-enum-known-number c = search needs
-
-enum-known-length : tie.Need-enum-known-length
-enum-known-length c = search needs
+listing-of-requires : tie.Need-listing-of-requires
+listing-of-requires c κs = search needs
 
 same-length : tie.Need-same-length
 same-length c = search needs
@@ -23,38 +20,13 @@ same-length-2 c = search needs
 
 returns : tie.Need-returns
 returns c =
-    let e = c .before .before .before .before .before .before .before .answer .ensures in
+    let e = c .before .before .before .before .before .answer .ensures in
     record {
-      answer = ap listedListing (sym (c .before .number .given .1)) ∙ ap (λ (o : EagerOutcome). listedListing (o .answer)) e;
-      scratch-left = ap (λ (o : EagerOutcome). o .scratch) e;
-      answers-left = ap (λ (o : EagerOutcome). o .answers) e;
-    }
-
-same-length-3 : tie.Need-same-length-3
-same-length-3 c = search needs
-
-same-length-4 : tie.Need-same-length-4
-same-length-4 c = search needs
-
-returns-2 : tie.Need-returns-2
-returns-2 c =
-    let e = c .before .before .before .before .before .before .before .answer .ensures in
-    record {
-      answer = ap listedListing (sym (c .before .length .given .1)) ∙ ap (λ (o : EagerOutcome). listedListing (o .answer)) e;
-      scratch-left = ap (λ (o : EagerOutcome). o .scratch) e;
-      answers-left = ap (λ (o : EagerOutcome). o .answers) e;
+      answer = c .listing-of .ensures ∙ ap (λ (o : SearchOutcome). listedListing (o .answer)) e;
+      scratch-left = ap (λ (o : SearchOutcome). o .scratch) e;
+      answers-left = ap (λ (o : SearchOutcome). o .answers) e;
     }
 
 pub overlap-eager-spec : {M : Type 1} → statement M
 overlap-eager-spec =
-    tie.close
-    (tie.spec
-    answer-requires
-    enum-known-number
-    enum-known-length
-    same-length
-    same-length-2
-    returns
-    same-length-3
-    same-length-4
-    returns-2)
+    tie.close (tie.spec answer-requires listing-of-requires same-length same-length-2 returns)

@@ -1,7 +1,7 @@
 -- `overlap::eager::answer` meets its contract: refused with its number, or run where no condition is met, case by case.
 -- Assumes nothing.
 use mathlib.Core.Path.{sym, _∙_}
-use Rattle.overlap.proofs.Ready.{eager-ready}
+use Rattle.overlap.proofs.Ready.{search-ready}
 use Rattle.overlap.proofs.Outcomes.{eager-refused, eager-beyond, eager-done}
 use Rattle.network.specs.Network.{Network, network}
 use borrow.Author.Needs.{needs}
@@ -34,7 +34,7 @@ run-requires c κs =
     let e = c .before .before in
     let n = e .before in
     let s = start n in
-    eager-ready (G s) (s .args .points .now) (s .args .q) (s .args .k) (s .args .scratch .now) (s .args .answers .now) (sym (n .number .ensures) ∙ e .if1 .left)
+    search-ready (G s) (s .args .points .now) (s .args .q) (s .args .k) (s .args .scratch .now) (s .args .answers .now) (sym (n .number .ensures) ∙ e .if1 .left)
 
 enum-told : tie.Need-enum-told
 enum-told c = search needs

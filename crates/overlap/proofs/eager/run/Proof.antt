@@ -60,6 +60,7 @@ search-requires c κs =
       points = p .points;
       site = p .site;
       some = p .some;
+      few = p .few;
       room = simp length-take (omega (arith, w .wide .ensures, words-for-eager (G s) (s .args .k) (p .some) (p .few) (p .accepted .some), p .room));
       places = p .places;
     }

@@ -1,0 +1,139 @@
+-- The hypotheses of demand 3 can be met: for every list of calls there is a run that the contracts allow; and network N with an insertion, a removal and a
+-- refused call is one.
+-- Assumes nothing.
+use Prim.Native.Nat.{ℕ, _≤_}
+use mathlib.Core.Path.{_≡_, refl}
+use mathlib.Core.Bool.{true, not}
+use mathlib.Core.List.{List, [], _∷_}
+use native.Mathlib.Decide.{ℕ-discrete}
+use native.Mathlib.Omega.{arith}
+use lib.ListN.{length, replicate, length-replicate}
+use Rattle.network.specs.Network.{Network, nodeCount}
+use Rattle.network.specs.Count.{any, count}
+use Rattle.network.specs.Network.{arcsFrom, arcsOf, partOf}
+use Rattle.network.specs.Check.{badSize, fallsAt, badStarts, badNeighbourAt, badPart, badNeighboursOf, badNeighbours, badWeightAt, badWeights, isArcAt, hasArc, lacksReturnAt, lacksReturnOf, lacksReturn, networkNumber}
+use Rattle.network.specs.Distance.{plus, least, within, dist}
+use Rattle.network.specs.Points.{isNearer}
+use Rattle.network.specs.Nearest.{insert, byDistance, nearest}
+use Rattle.network.specs.Rows.{row, sameRow, tableIds, tableDistances, rowsChanged}
+use Rattle.network.specs.Cases.{roads, points}
+use Rattle.network.proofs.Counts.{count-mono, count-all}
+use Rattle.table.proofs.Laid.{table-sized}
+use Rattle.overlap.specs.declared.updated.Kind.{Kind}
+use Rattle.overlap.specs.declared.updated.Kind.the-variants.{Insert, Remove}
+use Rattle.overlap.specs.declared.Update.{Update}
+use Rattle.overlap.specs.Numbers.{firstNumber, badByteAt, pointsNumber, nodeNumber, tableNumber, shortNumber, markedNumber, unmarkedNumber, tableCheckNumber, buildNumber}
+use Rattle.overlap.specs.Build.{buildOutcome}
+use Rattle.overlap.specs.Updated.{kindMarks, changeNumber, Arrays, ChangeLeft}
+use Rattle.overlap.specs.Book.{Call, bookNumber, bookCall, bookAnswers, bookMarks}
+use Rattle.overlap.specs.Demand.{Run, ends, call, Demand3}
+use Rattle.overlap.proofs.Demand.{demand}
+
+-- no more rows change than there are
+changed-most : (g : Network) (P Q : List ℕ) (K : ℕ) → rowsChanged g P Q K ≤ nodeCount g
+unfolding rowsChanged
+changed-most g P Q K = omega (arith, count-mono (λ i. not (sameRow (row g P K i) (row g Q K i))) (λ _. true) (nodeCount g) (λ x h a. refl), count-all (nodeCount g))
+
+-- what a call may leave
+record Leaves (kind : Kind) (g : Network) (node K : ℕ) (old : Arrays) : Type 0 where
+  new : Arrays
+  answer : Update
+  left : ChangeLeft kind g node K old new answer
+
+leaves : (kind : Kind) (g : Network) (node K : ℕ) (old : Arrays) → Leaves kind g node K old
+leaves kind g node K old =
+    let Q = kindMarks kind (old .points) node in
+    elim (ℕ-discrete (changeNumber kind g (old .points) node K (old .scratch) (old .ids) (old .distances)) 0) [
+      | yes z ↦
+          record {
+            new =
+                record {
+                  points = Q;
+                  scratch = replicate (length (old .scratch)) 0;
+                  ids = tableIds g Q K;
+                  distances = tableDistances g Q K;
+                };
+            answer = record { number = 0; changed = rowsChanged g (old .points) Q K };
+            left =
+                record {
+                  refused = λ n. absurd (n z);
+                  accepted = λ _. (
+                    refl,
+                    record {
+                      marks = refl;
+                      zero = refl;
+                      sized = table-sized g Q K;
+                      most = changed-most g (old .points) Q K;
+                      table = λ _. record { same-ids = refl; same-dists = refl };
+                      counted = λ _. refl;
+                    },
+                  );
+                };
+          }
+      | no n ↦
+          record {
+            new = old;
+            answer =
+                record {
+                  number = changeNumber kind g (old .points) node K (old .scratch) (old .ids) (old .distances);
+                  changed = 0;
+                };
+            left = record { refused = λ _. (refl, refl); accepted = λ z. absurd (n z) };
+          }
+    ]
+
+-- a run of a list of calls
+pub record Runs (g : Network) (P ids distances : List ℕ) (cs : List Call) : Type 0 where
+  pub answers : List Update
+  pub marks : List ℕ
+  pub last-ids : List ℕ
+  pub last-distances : List ℕ
+  pub run : Run g P ids distances cs answers marks last-ids last-distances
+
+pub runs : (g : Network) (P ids distances : List ℕ) (cs : List Call) → Runs g P ids distances cs
+runs g P ids distances [] = record { answers = []; marks = P; last-ids = ids; last-distances = distances; run = ends }
+runs g P ids distances (c ∷ cs) =
+    let scratch : List ℕ = replicate (c .scratch) 0 in
+    let l = leaves (c .kind) g (c .node) (c .places) (record { points = P; scratch = scratch; ids = ids; distances = distances }) in
+    let rest = runs g (l .new .points) (l .new .ids) (l .new .distances) cs in
+    record {
+      answers = l .answer ∷ rest .answers;
+      marks = rest .marks;
+      last-ids = rest .last-ids;
+      last-distances = rest .last-distances;
+      run = call scratch (l .new) (length-replicate (c .scratch) 0) (l .left) (rest .run);
+    }
+
+-- N built with K = 2; then node 0 is inserted (P10), node 2 removed, and node 4 inserted, which is refused
+abbrev pub calls : List Call
+calls =
+    record { kind = Insert; node = 0; places = 2; scratch = 352 }
+    ∷ record { kind = Remove; node = 2; places = 2; scratch = 352 }
+    ∷ record { kind = Insert; node = 4; places = 2; scratch = 352 }
+    ∷ []
+
+pub built : buildNumber (roads 7) points 2 (replicate 352 0) (replicate 12 0) (replicate 12 0) ≡ 0
+unfolding any arcsFrom arcsOf partOf badSize fallsAt badStarts badNeighbourAt badPart badNeighboursOf badNeighbours badWeightAt badWeights isArcAt hasArc lacksReturnAt lacksReturnOf lacksReturn networkNumber buildNumber tableCheckNumber firstNumber badByteAt pointsNumber tableNumber shortNumber
+built = refl
+
+pub answers : bookAnswers (roads 7) 2 points calls
+    ≡ record { number = 0; changed = 4 } ∷ record { number = 0; changed = 4 } ∷ record { number = 11; changed = 0 } ∷ []
+unfolding any count arcsFrom arcsOf partOf plus least within dist isNearer insert byDistance nearest row sameRow rowsChanged bookAnswers bookCall bookNumber firstNumber nodeNumber tableNumber shortNumber markedNumber unmarkedNumber
+answers = refl
+
+pub marks : bookMarks (roads 7) 2 points calls ≡ 1 ∷ 0 ∷ 0 ∷ 0 ∷ 1 ∷ 1 ∷ []
+unfolding bookMarks bookCall bookNumber firstNumber nodeNumber tableNumber shortNumber markedNumber unmarkedNumber
+marks = refl
+
+abbrev pub table : List ℕ × List ℕ
+table =
+    let o = buildOutcome (roads 7) points 2 (replicate 352 0) (replicate 12 0) (replicate 12 0) in
+    (o .ids, o .distances)
+
+pub all : Runs (roads 7) points (table .0) (table .1) calls
+all = runs (roads 7) points (table .0) (table .1) calls
+
+pub instance : Demand3 (roads 7) points 2 calls (all .answers) (all .marks) (all .last-ids) (all .last-distances)
+instance =
+    demand (roads 7) points 2 (replicate 352 0) (replicate 12 0) (replicate 12 0) built calls (all .answers) (all .marks) (all .last-ids) (all .last-distances)
+    (all .run)

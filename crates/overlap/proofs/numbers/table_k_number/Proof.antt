@@ -1,0 +1,21 @@
+-- `overlap::numbers::table_k_number` meets its contract: each return is what its tests say.
+-- Assumes nothing.
+use Rattle.network.proofs.Tests.{tests}
+use Rattle.overlap.specs.Numbers.{tableKNumber}
+use Rattle.overlap.proofs.numbers.table_k_number.Statement.{statement}
+use Rattle.overlap.proofs.numbers.table_k_number.Tie as tie
+
+returns : tie.Need-returns
+unfolding tableKNumber
+returns c = search tests
+
+returns-2 : tie.Need-returns-2
+unfolding tableKNumber
+returns-2 c = search tests
+
+returns-3 : tie.Need-returns-3
+unfolding tableKNumber
+returns-3 c = search tests
+
+pub table-k-number-spec : {M : Type 1} → statement M
+table-k-number-spec = tie.close (tie.spec returns returns-2 returns-3)

@@ -1,0 +1,85 @@
+-- `overlap::updated::answer` meets its contract: refused with its number, or run where no condition is met.
+-- Assumes nothing.
+use Prim.Native.Nat.{ℕ}
+use mathlib.Core.Path.{refl, sym, ap, _∙_}
+use Rattle.network.specs.Network.{Network, network}
+use Rattle.overlap.specs.declared.Update.{Update}
+use Rattle.overlap.proofs.Ready.{change-ready}
+use borrow.Author.Needs.{needs}
+use Rattle.overlap.proofs.updated.answer.Statement.{statement}
+use Rattle.overlap.proofs.updated.answer.Tie as tie
+
+abbrev G : tie.Start → Network
+G s = network (s .args .starts .now) (s .args .neighbours .now) (s .args .weights .now)
+
+abbrev start-of : tie.After-number → tie.Start
+start-of n = n .before .before .before .before .before .before .before .before .before .before .before .before
+
+number-requires : tie.Need-number-requires
+number-requires c κs = search needs
+
+same-length : tie.Need-same-length
+same-length c = search needs
+
+same-length-2 : tie.Need-same-length-2
+same-length-2 c = search needs
+
+same-length-3 : tie.Need-same-length-3
+same-length-3 c = search needs
+
+same-length-4 : tie.Need-same-length-4
+same-length-4 c = search needs
+
+returns : tie.Need-returns
+returns c =
+    let n = c .before in
+    record {
+      refused = λ _. (ap (λ (m : ℕ). record { number = m; changed = 0 }) (n .number .ensures), refl);
+      accepted = λ z. absurd (c .if1 .taken (n .number .ensures ∙ z));
+    }
+
+run-requires : tie.Need-run-requires
+run-requires c κs =
+    let e = c .before .before .before .before in
+    let n = e .before in
+    let s = start-of n in
+    change-ready (s .args .kind) (G s) (s .args .points .now) (s .args .node) (s .args .places) (s .args .scratch .now) (s .args .ids .now) (s .args .distances .now) (sym (n .number .ensures) ∙ e .if1 .left)
+
+same-length-5 : tie.Need-same-length-5
+same-length-5 c = search needs
+
+same-length-6 : tie.Need-same-length-6
+same-length-6 c = search needs
+
+same-length-7 : tie.Need-same-length-7
+same-length-7 c = search needs
+
+same-length-8 : tie.Need-same-length-8
+same-length-8 c = search needs
+
+returns-2 : tie.Need-returns-2
+returns-2 c =
+    let r = c .before .before .before .before .before .before .before .before in
+    let e = r .before .before .before .before .before in
+    let n = e .before in
+    record {
+      refused = λ z. absurd (z (sym (n .number .ensures) ∙ e .if1 .left));
+      accepted = λ _. (refl, r .run .ensures);
+    }
+
+pub answer-spec : {M : Type 1} → statement M
+answer-spec =
+    tie.close
+    (tie.spec
+    number-requires
+    same-length
+    same-length-2
+    same-length-3
+    same-length-4
+    returns
+    run-requires
+    same-length-5
+    same-length-6
+    same-length-7
+    same-length-8
+    returns-2)

@@ -1,0 +1,78 @@
+-- Demand 3: 'a single claim about the whole list, not one for each call; the list may be empty'. It speaks of the records that the public contracts
+-- ensure. The theorem is proofs/Demand.antt's.
+-- Assumes nothing.
+use Prim.Native.Nat.{ℕ, _≤_, _<_}
+use mathlib.Core.Path.{_≡_}
+use mathlib.Core.Logic.{_≢_, _⊎_}
+use mathlib.Core.List.{List, [], _∷_}
+use lib.ListN.{length}
+use Rattle.network.specs.Network.{Network, nodeCount}
+use Rattle.network.specs.Rows.{tableIds, tableDistances}
+use Rattle.network.specs.Points.{listed, expanded}
+use Rattle.network.specs.Answers.{answered}
+use Rattle.overlap.specs.declared.Update.{Update}
+use Rattle.overlap.specs.declared.Listing.{Listing}
+use Rattle.overlap.specs.Numbers.{scratchWords, buildNumber, tableQueryNumber}
+use Rattle.overlap.specs.Build.{buildOutcome}
+use Rattle.overlap.specs.declared.updated.Kind.{Kind}
+use Rattle.overlap.specs.Updated.{Arrays, ChangeLeft}
+use Rattle.overlap.specs.Eager.{eagerOutcome}
+use Rattle.overlap.specs.Lazy.{lazyOutcome}
+use Rattle.overlap.specs.TableQuery.{QueryLeft}
+use Rattle.overlap.specs.Exported.{SearchExported}
+use Rattle.overlap.specs.Book.{Call, bookAnswers, bookMarks}
+
+-- an array of ours after a call that was lent `lent` and left `left`: it was that array, or another
+abbrev pub OursAfter : List ℕ → List ℕ → List ℕ → List ℕ → Type 0
+OursAfter ours lent left after = ((lent ≡ ours) × (after ≡ left)) ⊎ (after ≡ ours)
+
+-- 'Its first call is lent the network and the marks that the build was lent and the table that it wrote, each later one these as the last call left
+-- them. A call's node, K and scratch may be any. Refused calls lent another network, other marks or other table arrays may come in between'
+pub data Run (g : Network) : List ℕ → List ℕ → List ℕ → List Call → List Update → List ℕ → List ℕ → List ℕ → Type 0 where
+  ends : {P ids distances : List ℕ} → Run g P ids distances [] [] P ids distances
+  call : {P ids distances : List ℕ} {c : Call} {cs : List Call} {r : Update} {rs : List Update} {P′ ids′ distances′ : List ℕ}
+      (scratch : List ℕ) (new : Arrays)
+      → length scratch ≡ c .scratch
+      → ChangeLeft (c .kind) g (c .node) (c .places) (record { points = P; scratch = scratch; ids = ids; distances = distances }) new r
+      → Run g (new .points) (new .ids) (new .distances) cs rs P′ ids′ distances′
+      → Run g P ids distances (c ∷ cs) (r ∷ rs) P′ ids′ distances′
+  foreign : {P ids distances P₁ ids₁ distances₁ : List ℕ} {cs : List Call} {rs : List Update} {P′ ids′ distances′ : List ℕ}
+      (kind : Kind) (other : Network) (node K : ℕ) (old new : Arrays) (r : Update)
+      → ChangeLeft kind other node K old new r
+      → r .number ≢ 0
+      → OursAfter P (old .points) (new .points) P₁
+      → OursAfter ids (old .ids) (new .ids) ids₁
+      → OursAfter distances (old .distances) (new .distances) distances₁
+      → Run g P₁ ids₁ distances₁ cs rs P′ ids′ distances′
+      → Run g P ids distances cs rs P′ ids′ distances′
+
+-- a search says number 0 and writes the list of the site q
+pub record Quotes (g : Network) (P : List ℕ) (q k : ℕ) (old new : List ℕ) (r : Listing) : Type 0 where
+  pub number : r .number ≡ 0
+  pub sized : r .length ≡ length (listed g P q k)
+  pub answers : new ≡ answered (listed g P q k) old
+
+-- 'The searches are then lent this network, these marks and arrays that 10 lets pass; the table query also the table with the build's K, eager a limit
+-- of at least its expanded count.' Whatever they leave by their contracts is the one list, and eager's count is the definition's.
+pub record Agree (g : Network) (P : List ℕ) (K : ℕ) (ids distances : List ℕ) (q k : ℕ) (scratch old scratch′ new : List ℕ) (r : Listing) : Type 0 where
+  pub eager : (limit : ℕ) → expanded g P q k ≤ limit → SearchExported (eagerOutcome g P q k limit scratch old) r scratch′ new
+      → Quotes g P q k old new r × (r .count ≡ expanded g P q k)
+  pub lazy : SearchExported (lazyOutcome g P q k scratch old) r scratch′ new → Quotes g P q k old new r
+  pub by-table : QueryLeft (tableQueryNumber g P q k K ids distances scratch old) g P q k K ids distances scratch scratch′ old new r → Quotes g P q k old new r
+
+-- Each call's number and changed count equal the book's. 'After the list the lent marks equal the book's, [..] and both table arrays hold the rows of
+-- those marks', and the searches agree. Lazy and lazy-EP have one contract.
+pub record Demand3 (g : Network) (P₀ : List ℕ) (K : ℕ) (calls : List Call) (answers : List Update) (P ids distances : List ℕ) : Type 0 where
+  pub answered-so : answers ≡ bookAnswers g K P₀ calls
+  pub marks : P ≡ bookMarks g K P₀ calls
+  pub table-ids : ids ≡ tableIds g P K
+  pub table-distances : distances ≡ tableDistances g P K
+  pub agree : (q k : ℕ) → q < nodeCount g → 1 ≤ k → k < K → (scratch old scratch′ new : List ℕ) (r : Listing)
+      → scratchWords g k ≤ length scratch → nodeCount g ≤ length old → Agree g P K ids distances q k scratch old scratch′ new r
+
+-- after an accepted build, for every list
+abbrev pub demand-3 : Type 0
+demand-3 = (g : Network) (P₀ : List ℕ) (K : ℕ) (scratch ids distances : List ℕ) → buildNumber g P₀ K scratch ids distances ≡ 0
+    → (calls : List Call) (answers : List Update) (P ids′ distances′ : List ℕ)
+    → Run g P₀ (buildOutcome g P₀ K scratch ids distances .ids) (buildOutcome g P₀ K scratch ids distances .distances) calls answers P ids′ distances′
+    → Demand3 g P₀ K calls answers P ids′ distances′

@@ -1,0 +1,43 @@
+// The table check: its number, and the check once no condition is met.
+ghost use mathlib.Core.Path.{_≡_};
+ghost use Rattle.network.specs.Network.{network};
+ghost use Rattle.overlap.specs.TableCheck.{tableCheckAnswer};
+use crate::numbers;
+use crate::verify::Rule;
+use network::arcs::wide;
+
+// The whole call.
+pub fn answer(
+    starts: &[u32],
+    neighbours: &[u32],
+    weights: &[u32],
+    points: &[u8],
+    places: u32,
+    ids: &[u32],
+    distances: &[u32],
+) -> Rule
+    ensures { λ r. ⌜ r ≡ tableCheckAnswer (network (now (starts .entry)) (now (neighbours .entry)) (now (weights .entry))) (now (points .entry)) places (now (ids .entry)) (now (distances .entry)) ⌝ }
+{
+    let refusal = numbers::table_check_number(
+        starts,
+        neighbours,
+        weights,
+        points,
+        places,
+        ids,
+        distances,
+    );
+    if refusal != 0 {
+        return Rule::Refused(refusal);
+    }
+    let yes = table::check::check(
+        starts,
+        neighbours,
+        weights,
+        points,
+        ids,
+        distances,
+        wide(places),
+    );
+    Rule::Answer(yes)
+}

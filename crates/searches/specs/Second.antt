@@ -1,0 +1,123 @@
+-- The second expansion of lazy with extended pruning (source 000, section 4.2): it spreads the verified points over the network, and each node keeps
+-- a row of k places for the nearest of them that came to it. The lent words are: found flags n | row ids n k | row words n k | queue, to their end.
+-- Word of a place: 0 while it is empty, else its distance plus one. An entry of the queue: a distance, and as its tag the point and the node.
+-- (No sentence of document 01: rows only hold sums of walks, and nothing is promised of how many there are.)
+-- Assumes nothing.
+use Prim.Native.Nat.{ℕ, zero, suc, _+_, _*_, _/_, _%_, _≤_, _<_}
+use mathlib.Core.Path.{_≡_}
+use mathlib.Core.Logic.{_≢_}
+use mathlib.Core.Bool.{true}
+use mathlib.Core.List.{List}
+use lib.ListN.{length, getD, drop}
+use Rattle.network.specs.Network.{Network, nodeCount, arcCount}
+use Rattle.network.specs.Accepted.{Accepted}
+use Rattle.network.specs.Walk.{Walk}
+use Rattle.network.specs.Points.{marked}
+use Rattle.expansion.specs.Queue.{Holds, Queue}
+use Rattle.expansion.specs.Tags.{tagNode, tagParent}
+use Rattle.expansion.specs.Area.{Kept}
+use Rattle.expansion.specs.Expand.{wordDistance}
+
+-- the point, the node and the distance of the entry with the key
+abbrev pub pointOf : ℕ → ℕ
+pointOf key = tagNode (key % 4294967296)
+
+abbrev pub besideOf : ℕ → ℕ
+besideOf key = tagParent (key % 4294967296)
+
+abbrev pub farOf : ℕ → ℕ
+farOf key = key / 4294967296
+
+-- where the row words start, and the queue
+abbrev pub wordsBase : ℕ → ℕ → ℕ
+wordsBase n k = n + n * k
+
+abbrev pub secondBase : ℕ → ℕ → ℕ
+secondBase n k = n + 2 * (n * k)
+
+abbrev pub secondQueue : ℕ → ℕ → List ℕ → List ℕ
+secondQueue n k xs = drop (secondBase n k) xs
+
+-- place j of node u's row: its id, and its word
+abbrev pub idAt : ℕ → ℕ → List ℕ → ℕ → ℕ → ℕ
+idAt n k xs u j = getD xs (n + u * k + j) 0
+
+abbrev pub wordAt : ℕ → ℕ → List ℕ → ℕ → ℕ → ℕ
+wordAt n k xs u j = getD xs (wordsBase n k + u * k + j) 0
+
+-- p is a mark, and d is the sum of a walk from u to it
+pub record Source (g : Network) (M : List ℕ) (u p d : ℕ) : Type 0 where
+  pub inside : p < nodeCount g
+  pub point : marked M p ≡ true
+  pub walk : Walk g u p d
+
+-- rows without doubles, and a queue of `len` entries for nodes and points of the network
+pub record Second (g : Network) (xs : List ℕ) (k len : ℕ) : Type 0 where
+  pub fits : secondBase (nodeCount g) k ≤ length xs
+  pub queue : Queue (secondQueue (nodeCount g) k xs) len
+  pub points : (key : ℕ) → Holds (secondQueue (nodeCount g) k xs) len key → pointOf key < nodeCount g
+  pub nodes : (key : ℕ) → Holds (secondQueue (nodeCount g) k xs) len key → besideOf key < nodeCount g
+  pub distinct :
+      (u i j : ℕ) → u < nodeCount g → i < k → j < k → wordAt (nodeCount g) k xs u i ≢ 0 → wordAt (nodeCount g) k xs u j ≢ 0
+      → idAt (nodeCount g) k xs u i ≡ idAt (nodeCount g) k xs u j → i ≡ j
+
+-- what stands in the rows and waits in the queue are sums of walks to marks of M
+pub record Sound (g : Network) (M xs : List ℕ) (k len : ℕ) : Type 0 where
+  pub stands : (u j d : ℕ) → u < nodeCount g → j < k → wordAt (nodeCount g) k xs u j ≡ suc d → Source g M u (idAt (nodeCount g) k xs u j) d
+  pub waits : (key : ℕ) → Holds (secondQueue (nodeCount g) k xs) len key → Source g M (besideOf key) (pointOf key) (farOf key)
+
+-- what the second expansion has left to do: each put lessens the distances in the rows, where an empty place counts as NONE, and adds at most A
+-- entries
+unfoldable pub total : (ℕ → ℕ) → ℕ → ℕ
+total f zero = 0
+total f (suc n) = total f n + f n
+
+abbrev pub spread : ℕ → ℕ → List ℕ → ℕ
+spread n k xs = total (λ i. wordDistance (getD xs (wordsBase n k + i) 0)) (n * k)
+
+abbrev pub work : Network → ℕ → List ℕ → ℕ → ℕ
+work g k xs len = spread (nodeCount g) k xs * (arcCount g + 2) + len
+
+-- the place that p, at distance d, takes in a row, whose ids start at `ids` and whose words at `words`: an empty one or one that is farther, where
+-- p is not in the row; or k
+pub record PlaceFor (xs : List ℕ) (ids words k p d r : ℕ) : Type 0 where
+  pub most : r ≤ k
+  pub farther : r < k → d < wordDistance (getD xs (words + r) 0)
+  pub absent : r < k → (j : ℕ) → j < k → getD xs (words + j) 0 ≢ 0 → getD xs (ids + j) 0 ≢ p
+
+-- point p, at distance d from node u, can be put into u's row and offered to u's neighbours
+pub record CanSpread (g : Network) (xs : List ℕ) (k len p u d : ℕ) : Type 0 where
+  pub accepted : Accepted g
+  pub second : Second g xs k len
+  pub inside : u < nodeCount g
+  pub point : p < nodeCount g
+  pub fits : d + 65535 < 4294967296
+
+-- p was offered to the neighbours of u before place `end`, as far as the queue has room
+pub record Offered (g : Network) (xs ys : List ℕ) (k len r p u d end : ℕ) : Type 0 where
+  pub frame : Kept xs ys (secondBase (nodeCount g) k)
+  pub grown : r ≤ len + end
+  pub second : Second g ys k r
+  pub sound : (M : List ℕ) → Source g M u p d → Sound g M xs k len → Sound g M ys k r
+
+-- p came to u at distance d
+pub record Admitted (g : Network) (xs ys : List ℕ) (k len r p u d : ℕ) : Type 0 where
+  pub frame : Kept xs ys (nodeCount g)
+  pub second : Second g ys k r
+  pub sound : (M : List ℕ) → Source g M u p d → Sound g M xs k len → Sound g M ys k r
+  pub less : work g k ys r ≤ work g k xs len
+
+-- the entries of a distance below l come to their nodes
+pub record CanAdvance (g : Network) (xs : List ℕ) (k len l : ℕ) : Type 0 where
+  pub accepted : Accepted g
+  pub second : Second g xs k len
+  pub fits : l + 65535 ≤ 4294967296
+
+pub record Advanced (g : Network) (xs ys : List ℕ) (k len r : ℕ) : Type 0 where
+  pub frame : Kept xs ys (nodeCount g)
+  pub second : Second g ys k r
+  pub sound : (M : List ℕ) → Sound g M xs k len → Sound g M ys k r
+
+-- each place of node u's row has a distance below l
+pub record Closed (n : ℕ) (xs : List ℕ) (k u l : ℕ) : Type 0 where
+  pub below : (j : ℕ) → j < k → wordDistance (wordAt n k xs u j) < l

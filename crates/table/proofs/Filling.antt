@@ -1,0 +1,381 @@
+-- The arrays and the scratch while build fills the table: the rows that the words say are a table under way (`Building`), the offers are the queue's
+-- entries, the places behind a row's entries are empty, and the queue has room. An offer that is popped is refused or taken by its row; both
+-- keep all this, and the room falls. When the queue is empty, the arrays are the table.
+-- Assumes nothing.
+use Prim.Native.Nat.{ℕ, zero, suc, _+_, _-_, _*_, _≤_, _<_}
+use mathlib.Core.Path.{_≡_, refl, sym, ap, _∙_}
+use mathlib.Core.Logic.{_≢_, _↔_, _⊎_, inl, inr, ⊎-elim}
+use mathlib.Core.List.{List, [], _∷_, _++_, List·Memᴰ, List·Memᴰ·not-nil, Memᴰ·cast}
+use native.Mathlib.Decide.{ℕ-discrete, decLt}
+use native.Mathlib.Nat.{add-zero}
+use native.Mathlib.Omega.{arith}
+use lib.ListN.{length, getD, drop, replicate, length-set, getD-replicate}
+use lib.Seq.{getD-set-same, getD-set-other, drop-set-lt}
+use Rattle.network.specs.Network.{Network, nodeCount, arcCount, neighboursOf, weightsOf}
+use Rattle.network.specs.Accepted.{Accepted}
+use Rattle.network.specs.Walk.{here}
+use Rattle.network.specs.Distance.{NONE}
+use Rattle.network.specs.Nearest.{key}
+use Rattle.network.specs.Rows.{row}
+use Rattle.network.proofs.Ranges.{arc-at, arc-place, neighbours-length}
+use Rattle.network.proofs.NumberZero.{accepted-ranges}
+use Rattle.network.proofs.Least.{distance}
+use Rattle.network.proofs.Distances.{dist-walk}
+use Rattle.expansion.specs.Queue.{Holds, Queue, PoppedAt}
+use Rattle.expansion.proofs.Room.{degree}
+use Rattle.expansion.proofs.TagLaws.{entry-same}
+use Rattle.table.specs.Exact.{Placed}
+use Rattle.table.specs.Flat.{place, places, rowAt, Sized, IsTable}
+use Rattle.table.specs.Build.{StandsAt, CanAppend, TakesAt, RefusesAt, offerKey, OfferedBy, CanOffer, Offered, SeededBy, Seeded, CanSpread}
+use Rattle.table.proofs.Exact.{exact-row}
+use Rattle.table.proofs.Flat.{places-length, place-in, in-place, places-padded, places-same}
+use Rattle.table.proofs.Laid.{row-fits, rows-apart, rows-table}
+use Rattle.table.proofs.Building.{Offer, Building, TakenOut, RowTakes, OverArc, OffersOn, building-same, building-done, building-dropped, building-taken, offer, stands-placed, full-placed, taken-exact}
+use Rattle.table.proofs.BuildRoom.{freeArcs, free-same, free-less, free-all}
+
+-- the row of i, without its padding
+abbrev pub rowsOf : ℕ → List ℕ → List ℕ → List ℕ → ℕ → List (ℕ × ℕ)
+rowsOf K xs ids dists i = places ids dists (i * K) (getD xs i 0)
+
+-- the queue offers point p at distance d to the row of i
+pub record HeldIn (n : ℕ) (xs : List ℕ) (len i p d : ℕ) : Type 0 where
+  pub node : i < 65536
+  pub point : p < 65536
+  pub holds : Holds (drop n xs) len (offerKey i p d)
+
+pub record Filling (g : Network) (P : List ℕ) (K : ℕ) (xs ids dists : List ℕ) (len : ℕ) : Type 0 where
+  pub sized : Sized g K ids dists
+  pub room : nodeCount g + 2 * (nodeCount g + K * arcCount g) ≤ length xs
+  pub queue : Queue (drop (nodeCount g) xs) len
+  pub padding : (i j : ℕ) → i < nodeCount g → getD xs i 0 ≤ j → j < K → place ids dists (i * K + j) ≡ (NONE, NONE)
+  pub last : ℕ
+  pub built : Building g P K (rowsOf K xs ids dists) (HeldIn (nodeCount g) xs len) last
+  pub left : len + freeArcs g K xs (nodeCount g) ≤ nodeCount g + K * arcCount g
+
+-- places of one entry more
+places-more : (ids dists : List ℕ) (at k : ℕ) → places ids dists at (suc k) ≡ places ids dists at k ++ place ids dists (at + k) ∷ []
+unfolding places
+places-more ids dists at zero = ap (λ (x : ℕ). place ids dists x ∷ []) (sym (add-zero at))
+places-more ids dists at (suc k) =
+    let q : suc at + k ≡ at + suc k = omega arith in
+    ap (λ (l : List (ℕ × ℕ)). place ids dists at ∷ l) (rw q at (places-more ids dists (suc at) k))
+
+no-places : (ids dists : List ℕ) (at : ℕ) → places ids dists at 0 ≡ []
+unfolding places
+no-places ids dists at = refl
+
+-- offers go by distance and point, then by node
+rows-order : (i p d j q e : ℕ) → i < 65536 → p < 65536 → j < 65536 → q < 65536 → offerKey i p d ≤ offerKey j q e → key (p, d) ≤ key (q, e)
+rows-order i p d j q e a b a′ b′ l = elim (decLt d e) [ yes h ↦ omega arith | no h ↦ omega arith ]
+
+-- ---- The start: all places are empty, and every point is offered to its own row.
+module _ {g : Network} {P xs ys ids dists : List ℕ} {K len : ℕ} (c : CanSpread g P xs ids dists K) (s : Seeded P xs ys (length P) len) where
+  nodes : length P ≡ nodeCount g
+  nodes = c .can .points
+
+  start-holds : (k : ℕ) → Holds (drop (nodeCount g) ys) len k ↔ SeededBy P (nodeCount g) k
+  start-holds k = rw nodes at (s .holds k)
+
+  start-word : (i : ℕ) → i < nodeCount g → getD ys i 0 ≡ 0
+  start-word i h = s .frame .words i (omega (arith, nodes)) ∙ c .can .blank .zero i (omega arith)
+
+  start-held : (i p d : ℕ) → HeldIn (nodeCount g) ys len i p d → Offer g P i p d
+  start-held i p d x = from (start-holds (offerKey i p d) .0 (x .holds))
+    where
+      from : SeededBy P (nodeCount g) (offerKey i p d) → Offer g P i p d
+      from s =
+          let f = c .can .accepted .few in
+          let e = entry-same d p i 0 (s .node) (s .node) (x .point) (x .node) (omega (arith, s .low)) (omega (arith, s .low)) (s .is) in
+          record {
+            node = omega (arith, s .low, e .2);
+            sound = record {
+              inside = omega (arith, s .low, e .1);
+              point = rw (e .1) (s .point);
+              walk = rw (e .0, e .1, e .2) here;
+            };
+          }
+
+  start-built : Building g P K (λ i. []) (HeldIn (nodeCount g) ys len) 0
+  start-built =
+      let f = c .can .accepted .few in
+      record {
+        rows = record {
+          sorted = λ i h. record { rising = tt; short = omega arith; once = λ p d e m n. absurd (List·Memᴰ·not-nil m) };
+          sound = λ i p d h m. absurd (List·Memᴰ·not-nil m);
+          source =
+              λ i h a.
+              inr
+              (record {
+                node = omega arith;
+                point = omega arith;
+                holds = start-holds (offerKey i i 0) .1 (record { node = i; low = h; point = a; is = refl });
+              });
+          closed = λ r p d m. absurd (List·Memᴰ·not-nil m);
+        };
+        passed = λ i h y m. absurd (List·Memᴰ·not-nil m);
+        ahead = λ i p d x. omega arith;
+        held = start-held;
+      }
+
+  pub filling-start : Filling g P K ys ids dists len
+  filling-start =
+      let n = nodeCount g in
+      record {
+        sized = c .can .sized;
+        room = omega (arith, c .can .room, s .frame .size);
+        queue = rw nodes at (s .queue);
+        padding =
+            λ i j h l m.
+            let q : i * K + j < n * K = omega (arith, row-fits i n K h) in
+            λ k. (
+              (ap (λ (l : List ℕ). getD l (i * K + j) 0) (c .empty-ids) ∙ getD-replicate (n * K) (i * K + j) NONE 0 q) k,
+              (ap (λ (l : List ℕ). getD l (i * K + j) 0) (c .empty-dists) ∙ getD-replicate (n * K) (i * K + j) NONE 0 q) k,
+            );
+        last = 0;
+        built =
+            building-same (c .can .accepted)
+            (λ i h. ap (places ids dists (i * K)) (start-word i h) ∙ no-places ids dists (i * K))
+            start-built;
+        left = omega (arith, s .few, nodes, free-all (c .can .accepted) K ys start-word);
+      }
+
+-- ---- The end.
+pub filling-table : {g : Network} {P xs ids dists : List ℕ} {K len : ℕ} → Accepted g → Filling g P K xs ids dists len → len ≤ 0 → IsTable g P K ids dists
+filling-table {g} {P} {xs} {ids} {dists} {K} {len} ok f h =
+    rows-table P K ids dists (f .sized) whole
+  where
+    none : (i p d : ℕ) → HeldIn (nodeCount g) xs len i p d → ⊥
+    none i p d x = omega (arith, x .holds .inside)
+
+    whole : (i : ℕ) → i < nodeCount g → rowAt ids dists K i ≡ row g P K i
+    whole i l =
+        let s = places-length ids dists (i * K) (getD xs i 0) in
+        let m : getD xs i 0 ≤ K = omega (arith, f .built .rows .sorted i l .short) in
+        places-padded ids dists (i * K) K (getD xs i 0) m (λ j a b. f .padding i j l a b)
+        ∙ ap (λ (x : ℕ). rowsOf K xs ids dists i ++ replicate (K - x) (NONE, NONE)) (sym s)
+        ∙ exact-row ok (building-done ok (f .built) none) i l
+
+-- ---- A turn.
+module _ {g : Network} {P xs ys ids dists : List ℕ} {K len : ℕ} (ok : Accepted g) (some : 1 ≤ K) (f : Filling g P K xs ids dists len) (more : 0 < len) (i p d : ℕ)
+    (node-fits : i < 65536) (point-fits : p < 65536) (pop : PoppedAt xs ys (nodeCount g) len (offerKey i p d)) where
+  pub taken-out : TakenOut (HeldIn (nodeCount g) xs len) (HeldIn (nodeCount g) ys (len - 1)) i p d
+  taken-out =
+      record {
+        was = record { node = node-fits; point = point-fits; holds = pop .queue .was };
+        least =
+            λ j q e x.
+            rows-order i p d j q e node-fits point-fits (x .node) (x .point) (pop .queue .least (offerKey j q e) (x .holds));
+        old = λ j q e x. record { node = x .node; point = x .point; holds = pop .queue .old (offerKey j q e) (x .holds) };
+        kept =
+            λ j q e x.
+            ⊎-elim
+            (λ a. inl (record { node = x .node; point = x .point; holds = a }))
+            (λ a.
+            let s = entry-same e q j d p i (x .point) (x .node) point-fits node-fits a in
+            inr (s .2, s .1, s .0))
+            (pop .queue .kept (offerKey j q e) (x .holds));
+      }
+
+  built : Building g P K (rowsOf K ys ids dists) (HeldIn (nodeCount g) xs len) (f .last)
+  built = building-same ok (λ j h. ap (places ids dists (j * K)) (pop .before j h)) (f .built)
+
+  pub popped-node : i < nodeCount g
+  popped-node = offer ok some built taken-out .node
+
+  popped-size : getD ys i 0 ≤ K
+  popped-size = omega (arith, built .rows .sorted i popped-node .short, places-length ids dists (i * K) (getD ys i 0))
+
+  free-popped : freeArcs g K ys (nodeCount g) ≡ freeArcs g K xs (nodeCount g)
+  free-popped = free-same g K xs ys (nodeCount g) (λ x h. pop .before x h)
+
+  -- what `append_at` requires
+  pub can-append : K ≤ 17 → CanAppend ys ids dists K i
+  can-append most =
+      let r = row-fits i (nodeCount g) K popped-node in
+      record {
+        word = omega (arith, popped-node, pop .size, f .room);
+        size = popped-size;
+        places = most;
+        ids-room = omega (arith, f .sized .all-ids);
+        dists-room = omega (arith, f .sized .all-dists);
+      }
+
+  -- a point that stands in the row
+  stands-row : StandsAt ids (i * K) (getD ys i 0) p → Placed K (rowsOf K ys ids dists i) p d
+  stands-row s =
+      stands-placed ok some built taken-out (getD dists (i * K + s .index) 0)
+      (Memᴰ·cast (λ k. (sym (s .is) k, getD dists (i * K + s .index) 0)) (place-in ids dists (i * K) (getD ys i 0) (s .index) (s .low)))
+
+  module _ {zs ids′ dists′ : List ℕ} (r : RefusesAt ys zs ids ids′ dists dists′ K i p) where
+    needless : Placed K (rowsOf K ys ids dists i) p d
+    needless =
+        ⊎-elim
+        (λ e. full-placed ok some built taken-out (places-length ids dists (i * K) (getD ys i 0) ∙ e))
+        stands-row
+        (r .why)
+
+    dropped : Filling g P K ys ids dists (len - 1)
+    dropped =
+        record {
+          sized = f .sized;
+          room = omega (arith, f .room, pop .size);
+          queue = pop .queue .queue;
+          padding = λ j m h l. f .padding j m h (omega (arith, pop .before j h));
+          last = key (p, d);
+          built = building-dropped ok some built taken-out needless;
+          left = omega (arith, f .left, free-popped);
+        }
+
+    pub filling-refused : Filling g P K zs ids′ dists′ (len - 1)
+    filling-refused = rw (r .words, r .new-ids, r .new-dists) dropped
+
+    pub refused-less : len - 1 + freeArcs g K zs (nodeCount g) < len + freeArcs g K xs (nodeCount g)
+    refused-less = omega (arith, free-popped, ap (λ (l : List ℕ). freeArcs g K l (nodeCount g)) (r .words))
+
+  module _ {zs ids′ dists′ : List ℕ} (r : TakesAt ys zs ids ids′ dists dists′ K i p d) where
+    abbrev size : ℕ
+    size = getD ys i 0
+
+    in-words : i < length ys
+    in-words = omega (arith, popped-node, pop .size, f .room)
+
+    word-here : getD zs i 0 ≡ size + 1
+    word-here = ap (λ (l : List ℕ). getD l i 0) (r .words) ∙ getD-set-same ys i (size + 1) 0 in-words
+
+    word-other : (j : ℕ) → j ≢ i → getD zs j 0 ≡ getD ys j 0
+    word-other j n = ap (λ (l : List ℕ). getD l j 0) (r .words) ∙ getD-set-other ys i j (size + 1) 0 n
+
+    same-queue : drop (nodeCount g) zs ≡ drop (nodeCount g) ys
+    same-queue = ap (drop (nodeCount g)) (r .words) ∙ drop-set-lt (nodeCount g) ys i (size + 1) popped-node
+
+    same-words : length zs ≡ length xs
+    same-words = ap length (r .words) ∙ length-set ys i (size + 1) ∙ pop .size
+
+    free-row : length (rowsOf K ys ids dists i) < K
+    free-row = omega (arith, places-length ids dists (i * K) size, r .free)
+
+    lacks-row : (e : ℕ) → List·Memᴰ (p, e) (rowsOf K ys ids dists i) → ⊥
+    lacks-row e m =
+        let a = in-place ids dists (i * K) size (p, e) m in
+        r .lacks (record { index = a .index; low = a .low; is = sym (ap (λ (z : ℕ × ℕ). z .0) (a .is)) })
+
+    free-taken : freeArcs g K zs (nodeCount g) + degree g i ≡ freeArcs g K xs (nodeCount g)
+    free-taken = free-less g K ys zs i (nodeCount g) popped-node (r .free) word-here (λ x h n. word-other x n) ∙ free-popped
+
+    arcs-of : length (neighboursOf g i) ≡ degree g i
+    arcs-of = neighbours-length (accepted-ranges ok) i popped-node
+
+    -- what `offer` requires
+    pub can-offer : CanOffer g zs (len - 1) i p d
+    can-offer =
+        let o = offer ok some built taken-out in
+        let e = taken-exact ok some built taken-out free-row lacks-row in
+        let u = dist-walk ok (o .sound .walk) in
+        record {
+          accepted = ok;
+          inside = popped-node;
+          point = o .sound .inside;
+          fits = omega (arith, distance ok i p .bound (u .some), ok .few, ok .some);
+          queue = rw same-queue (pop .queue .queue);
+          room = omega (arith, f .room, f .left, same-words, free-taken, arcs-of);
+        }
+
+    -- the place that is taken
+    at-here : place ids′ dists′ (i * K + size) ≡ (p, d)
+    at-here =
+        let c = row-fits i (nodeCount g) K popped-node in
+        λ k. (
+          (ap (λ (l : List ℕ). getD l (i * K + size) 0) (r .new-ids) ∙ getD-set-same ids (i * K + size) p 0 (omega (arith, f .sized .all-ids, r .free))) k,
+          (ap (λ (l : List ℕ). getD l (i * K + size) 0) (r .new-dists) ∙ getD-set-same dists (i * K + size) d 0 (omega (arith, f .sized .all-dists, r .free))) k,
+        )
+
+    at-other : (j : ℕ) → j ≢ i * K + size → place ids′ dists′ j ≡ place ids dists j
+    at-other j n = λ k. (
+      (ap (λ (l : List ℕ). getD l j 0) (r .new-ids) ∙ getD-set-other ids (i * K + size) j p 0 n) k,
+      (ap (λ (l : List ℕ). getD l j 0) (r .new-dists) ∙ getD-set-other dists (i * K + size) j d 0 n) k,
+    )
+
+    apart : (j m : ℕ) → j ≢ i → m < K → j * K + m ≢ i * K + size
+    apart j m n l = ⊎-elim (λ h. omega arith) (λ h. omega (arith, r .free)) (rows-apart j i m K n l)
+
+    module _ {ws : List ℕ} (o : Offered g zs ws (len - 1) i p d (length (neighboursOf g i))) where
+      row-takes : RowTakes g (rowsOf K ys ids dists) (rowsOf K ws ids′ dists′) i p d
+      row-takes =
+          let next : size + 1 ≡ suc size = omega arith in
+          record {
+            here =
+                ap (places ids′ dists′ (i * K)) (o .frame .words i popped-node ∙ word-here ∙ next)
+                ∙ places-more ids′ dists′ (i * K) size
+                ∙ ap (λ (x : ℕ × ℕ). places ids′ dists′ (i * K) size ++ x ∷ []) at-here
+                ∙ ap (λ (l : List (ℕ × ℕ)). l ++ (p, d) ∷ []) (places-same ids′ dists′ ids dists (i * K) size (λ j h. at-other (i * K + j) (omega arith)));
+            other =
+                λ j h n.
+                ap (places ids′ dists′ (j * K)) (o .frame .words j h ∙ word-other j n)
+                ∙ places-same ids′ dists′ ids dists (j * K) (getD ys j 0)
+                (λ m l.
+                at-other (j * K + m)
+                (apart j m n (omega (arith, built .rows .sorted j h .short, places-length ids dists (j * K) (getD ys j 0)))));
+          }
+
+      pub taken-size : length ws ≡ length xs
+      taken-size = o .frame .size ∙ same-words
+
+      abbrev deg : ℕ
+      deg = length (neighboursOf g i)
+
+      over : (j q e : ℕ) → j < 65536 → q < 65536 → OfferedBy g i p d deg (offerKey j q e) → OverArc g i p d j q e
+      over j q e a b y =
+          let arc = arc-at (accepted-ranges ok) i popped-node (y .place) (y .low) in
+          let s = entry-same e q j (d + getD (weightsOf g i) (y .place) 0) p (getD (neighboursOf g i) (y .place) 0) b a point-fits (omega (arith, ok .leads-in arc, ok .few)) (y .is) in
+          record { weight = getD (weightsOf g i) (y .place) 0; arc = rw (s .2) arc; point = s .1; far = s .0 }
+
+      offers-on : OffersOn g (HeldIn (nodeCount g) ys (len - 1)) (HeldIn (nodeCount g) ws (len - 1 + deg)) i p d
+      offers-on =
+          record {
+            kept = λ j q e x. record { node = x .node; point = x .point; holds = o .holds (offerKey j q e) .1 (inl (rw same-queue (x .holds))) };
+            old =
+                λ j q e x.
+                ⊎-elim
+                (λ a. inl (record { node = x .node; point = x .point; holds = rw same-queue at a }))
+                (λ a. inr (over j q e (x .node) (x .point) a))
+                (o .holds (offerKey j q e) .0 (x .holds));
+            new =
+                λ {j} {w} arc.
+                let y = arc-place (accepted-ranges ok) arc in
+                record {
+                  node = omega (arith, ok .leads-in arc, ok .few);
+                  point = point-fits;
+                  holds =
+                      o .holds (offerKey j p (d + w)) .1
+                      (inr (record { place = y .at; low = y .low; is = omega (arith, y .leads, y .weighs) }));
+                };
+          }
+
+      pub taken-less : len - 1 + deg + freeArcs g K ws (nodeCount g) < len + freeArcs g K xs (nodeCount g)
+      taken-less = omega (arith, free-taken, arcs-of, free-same g K zs ws (nodeCount g) (λ x h. o .frame .words x h))
+
+      pub filling-taken : Filling g P K ws ids′ dists′ (len - 1 + deg)
+      filling-taken =
+          record {
+            sized = record {
+              all-ids = ap length (r .new-ids) ∙ length-set ids (i * K + size) p ∙ f .sized .all-ids;
+              all-dists = ap length (r .new-dists) ∙ length-set dists (i * K + size) d ∙ f .sized .all-dists;
+            };
+            room = omega (arith, f .room, same-words, o .frame .size);
+            queue = o .queue;
+            padding =
+                λ j m h l k.
+                let w = o .frame .words j h in
+                elim (ℕ-discrete j i) [
+                  | yes e ↦
+                      let a = ap (λ (x : ℕ). x * K) e in
+                      let b = ap (λ (x : ℕ). getD zs x 0) e in
+                      let c = ap (λ (x : ℕ). getD ys x 0) e in
+                      at-other (j * K + m) (omega (arith, word-here))
+                      ∙ f .padding j m h (omega (arith, pop .before j h, word-here)) k
+                  | no n ↦ at-other (j * K + m) (apart j m n k) ∙ f .padding j m h (omega (arith, word-other j n, pop .before j h)) k
+                ];
+            last = key (p, d);
+            built = building-taken ok some built taken-out free-row lacks-row row-takes offers-on;
+            left = omega (arith, taken-less, f .left);
+          }

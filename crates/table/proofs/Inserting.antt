@@ -1,0 +1,281 @@
+-- Insert under way. The search follows the arcs of the nodes whose rows the new point enters, and answers for those: they are closed under shortest
+-- ways from it. A settled node's row is that of the points after, another's that of the points before. The count is that of the settled nodes whose
+-- rows the point enters. On arrays that are not the table nothing is claimed of the rows, and the search answers for no node.
+-- Assumes nothing.
+use Prim.Native.Nat.{ℕ, suc, _+_, _≤_, _<_}
+use mathlib.Core.Path.{_≡_, refl, sym, ap, _∙_}
+use mathlib.Core.Bool.{Bool, true, false, decide, decide-iff, false≢true}
+use mathlib.Core.Logic.{_≢_}
+use mathlib.Core.List.{List}
+use native.Mathlib.Decide.{ℕ-discrete}
+use native.Mathlib.Omega.{arith}
+use lib.ListN.{length, getD, take, set}
+use borrow.Author.Tests.{eqb-false}
+use Rattle.network.specs.Network.{Network, nodeCount, neighboursOf}
+use Rattle.network.specs.Accepted.{Accepted}
+use Rattle.network.specs.Distance.{NONE, dist}
+use Rattle.network.specs.Count.{count}
+use Rattle.network.specs.Nearest.{insert, nearest}
+use Rattle.network.specs.Rows.{row, rowsChanged}
+use Rattle.network.proofs.Counts.{count-mono, count-none, without, without-self, without-other, count-without}
+use Rattle.network.proofs.Distances.{Upto, dist-walk, dist-symmetric, dist-at-most}
+use Rattle.network.proofs.Rank.{Near}
+use Rattle.network.proofs.Rows.{row-length, row-members}
+use Rattle.network.proofs.Prefix.{near-next}
+use Rattle.expansion.specs.Area.{queueBase, Kept, Started, Took, Emptied, Followed}
+use Rattle.expansion.proofs.Search.{Leads, closed-leads}
+use Rattle.expansion.proofs.AreaLaws.{settledAs, label-same, label-settle, others-settle}
+use Rattle.expansion.proofs.AreaSearch.{took-held, took-exact, search-finished}
+use Rattle.expansion.proofs.Progress.{Progress, progress-start, progress-settled, took-area, took-word}
+use Rattle.searches.proofs.Stopping.{kept-same, progress-stopped}
+use Rattle.table.specs.Flat.{rowAt, Sized, IsTable}
+use Rattle.table.specs.Update.{Added}
+use Rattle.table.specs.Put.{takes, HasRow, PutInRow}
+use Rattle.table.specs.Insert.{CanInsert}
+use Rattle.table.proofs.Laid.{row-fits, table-rows, rows-table}
+use Rattle.table.proofs.Update.{row-added, row-kept, near-or-not, changed-near, set-added}
+use Rattle.table.proofs.Changed.{added-changes}
+use Rattle.table.proofs.PutLaws.{taken-in, not-taken, takes-nearer, insert-pad}
+
+-- the arrays were the table of P, and x is near v once it is marked: the row of v takes x
+pub record Enters (g : Network) (P ids dists : List ℕ) (x K v : ℕ) : Type 0 where
+  pub was : IsTable g P K ids dists
+  pub near : Near g (set P x 1) v NONE K x
+
+-- t tells the settled nodes that x is near to
+pub record Tells (g : Network) (P xs : List ℕ) (x K : ℕ) (t : ℕ → Bool) : Type 0 where
+  pub only : (v : ℕ) → v < nodeCount g → t v ≡ true → (getD xs (0 + v) 0 ≢ 0) × Near g (set P x 1) v NONE K x
+  pub all : (v : ℕ) → v < nodeCount g → getD xs (0 + v) 0 ≢ 0 → Near g (set P x 1) v NONE K x → t v ≡ true
+
+pub record Inserting (g : Network) (P ids₀ dists₀ : List ℕ) (x K : ℕ) (xs : List ℕ) (settled len changed : ℕ) (ids dists : List ℕ) : Type 0 where
+  pub progress : Progress g x (Enters g P ids₀ dists₀ x K) (Enters g P ids₀ dists₀ x K) xs 0 settled len
+  pub sized : Sized g K ids dists
+  pub few : changed ≤ settled
+  pub fresh : IsTable g P K ids₀ dists₀ → (v : ℕ) → v < nodeCount g → getD xs (0 + v) 0 ≡ 0 → rowAt ids dists K v ≡ row g P K v
+  pub done : IsTable g P K ids₀ dists₀ → (v : ℕ) → v < nodeCount g → getD xs (0 + v) 0 ≢ 0 → rowAt ids dists K v ≡ row g (set P x 1) K v
+  pub counted : IsTable g P K ids₀ dists₀ → (t : ℕ → Bool) → Tells g P xs x K t → changed ≡ count t (nodeCount g)
+
+-- who passes a test but for v; and where v does not pass it, as many do
+without-apart : (b : ℕ → Bool) (v y : ℕ) → without b v y ≡ true → y ≢ v
+without-apart b v y a q = false≢true (sym (without-self b v) ∙ ap (without b v) (sym q) ∙ a)
+
+without-passes : (b : ℕ → Bool) (v y : ℕ) → without b v y ≡ true → b y ≡ true
+without-passes b v y a = sym (without-other b v y (without-apart b v y a)) ∙ a
+
+count-skipped : (b : ℕ → Bool) (v n : ℕ) → (b v ≡ true → ⊥) → count (without b v) n ≡ count b n
+count-skipped b v n out =
+    omega (
+      arith,
+      count-mono (without b v) b n (λ y h a. without-passes b v y a),
+      count-mono b (without b v) n (λ y h a. without-other b v y (λ q. out (ap b (sym q) ∙ a)) ∙ a),
+    )
+
+module _ {g : Network} {P s₀ ids₀ dists₀ : List ℕ} {x K : ℕ} (c : CanInsert g P s₀ ids₀ dists₀ x K) where
+  ok : Accepted g
+  ok = c .expand .accepted
+
+  abbrev Was : Type 0
+  Was = IsTable g P K ids₀ dists₀
+
+  added : Added P (set P x 1) x
+  added = set-added P x (omega (arith, c .points, c .expand .inside)) (eqb-false (getD P x 0) 1 (c .unmarked))
+
+  pub enters-leads : Leads g x (Enters g P ids₀ dists₀ x K) (Enters g P ids₀ dists₀ x K)
+  enters-leads =
+      closed-leads ok
+      (record {
+        before =
+            λ u v w o r e n.
+            record {
+              was = o .was;
+              near = near-next ok (set P x 1) (ok .returns r) K x (omega (arith, e, dist-symmetric ok x v, dist-symmetric ok x u)) (o .near);
+            };
+      })
+
+  -- the search begins
+  pub inserting-start : {xs : List ℕ} → Started (nodeCount g) s₀ xs 0 x → Inserting g P ids₀ dists₀ x K xs 0 1 0 ids₀ dists₀
+  inserting-start {xs} t =
+      record {
+        progress = progress-start ok (c .expand .blank) (c .expand .size) (c .expand .inside) t;
+        sized = c .sized;
+        few = omega arith;
+        fresh = λ i v h z. table-rows P K ids₀ dists₀ i v h;
+        done = λ i v h n. absurd (n (word v h));
+        counted =
+            λ i b tells.
+            omega (
+              arith,
+              count-mono b (λ _. false) (nodeCount g) (λ v h a. absurd (tells .only v h a .0 (word v h))),
+              count-none (λ _. false) (nodeCount g) (λ v a. false≢true a),
+            );
+      }
+    where
+      word : (v : ℕ) → v < nodeCount g → getD xs (0 + v) 0 ≡ 0
+      word v h = label-same 0 (t .frame) v h ∙ c .expand .blank .zero (0 + v) (omega arith)
+
+  module _ {xs : List ℕ} {settled len changed : ℕ} {ids dists : List ℕ} (e : Inserting g P ids₀ dists₀ x K xs settled len changed ids dists) where
+    pub has-row : {v : ℕ} → v < nodeCount g → HasRow ids dists K v
+    has-row {v} h =
+        record {
+          fits = omega (arith, row-fits v (nodeCount g) K h, e .sized .all-ids);
+          same = e .sized .all-dists ∙ sym (e .sized .all-ids);
+        }
+
+    -- ---- An entry of v is taken, and x at its label is put into the row of v; r says whether the row took it.
+    module _ {ys : List ℕ} {left l v u : ℕ} (t : Took (nodeCount g) xs ys 0 len left l v u)
+        {ids′ dists′ : List ℕ} {r : Bool} (put : PutInRow ids dists ids′ dists′ K v x l r) where
+      upto : Upto (dist g x v) l
+      upto = dist-walk ok (e .progress .searched .held-walk v l u (took-held ok (e .progress .area) (e .progress .searched) t))
+
+      reach : dist g v x ≢ NONE
+      reach = omega (arith, upto .some, dist-symmetric ok x v)
+
+      far : Was → Near g (set P x 1) v NONE K x → l ≡ dist g v x
+      far i n =
+          took-exact ok (e .progress .area) (e .progress .searched) t enters-leads (record { was = i; near = n })
+          ∙ dist-symmetric ok x v
+
+      now-row : Was → rowAt ids dists K v ≡ row g P K v
+      now-row i = e .fresh i v (t .inside) (t .new)
+
+      -- the row with x at its distance
+      entered : take K (insert (x, dist g v x) (row g P K v)) ≡ row g (set P x 1) K v
+      unfolding row
+      entered =
+          insert-pad K (x, dist g v x) (nearest g P v NONE K) (omega (arith, dist-at-most g v x, reach, ok .few, c .expand .inside))
+          ∙ sym (row-added ok (c .expand .inside) added K v reach)
+
+      -- a row that takes x has it near; one that does not is not near to it
+      pub took-near : Was → r ≡ true → Near g (set P x 1) v NONE K x
+      took-near i a =
+          let y = sym (put .taken ∙ ap (takes (x, l)) (now-row i)) ∙ a in
+          let m = taken-in (x, dist g v x) (row g P K v) (takes-nearer (x, l) (x, dist g v x) (row g P K v) (omega (arith, upto .most, dist-symmetric ok x v)) y) in
+          row-members ok (set P x 1) K v x (dist g v x) (omega (arith, ok .few, c .expand .inside)) .0
+          (rw (row-length g P K v, entered) at m) .near
+
+      stays : Was → r ≡ false → take K (insert (x, l) (row g P K v)) ≡ row g P K v
+      stays i a =
+          rw (row-length g P K v) at (not-taken (x, l) (row g P K v) (sym (put .taken ∙ ap (takes (x, l)) (now-row i)) ∙ a))
+
+      pub left-far : Was → r ≡ false → Near g (set P x 1) v NONE K x → ⊥
+      left-far i a n =
+          changed-near ok (c .expand .inside) added K v .1 n
+          (sym (stays i a) ∙ ap (λ (d : ℕ). take K (insert (x, d) (row g P K v))) (far i n) ∙ entered)
+
+      new-row : (b : Bool) → r ≡ b → Was → rowAt ids′ dists′ K v ≡ row g (set P x 1) K v
+      new-row true a i =
+          put .row
+          ∙ ap (λ (y : List (ℕ × ℕ)). take K (insert (x, l) y)) (now-row i)
+          ∙ ap (λ (d : ℕ). take K (insert (x, d) (row g P K v))) (far i (took-near i a))
+          ∙ entered
+      new-row false a i =
+          put .row
+          ∙ ap (λ (y : List (ℕ × ℕ)). take K (insert (x, l) y)) (now-row i)
+          ∙ stays i a
+          ∙ sym (row-kept ok (c .expand .inside) added K v (left-far i a))
+
+      -- ws is the area in which v is settled, and perhaps its arcs are followed
+      module _ {ws : List ℕ} (same : Kept (settledAs (nodeCount g) ys 0 settled v l) ws (queueBase (nodeCount g) 0)) where
+        word-here : getD ws (0 + v) 0 ≡ suc l
+        word-here = label-same 0 same v (t .inside) ∙ label-settle (took-area ok (e .progress) t) v l (t .inside) (took-word ok (e .progress) t)
+
+        word-other : (y : ℕ) → y < nodeCount g → y ≢ v → getD ws (0 + y) 0 ≡ getD xs (0 + y) 0
+        word-other y h n =
+            label-same 0 same y h
+            ∙ others-settle (took-area ok (e .progress) t) v l (t .inside) (took-word ok (e .progress) t) y h n
+            ∙ label-same 0 (t .leaves .frame) y h
+
+        next : {more now : ℕ} → Progress g x (Enters g P ids₀ dists₀ x K) (Enters g P ids₀ dists₀ x K) ws 0 (settled + 1) more
+            → now ≤ settled + 1 → (Was → (b : ℕ → Bool) → Tells g P ws x K b → now ≡ count b (nodeCount g))
+            → Inserting g P ids₀ dists₀ x K ws (settled + 1) more now ids′ dists′
+        next progress few counted =
+            record {
+              progress = progress;
+              sized = record { all-ids = put .ids-size ∙ e .sized .all-ids; all-dists = put .dists-size ∙ e .sized .all-dists };
+              few = few;
+              fresh = fresh;
+              done = done;
+              counted = counted;
+            }
+          where
+            fresh : Was → (y : ℕ) → y < nodeCount g → getD ws (0 + y) 0 ≡ 0 → rowAt ids′ dists′ K y ≡ row g P K y
+            fresh i y h z =
+                let n : y ≢ v = λ q. omega (arith, word-here, ap (λ (m : ℕ). getD ws (0 + m) 0) q) in
+                put .others y n ∙ e .fresh i y h (sym (word-other y h n) ∙ z)
+
+            done : Was → (y : ℕ) → y < nodeCount g → getD ws (0 + y) 0 ≢ 0 → rowAt ids′ dists′ K y ≡ row g (set P x 1) K y
+            done i y h z =
+                elim (ℕ-discrete y v) [
+                  | yes q ↦ rw q (new-row r refl i)
+                  | no n ↦ put .others y n ∙ e .done i y h (λ w. z (word-other y h n ∙ w))
+                ]
+
+        -- a test of the settled nodes, but for v, tells those that were settled before
+        tells-without : (b : ℕ → Bool) → Tells g P ws x K b → Tells g P xs x K (without b v)
+        tells-without b tells =
+            record {
+              only = λ y h a. let d = tells .only y h (without-passes b v y a) in (λ z. d .0 (word-other y h (without-apart b v y a) ∙ z), d .1);
+              all =
+                  λ y h w near.
+                  elim (ℕ-discrete y v) [
+                    | yes q ↦ absurd (w (ap (λ (m : ℕ). getD xs (0 + m) 0) q ∙ t .new))
+                    | no m ↦ without-other b v y m ∙ tells .all y h (λ z. w (sym (word-other y h m) ∙ z)) near
+                  ];
+            }
+
+        settled-here : getD ws (0 + v) 0 ≢ 0
+        settled-here = omega (arith, word-here)
+
+      -- the row did not take x: the search stops behind v
+      pub inserting-stopped : r ≡ false → Inserting g P ids₀ dists₀ x K (settledAs (nodeCount g) ys 0 settled v l) (settled + 1) left changed ids′ dists′
+      inserting-stopped a =
+          next kept-same (progress-stopped ok (e .progress) t enters-leads (λ o. left-far (o .was) a (o .near)))
+          (omega (arith, e .few))
+          (λ i b tells.
+          e .counted i (without b v) (tells-without kept-same b tells)
+          ∙ count-skipped b v (nodeCount g) (λ y. left-far i a (tells .only v (t .inside) y .1)))
+
+      -- or it did: the row is counted, and the arcs of v are followed
+      pub inserting-entered : {ws : List ℕ} {more : ℕ} → r ≡ true
+          → Followed g (settledAs (nodeCount g) ys 0 settled v l) ws 0 left more v l (length (neighboursOf g v))
+          → Inserting g P ids₀ dists₀ x K ws (settled + 1) more (changed + 1) ids′ dists′
+      inserting-entered a f =
+          next (f .frame) (progress-settled ok (e .progress) t enters-leads f)
+          (omega (arith, e .few))
+          (λ i b tells.
+          omega (
+            arith,
+            e .counted i (without b v) (tells-without (f .frame) b tells),
+            count-without b v (nodeCount g) (t .inside) (tells .all v (t .inside) (settled-here (f .frame)) (took-near i a)),
+          ))
+
+    -- ---- No entry waits.
+    pub most : changed ≤ nodeCount g
+    most = omega (arith, e .few, e .progress .area .counted)
+
+    module _ {ys : List ℕ} (t : Emptied (nodeCount g) xs ys 0 len) where
+      settled-near : Was → (v : ℕ) → Near g (set P x 1) v NONE K x → getD xs (0 + v) 0 ≢ 0
+      settled-near i v n =
+          let w =
+          search-finished ok (e .progress .area) (e .progress .searched) t enters-leads v (record { was = i; near = n })
+          (omega (arith, n .nearer .less, dist-symmetric ok x v))
+          in
+          omega (arith, w .is)
+
+      pub table-now : Was → IsTable g (set P x 1) K ids dists
+      table-now i =
+          rows-table (set P x 1) K ids dists (e .sized)
+          (λ v h.
+          elim (ℕ-discrete (getD xs (0 + v) 0) 0) [
+            | yes z ↦ e .fresh i v h z ∙ sym (row-kept ok (c .expand .inside) added K v (λ n. settled-near i v n z))
+            | no z ↦ e .done i v h z
+          ])
+
+      pub count-all : Was → changed ≡ rowsChanged g P (set P x 1) K
+      count-all i =
+          let near = near-or-not ok (c .expand .inside) added K in
+          let only : (v : ℕ) → v < nodeCount g → decide (near v) ≡ true → Near g (set P x 1) v NONE K x = λ v h. decide-iff (near v) .0 in
+          let all : (v : ℕ) → v < nodeCount g → Near g (set P x 1) v NONE K x → decide (near v) ≡ true = λ v h. decide-iff (near v) .1 in
+          e .counted i (λ v. decide (near v))
+          (record { only = λ v h a. (settled-near i v (only v h a), only v h a); all = λ v h w n. all v h n })
+          ∙ sym (added-changes ok (c .expand .inside) added K (λ v. decide (near v)) only all)

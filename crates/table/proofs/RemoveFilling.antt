@@ -1,0 +1,310 @@
+-- Filling under way, for a table of any contents: what waits has room, since each short row takes once at the most; and a table that is being mended
+-- stays so. What `remove` leaves.
+-- Assumes nothing.
+use Prim.Native.Nat.{ℕ, zero, suc, _+_, _-_, _*_, _≤_, _<_}
+use mathlib.Core.Path.{_≡_, refl, sym, ap, _∙_}
+use mathlib.Core.Logic.{⊎-elim}
+use mathlib.Core.Bool.{Bool, true, false}
+use mathlib.Core.List.{List}
+use native.Mathlib.Omega.{arith}
+use lib.Dec.{eqb}
+use lib.ListN.{length, getD, set, drop, replicate, length-set, length-replicate}
+use lib.Seq.{drop-set-lt, getD-drop, getD-set-same, getD-set-other}
+use borrow.Author.Tests.{ne-eqb, eqb-true}
+use Rattle.network.specs.Network.{Network, nodeCount, arcCount, startOf, neighboursOf, weightsOf}
+use Rattle.network.specs.Accepted.{Accepted}
+use Rattle.network.proofs.Ranges.{arc-at, neighbours-length}
+use Rattle.network.proofs.NumberZero.{accepted-ranges}
+use Rattle.expansion.specs.Queue.{PoppedAt}
+use Rattle.expansion.proofs.QueueLaws.{empty-queue}
+use Rattle.expansion.proofs.Settled.{zero-blank}
+use Rattle.expansion.proofs.TagLaws.{entry-same}
+use Rattle.expansion.proofs.Room.{degree, arcsLeft, left-same, left-less}
+use Rattle.table.specs.Flat.{Sized}
+use Rattle.table.specs.Update.{Added}
+use Rattle.table.specs.Candidate.{LONGEST}
+use Rattle.table.specs.Mend.{isShort, CanFree, Freed, offerOf, CanSeed, Seeded, CanTakeIn, TakenIn, CanOffer, Offered, OfferedBy, Entry, Waiting, CanFill, Mending, FillLeft}
+use Rattle.table.specs.Remove.{CanRemove}
+use Rattle.table.specs.Updated.{UpdateLeft}
+use Rattle.table.proofs.Laid.{rows-table}
+use Rattle.table.proofs.Update.{set-removed}
+use Rattle.table.proofs.RemoveSteps.{bool-cases, freed-few, marked-inside, row-inside}
+use Rattle.table.proofs.Mending.{mending-start, changed-rows, mending-end, mending-skipped, mending-taken}
+
+-- no more arcs are left than there are
+module _ {g : Network} (ok : Accepted g) (t : ℕ → Bool) where
+  left-below : (n : ℕ) → n ≤ nodeCount g → arcsLeft g t n ≤ startOf g n
+  unfolding arcsLeft
+  left-below zero h = omega arith
+  left-below (suc n) h =
+      ⊎-elim
+      (λ e. rw e (omega (arith, left-below n (omega arith), ok .rising n (omega arith))))
+      (λ e. rw e (omega (arith, left-below n (omega arith), ok .rising n (omega arith))))
+      (bool-cases (t n))
+
+  left-most : arcsLeft g t (nodeCount g) ≤ arcCount g
+  left-most = omega (arith, left-below (nodeCount g) (omega arith), ok .ends)
+
+-- the first offers
+pub waiting-start : {g : Network} {Q ys zs ids dists : List ℕ} {K len : ℕ} → Accepted g → length Q ≡ nodeCount g
+    → nodeCount g + 2 * (nodeCount g + arcCount g) ≤ length ys → Seeded g Q ys zs ids dists K (nodeCount g) len → Waiting g zs len
+waiting-start {g} {Q} {ys} {zs} ok points room s =
+    record {
+      queue = s .queue;
+      entries =
+          λ k h.
+          let v = s .only k h in
+          let e = ap (λ (y : ℕ × ℕ). y .0) (v .gives .is) in
+          record {
+            node = v .node;
+            point = v .best .0;
+            far = v .best .1;
+            is = v .is;
+            inside = v .low;
+            low = omega (arith, e, marked-inside Q (v .gives .point) (v .gives .fit .point), points);
+          };
+      room = omega (arith, s .few, left-most ok (isShort zs));
+      size = omega (arith, s .frame .size);
+    }
+
+module _ {g : Network} (ok : Accepted g) {xs : List ℕ} {len : ℕ} (w : Waiting g xs len) where
+  -- an entry leaves the queue
+  module _ {ys : List ℕ} (i p d : ℕ) (o : PoppedAt xs ys (nodeCount g) len (offerOf i p d)) (some : 0 < len) where
+    pub popped-inside : i < 65536 → p < 65536 → (i < nodeCount g) × (p < nodeCount g)
+    popped-inside h l =
+        let e = w .entries (offerOf i p d) (o .queue .was) in
+        let f = ok .few in
+        let q = entry-same d p i (e .far) (e .point) (e .node) l h (omega (arith, e .low)) (omega (arith, e .inside)) (e .is) in
+        (omega (arith, q .2, e .inside), omega (arith, q .1, e .low))
+
+    same-left : arcsLeft g (isShort ys) (nodeCount g) ≡ arcsLeft g (isShort xs) (nodeCount g)
+    same-left = left-same g (isShort xs) (isShort ys) (nodeCount g) (λ c h. ap (λ v. eqb v 1) (o .before c h))
+
+    pub waiting-popped : Waiting g ys (len - 1)
+    waiting-popped =
+        record {
+          queue = o .queue .queue;
+          entries = λ k h. w .entries k (o .queue .old k h);
+          room = omega (arith, w .room, same-left);
+          size = omega (arith, w .size, o .size);
+        }
+
+    pub popped-falls : len - 1 + arcsLeft g (isShort ys) (nodeCount g) < len + arcsLeft g (isShort xs) (nodeCount g)
+    popped-falls = omega (arith, same-left)
+
+  -- a short row takes it, and its neighbours are offered it
+  module _ {i : ℕ} (low : i < nodeCount g) (short : isShort xs i ≡ true) where
+    fits : i < length xs
+    fits = omega (arith, w .size)
+
+    taken-left : (ys : List ℕ) → ((c : ℕ) → c < nodeCount g → getD ys c 0 ≡ getD (set xs i 0) c 0)
+        → arcsLeft g (isShort ys) (nodeCount g) + degree g i ≡ arcsLeft g (isShort xs) (nodeCount g)
+    taken-left ys same =
+        left-less g (isShort xs) (isShort ys) i (nodeCount g) low short
+        (ne-eqb (getD ys i 0) 1 (omega (arith, same i low, getD-set-same xs i 0 0 fits)))
+        (λ c h n. ap (λ v. eqb v 1) (same c h ∙ getD-set-other xs i c 0 0 n))
+
+    arcs-of : length (neighboursOf g i) ≡ degree g i
+    arcs-of = neighbours-length (accepted-ranges ok) i low
+
+    queue : drop (nodeCount g) (set xs i 0) ≡ drop (nodeCount g) xs
+    queue = drop-set-lt (nodeCount g) xs i 0 low
+
+    pub waiting-offer : {p d : ℕ} → p < nodeCount g → d ≤ LONGEST → CanOffer g (set xs i 0) len i p d
+    waiting-offer point far =
+        record {
+          accepted = ok;
+          inside = low;
+          point = point;
+          fits = far;
+          queue = rw queue (w .queue);
+          room = simp length-set (omega (arith, w .size, w .room, arcs-of, taken-left (set xs i 0) (λ c h. refl)));
+        }
+
+    module _ {ys : List ℕ} {p d more : ℕ} (point : p < nodeCount g) (f : Offered g (set xs i 0) ys len more i p d (length (neighboursOf g i))) where
+      left : arcsLeft g (isShort ys) (nodeCount g) + degree g i ≡ arcsLeft g (isShort xs) (nodeCount g)
+      left = taken-left ys (f .frame .words)
+
+      pub waiting-taken : Waiting g ys more
+      waiting-taken =
+          record {
+            queue = f .queue;
+            entries = λ k h. ⊎-elim (λ o. w .entries k (rw queue at o)) (λ o. new k o) (f .old k h);
+            room = omega (arith, w .room, f .grown, arcs-of, left);
+            size = omega (arith, w .size, f .frame .size ∙ length-set xs i 0);
+          }
+        where
+          new : (k : ℕ) → OfferedBy g i p d (length (neighboursOf g i)) k → Entry (nodeCount g) k
+          new k o =
+              record {
+                node = getD (neighboursOf g i) (o .place) 0;
+                point = p;
+                far = d + getD (weightsOf g i) (o .place) 0;
+                is = o .is;
+                inside = ok .leads-in (arc-at (accepted-ranges ok) i low (o .place) (o .low));
+                low = point;
+              }
+
+      pub taken-falls : more + arcsLeft g (isShort ys) (nodeCount g) ≤ len + arcsLeft g (isShort xs) (nodeCount g)
+      taken-falls = omega (arith, f .grown, arcs-of, left)
+
+-- ---- The loop.
+pub record Filling (g : Network) (K : ℕ) (xs ids dists : List ℕ) (len : ℕ) (ys ids′ dists′ : List ℕ) (left : ℕ) : Type 0 where
+  pub size : length ys ≡ length xs
+  pub sized : Sized g K ids′ dists′
+  pub waiting : Waiting g ys left
+  pub mending : (Q : List ℕ) → Mending g Q K ids dists xs len → Mending g Q K ids′ dists′ ys left
+
+-- what is left to do
+abbrev pub work : Network → List ℕ → ℕ → ℕ
+work g xs left = left + arcsLeft g (isShort xs) (nodeCount g)
+
+pub filling-start : {g : Network} {xs : List ℕ} {len : ℕ} {ids dists : List ℕ} {K : ℕ} → CanFill g xs len ids dists K → Filling g K xs ids dists len xs ids dists len
+filling-start c = record { size = refl; sized = c .sized; waiting = c .waiting; mending = λ Q m. m }
+
+module _ {g : Network} {K : ℕ} {xs ids dists : List ℕ} {len : ℕ} (can : CanFill g xs len ids dists K) {ys ids′ dists′ : List ℕ} {left : ℕ}
+    (f : Filling g K xs ids dists len ys ids′ dists′ left) where
+  pub filling-end : left ≤ 0 → FillLeft g xs ys len ids dists ids′ dists′ K
+  filling-end e =
+      record { size = f .size; sized = f .sized; mended = λ Q m. mending-end (can .accepted) (can .some) (f .mending Q m) e }
+
+  -- what `take_in` requires of an entry that left the queue
+  pub filling-can : {zs : List ℕ} {k : ℕ} (i p d : ℕ) → k ≡ offerOf i p d → PoppedAt ys zs (nodeCount g) left k → 0 < left → i < 65536 → p < 65536
+      → CanTakeIn zs ids′ dists′ K i
+  filling-can i p d is o some low-i low-p =
+      let h = popped-inside (can .accepted) (f .waiting) i p d (rw is at o) some low-i low-p .0 in
+      record {
+        flag = omega (arith, o .size, f .waiting .size, h);
+        some = omega (arith, can .some);
+        fits = row-inside (f .sized) h .0;
+        same = f .sized .all-dists ∙ sym (f .sized .all-ids);
+      }
+
+  module _ {zs : List ℕ} {k : ℕ} (i p d : ℕ) (is : k ≡ offerOf i p d) (popped : PoppedAt ys zs (nodeCount g) left k) (some : 0 < left) (low-i : i < 65536) (low-p : p < 65536)
+      {ws ids″ dists″ : List ℕ} {r : Bool} (t : TakenIn zs ws ids′ dists′ ids″ dists″ K i p d r) where
+    o : PoppedAt ys zs (nodeCount g) left (offerOf i p d)
+    o = rw is at popped
+
+    inside : (i < nodeCount g) × (p < nodeCount g)
+    inside = popped-inside (can .accepted) (f .waiting) i p d o some low-i low-p
+
+    after : Waiting g zs (left - 1)
+    after = waiting-popped (can .accepted) (f .waiting) i p d o some
+
+    new-sized : Sized g K ids″ dists″
+    new-sized = record { all-ids = t .ids-size ∙ f .sized .all-ids; all-dists = t .dists-size ∙ f .sized .all-dists }
+
+    pub filling-skipped : r ≡ false → Filling g K xs ids dists len ws ids″ dists″ (left - 1)
+    filling-skipped e =
+        let q = t .refused e in
+        record {
+          size = t .size ∙ o .size ∙ f .size;
+          sized = new-sized;
+          waiting = rw (q .words) after;
+          mending = λ Q m. mending-skipped (can .accepted) (can .some) (f .mending Q m) i p d (inside .0) (inside .1) o (t .others) q;
+        }
+
+    pub skipped-falls : r ≡ false → work g ws (left - 1) < work g ys left
+    skipped-falls e = rw (t .refused e .words) (popped-falls (can .accepted) (f .waiting) i p d o some)
+
+    -- what `offer` requires
+    pub filling-offer : r ≡ true → CanOffer g ws (left - 1) i p d
+    filling-offer e =
+        let q = t .taken e in
+        rw (q .words) (waiting-offer (can .accepted) after (inside .0) (q .short) (inside .1) (q .low))
+
+    module _ {vs : List ℕ} {more : ℕ} (e : r ≡ true) (u : Offered g ws vs (left - 1) more i p d (length (neighboursOf g i))) where
+      offered : Offered g (set zs i 0) vs (left - 1) more i p d (length (neighboursOf g i))
+      offered = rw (t .taken e .words) at u
+
+      pub filling-taken : Filling g K xs ids dists len vs ids″ dists″ more
+      filling-taken =
+          record {
+            size = u .frame .size ∙ t .size ∙ o .size ∙ f .size;
+            sized = new-sized;
+            waiting = waiting-taken (can .accepted) after (inside .0) (t .taken e .short) (inside .1) offered;
+            mending =
+                λ Q m.
+                mending-taken (can .accepted) (can .some) (f .mending Q m) i p d (inside .0) (inside .1) o (t .others)
+                (omega (arith, o .size, f .waiting .size, inside .0)) (t .taken e) u;
+          }
+
+      pub taken-work : work g vs more < work g ys left
+      taken-work =
+          omega (
+            arith,
+            taken-falls (can .accepted) after (inside .0) (t .taken e .short) (inside .1) offered,
+            popped-falls (can .accepted) (f .waiting) i p d o some,
+          )
+
+-- ---- Remove.
+module _ {g : Network} {P xs ids dists : List ℕ} {x K : ℕ} (can : CanRemove g P xs ids dists x K) where
+  -- what `free` requires
+  pub remove-free : CanFree xs ids dists (nodeCount g) K
+  remove-free =
+      record {
+        few = can .accepted .few;
+        flags = omega (arith, can .room);
+        fits = omega (arith, can .sized .all-ids);
+        same = can .sized .all-dists ∙ sym (can .sized .all-ids);
+      }
+
+  pub new-points : length (set P x 0) ≡ nodeCount g
+  new-points = length-set P x 0 ∙ can .points
+
+  module _ {ys ids′ dists′ : List ℕ} {changed : ℕ} (f : Freed xs ys ids dists ids′ dists′ K x (nodeCount g) changed) where
+    freed-sized : Sized g K ids′ dists′
+    freed-sized = record { all-ids = f .ids-size ∙ can .sized .all-ids; all-dists = f .dists-size ∙ can .sized .all-dists }
+
+    -- what `seed` requires; y is the node as an index
+    pub remove-seed : {y : ℕ} → y ≡ x → CanSeed g (set P y 0) ys ids′ dists′ K
+    remove-seed is =
+        rw is
+        (record {
+          accepted = can .accepted;
+          points = new-points;
+          sized = freed-sized;
+          queue =
+              empty-queue (drop (nodeCount g) ys)
+              (λ j. getD-drop (nodeCount g) ys j 0 ∙ f .rest (nodeCount g + j) (omega arith) ∙ can .blank .zero (nodeCount g + j) (omega arith));
+          room = omega (arith, f .size, can .room);
+        })
+
+    module _ {zs : List ℕ} {len y : ℕ} (is : y ≡ x) (seeded : Seeded g (set P y 0) ys zs ids′ dists′ K (nodeCount g) len) where
+      s : Seeded g (set P x 0) ys zs ids′ dists′ K (nodeCount g) len
+      s = rw is at seeded
+
+      -- what `fill` requires
+      pub remove-fill : CanFill g zs len ids′ dists′ K
+      remove-fill =
+          record {
+            accepted = can .accepted;
+            some = can .least;
+            sized = freed-sized;
+            waiting = waiting-start (can .accepted) new-points (omega (arith, f .size, can .room)) s;
+          }
+
+      pub removed : {ws vs ids″ dists″ : List ℕ} → FillLeft g zs ws len ids′ dists′ ids″ dists″ K → vs ≡ replicate (length ws) 0
+          → UpdateLeft g P (set P x 0) (set P y 0) xs vs ids dists ids″ dists″ K changed
+      removed {ws} {vs} {ids″} {dists″} u z =
+          record {
+            marks = ap (λ v. set P v 0) is;
+            area =
+                record {
+                  frame = record { size = ap length z ∙ length-replicate (length ws) 0 ∙ u .size ∙ s .frame .size ∙ f .size; words = λ i h. absurd (omega arith) };
+                  blank = zero-blank (length ws) 0 z;
+                };
+            sized = u .sized;
+            most = freed-few f;
+            table =
+                λ t.
+                rows-table (set P x 0) K ids″ dists″ (u .sized)
+                (λ i h.
+                u .mended (set P x 0)
+                (mending-start (can .accepted) (can .inside) added (can .least) new-points t (λ j. can .blank .zero j (omega arith)) f s)
+                i h);
+            counted = λ t. f .counted ∙ sym (changed-rows (can .accepted) (can .inside) added (can .least) new-points t);
+          }
+        where
+          added : Added (set P x 0) P x
+          added = set-removed P x (omega (arith, can .inside, can .points)) (eqb-true (getD P x 0) 1 (can .is-point))

@@ -1,0 +1,502 @@
+-- What the loops of remove's steps keep, turn by turn, and what they leave.
+-- Assumes nothing.
+use Prim.Native.Nat.{ℕ, _+_, _-_, _*_, _≤_, _<_}
+use mathlib.Core.Path.{_≡_, refl, sym, ap, _∙_}
+use mathlib.Core.Logic.{_≢_, _⊎_, inl, inr, ⊎-elim}
+use mathlib.Core.Bool.{Bool, true, false, false≢true, true≢false}
+use mathlib.Core.List.{List, List·Memᴰ, Memᴰ·cast}
+use native.Mathlib.Decide.{ℕ-discrete, decLt}
+use native.Mathlib.Numerals.{add-one}
+use native.Mathlib.Omega.{arith}
+use lib.ListN.{length, getD, set, take, drop, length-set, List·getD-eq-default}
+use lib.Seq.{getD-take, getD-drop, getD-set-same, getD-set-other}
+use borrow.Author.Tests.{eq-eqb, ne-eqb, eqb-true}
+use borrow.Rule.Slice.PartMut.{midOf, putMid, mid-len, put-same, set-mid-at}
+use Rattle.network.specs.Network.{Network, nodeCount, neighboursOf, weightsOf}
+use Rattle.network.specs.Distance.{NONE}
+use Rattle.network.specs.Count.{bit, count}
+use Rattle.network.specs.Nearest.{key}
+use Rattle.network.specs.Points.{marked}
+use Rattle.network.proofs.Counts.{count-mono, count-all}
+use Rattle.expansion.specs.Queue.{Queue, PushedAt}
+use Rattle.table.specs.Flat.{place, rowAt, Sized}
+use Rattle.table.specs.Take.{takeOut, hasPoint, PointAt, TakenOutOfRow}
+use Rattle.table.specs.Candidate.{LONGEST, Fits, Better, Gives, BestOfRow, Fit, GivesOver, BestOf}
+use Rattle.table.specs.Mend.{isShort, Freed, offerOf, SeedOf, Seeded, PutLast, CanTakeIn, TakenIn, arcOffer, OfferedBy, Offered}
+use Rattle.table.proofs.Flat.{place-in, in-place}
+use Rattle.table.proofs.Laid.{row-fits}
+use Rattle.table.proofs.Frame.{set-other, set-row}
+use Rattle.table.proofs.TakeLaws.{has-member, has-some}
+
+pub bool-cases : (b : Bool) → (b ≡ true) ⊎ (b ≡ false)
+bool-cases true = inl refl
+bool-cases false = inr refl
+
+count-zero : (t : ℕ → Bool) → count t 0 ≡ 0
+unfolding count
+count-zero t = refl
+
+count-next : (t : ℕ → Bool) (n : ℕ) → count t (n + 1) ≡ count t n + bit (t n)
+unfolding count
+count-next t n = rw add-one
+
+-- ---- free: the rows below i are freed.
+pub freed-none : (xs ids dists : List ℕ) (K x : ℕ) → Freed xs xs ids dists ids dists K x 0 0
+freed-none xs ids dists K x =
+    record {
+      size = refl;
+      ids-size = refl;
+      dists-size = refl;
+      flagged = λ i h. absurd (omega arith);
+      others = λ i h. absurd (omega arith);
+      rest = λ i h. refl;
+      freed = λ i h. absurd (omega arith);
+      later = λ i h. refl;
+      counted = sym (count-zero (λ i. hasPoint x (rowAt ids dists K i)));
+    }
+
+module _ {xs ys ids dists ids′ dists′ ids″ dists″ : List ℕ} {K x i changed : ℕ} {r : Bool} (f : Freed xs ys ids dists ids′ dists′ K x i changed)
+    (t : TakenOutOfRow ids′ dists′ ids″ dists″ K i x r) where
+  had : r ≡ hasPoint x (rowAt ids dists K i)
+  had = t .was ∙ ap (hasPoint x) (f .later i (omega arith))
+
+  new-freed : (j : ℕ) → j < i + 1 → rowAt ids″ dists″ K j ≡ takeOut x (rowAt ids dists K j)
+  new-freed j h =
+      elim (ℕ-discrete j i) [
+        | yes e ↦ rw e (t .row ∙ ap (takeOut x) (f .later i (omega arith)))
+        | no n ↦ t .others j n ∙ f .freed j (omega arith)
+      ]
+
+  new-later : (j : ℕ) → i + 1 ≤ j → rowAt ids″ dists″ K j ≡ rowAt ids dists K j
+  new-later j h = t .others j (omega arith) ∙ f .later j (omega arith)
+
+  pub freed-had : r ≡ true → i < length ys → Freed xs (set ys i 1) ids dists ids″ dists″ K x (i + 1) (changed + 1)
+  freed-had e low =
+      record {
+        size = simp length-set (f .size);
+        ids-size = t .ids-size ∙ f .ids-size;
+        dists-size = t .dists-size ∙ f .dists-size;
+        flagged =
+            λ j h q.
+            elim (ℕ-discrete j i) [
+              | yes s ↦ ap (λ v. getD (set ys i 1) v 0) s ∙ getD-set-same ys i 1 0 low
+              | no n ↦ getD-set-other ys i j 1 0 n ∙ f .flagged j (omega arith) q
+            ];
+        others =
+            λ j h q.
+            elim (ℕ-discrete j i) [
+              | yes s ↦ absurd (false≢true (sym q ∙ ap (λ v. hasPoint x (rowAt ids dists K v)) s ∙ sym had ∙ e))
+              | no n ↦ getD-set-other ys i j 1 0 n ∙ f .others j (omega arith) q
+            ];
+        rest = λ j h. getD-set-other ys i j 1 0 (omega arith) ∙ f .rest j (omega arith);
+        freed = new-freed;
+        later = new-later;
+        counted = omega (arith, f .counted, count-next (λ j. hasPoint x (rowAt ids dists K j)) i, ap bit (sym had ∙ e));
+      }
+
+  pub freed-not : r ≡ false → Freed xs ys ids dists ids″ dists″ K x (i + 1) changed
+  freed-not e =
+      record {
+        size = f .size;
+        ids-size = t .ids-size ∙ f .ids-size;
+        dists-size = t .dists-size ∙ f .dists-size;
+        flagged =
+            λ j h q.
+            elim (ℕ-discrete j i) [
+              | yes s ↦ absurd (false≢true (sym e ∙ had ∙ ap (λ v. hasPoint x (rowAt ids dists K v)) (sym s) ∙ q))
+              | no n ↦ f .flagged j (omega arith) q
+            ];
+        others = λ j h q. elim (ℕ-discrete j i) [ yes s ↦ f .rest j (omega arith) | no n ↦ f .others j (omega arith) q ];
+        rest = λ j h. f .rest j (omega arith);
+        freed = new-freed;
+        later = new-later;
+        counted = omega (arith, f .counted, count-next (λ j. hasPoint x (rowAt ids dists K j)) i, ap bit (sym had ∙ e));
+      }
+
+pub freed-few : {xs ys ids dists ids′ dists′ : List ℕ} {K x i changed : ℕ} → Freed xs ys ids dists ids′ dists′ K x i changed → changed ≤ i
+freed-few {ids} {dists} {K} {x} {i} f =
+    omega (arith, f .counted, count-mono (λ j. hasPoint x (rowAt ids dists K j)) (λ _. true) i (λ j h e. refl), count-all i)
+
+-- ---- is_marked: a number that is no node has no mark.
+pub marked-inside : (P : List ℕ) (p : ℕ) → marked P p ≡ true → p < length P
+marked-inside P p e =
+    elim (decLt p (length P)) [
+      | yes l ↦ l
+      | no n ↦ absurd (omega (arith, eqb-true (getD P p 0) 1 e, List·getD-eq-default P 0 {n = p} (omega arith)))
+    ]
+
+pub unmarked-outside : (P : List ℕ) (p : ℕ) → length P ≤ p → marked P p ≡ false
+unmarked-outside P p h = ne-eqb (getD P p 0) 1 (omega (arith, List·getD-eq-default P 0 {n = p} h))
+
+-- ---- better: the candidate stays, since the other cannot be one or is no better; or the other is new.
+module _ {P own : List ℕ} {p e w : ℕ} (best : ℕ × ℕ) where
+  pub better-far : LONGEST < e → Better P own best best p e w
+  better-far h = record { most = omega arith; least = λ f. absurd (omega (arith, f .low, h)); from = inl refl }
+
+  pub better-worse : key best ≤ key (p, e + w) → Better P own best best p e w
+  better-worse h = record { most = omega arith; least = λ f. h; from = inl refl }
+
+  pub better-unmarked : marked P p ≡ false → Better P own best best p e w
+  better-unmarked h = record { most = omega arith; least = λ f. absurd (false≢true (sym h ∙ f .point)); from = inl refl }
+
+  pub better-stands : {at : ℕ} → PointAt own p at → at < length own → Better P own best best p e w
+  better-stands {at} o h = record { most = omega arith; least = λ f. absurd (f .lacks at h (o .here h)); from = inl refl }
+
+  pub better-new : {at : ℕ} → e ≤ LONGEST → key (p, e + w) < key best → marked P p ≡ true → PointAt own p at → length own ≤ at → Better P own best (p, e + w) p e w
+  better-new {at} low h point o l =
+      record {
+        most = omega arith;
+        least = λ f. omega arith;
+        from = inr (refl, record { point = point; low = low; lacks = λ j m. o .before j (omega arith) });
+      }
+
+-- ---- best_of_row: the places below j are tried.
+pub best-none : (P own ids dists : List ℕ) (w : ℕ) (best : ℕ × ℕ) → BestOfRow P own ids dists w 0 best best
+best-none P own ids dists w best = record { most = omega arith; least = λ j h. absurd (omega arith); from = inl refl }
+
+pub best-more : {P own ids dists : List ℕ} {w j : ℕ} {best r q : ℕ × ℕ} → BestOfRow P own ids dists w j best r → Better P own r q (getD ids j 0) (getD dists j 0) w
+    → BestOfRow P own ids dists w (j + 1) best q
+best-more {P} {own} {ids} {dists} {w} {j} {best} {r} {q} f b =
+    record {
+      most = omega (arith, f .most, b .most);
+      least =
+          λ i h fit.
+          elim (ℕ-discrete i j) [
+            | yes e ↦ rw e (b .least (rw e at fit))
+            | no n ↦ omega (arith, f .least i (omega arith) fit, b .most)
+          ];
+      from =
+          ⊎-elim
+          (λ e.
+          ⊎-elim
+          (λ s. inl (e ∙ s))
+          (λ (s : Gives P own ids dists w j r). inr (record { index = s .index; low = omega (arith, s .low); fits = s .fits; is = e ∙ s .is }))
+          (f .from))
+          (λ s. inr (record { index = j; low = omega arith; fits = s .1; is = s .0 }))
+          (b .from);
+    }
+
+-- ---- candidate: the rows of the neighbours by the arcs before place j are tried. A row is lent as the part of both arrays that it is.
+part-at : (xs : List ℕ) (a K j : ℕ) → j < K → getD (take K (drop a xs)) j 0 ≡ getD xs (a + j) 0
+part-at xs a K j h = getD-take K (drop a xs) j 0 h ∙ getD-drop a xs j 0
+
+module _ (P ids dists : List ℕ) (K i : ℕ) (fits : i * K + K ≤ length ids) where
+  part-long : length (take K (drop (i * K) ids)) ≡ K
+  part-long =
+      let q : (i * K + K) - i * K ≡ K = omega arith in
+      rw q at (mid-len (i * K) (i * K + K) ids fits)
+
+  lacks-part : (p : ℕ) → hasPoint p (rowAt ids dists K i) ≡ false → (j : ℕ) → j < length (take K (drop (i * K) ids)) → getD (take K (drop (i * K) ids)) j 0 ≢ p
+  lacks-part p e j h q =
+      let l : j < K = omega (arith, part-long) in
+      let s : getD ids (i * K + j) 0 ≡ p = sym (part-at ids (i * K) K j l) ∙ q in
+      false≢true (sym e ∙ has-member p (getD dists (i * K + j) 0) (rowAt ids dists K i) (Memᴰ·cast (λ k. (sym s k, getD dists (i * K + j) 0)) (place-in ids dists (i * K) K j l)))
+
+  part-lacks : (p : ℕ) → ((j : ℕ) → j < length (take K (drop (i * K) ids)) → getD (take K (drop (i * K) ids)) j 0 ≢ p) → hasPoint p (rowAt ids dists K i) ≡ false
+  part-lacks p n =
+      ⊎-elim
+      (λ e.
+      let m = has-some p (rowAt ids dists K i) e in
+      let a = in-place ids dists (i * K) K (p, m .far) (m .mem) in
+      absurd (n (a .index) (omega (arith, a .low, part-long)) (part-at ids (i * K) K (a .index) (a .low) ∙ sym (ap (λ (x : ℕ × ℕ). x .0) (a .is)))))
+      (λ e. e)
+      (bool-cases (hasPoint p (rowAt ids dists K i)))
+
+  fit-fits : {p e : ℕ} → Fit P (rowAt ids dists K i) p e → Fits P (take K (drop (i * K) ids)) p e
+  fit-fits {p} f = record { point = f .point; low = f .low; lacks = lacks-part p (f .lacks) }
+
+  fits-fit : {p e : ℕ} → Fits P (take K (drop (i * K) ids)) p e → Fit P (rowAt ids dists K i) p e
+  fits-fit {p} f = record { point = f .point; low = f .low; lacks = part-lacks p (f .lacks) }
+
+pub row-inside : {g : Network} {ids dists : List ℕ} {K i : ℕ} → Sized g K ids dists → i < nodeCount g → (i * K + K ≤ length ids) × (i * K + K ≤ length dists)
+row-inside {g} {K} {i} sized inside =
+    let h = row-fits i (nodeCount g) K inside in
+    (omega (arith, h, sized .all-ids), omega (arith, h, sized .all-dists))
+
+pub lent-even : {g : Network} {ids dists : List ℕ} {K c : ℕ} → Sized g K ids dists → c < nodeCount g
+    → length (midOf (c * K) ((c * K + K) - c * K) dists) ≡ length (midOf (c * K) ((c * K + K) - c * K) ids)
+lent-even {ids} {dists} {K} {c} sized low =
+    let h = row-inside sized low in
+    mid-len (c * K) (c * K + K) dists (h .1) ∙ sym (mid-len (c * K) (c * K + K) ids (h .0))
+
+pub chosen-none : (g : Network) (P ids dists : List ℕ) (K i : ℕ) → BestOf g P ids dists K i 0 (0, NONE)
+chosen-none g P ids dists K i = record { least = λ j p e h. absurd (omega arith); from = inl refl }
+
+module _ {g : Network} {P ids dists : List ℕ} {K i : ℕ} (sized : Sized g K ids dists) (inside : i < nodeCount g) where
+  pub chosen-more : {j : ℕ} {r q : ℕ × ℕ} → BestOf g P ids dists K i j r
+      → BestOfRow P (take K (drop (i * K) ids)) (take K (drop (getD (neighboursOf g i) j 0 * K) ids)) (take K (drop (getD (neighboursOf g i) j 0 * K) dists))
+      (getD (weightsOf g i) j 0) K r q
+      → BestOf g P ids dists K i (j + 1) q
+  chosen-more {j} {r} {q} f b =
+      record {
+        least =
+            λ l p e h m fit.
+            elim (ℕ-discrete l j) [
+              | yes s ↦ rw s (here p e (rw s at m) fit)
+              | no n ↦ omega (arith, f .least l p e (omega arith) m fit, b .most)
+            ];
+        from =
+            ⊎-elim
+            (λ e.
+            ⊎-elim
+            (λ s. inl (e ∙ s))
+            (λ (s : GivesOver g P ids dists K i j r).
+            inr (record { place = s .place; low = omega (arith, s .low); point = s .point; far = s .far; mem = s .mem; fit = s .fit; is = e ∙ s .is }))
+            (f .from))
+            (λ s. inr (given s))
+            (b .from);
+      }
+    where
+      fits : i * K + K ≤ length ids
+      fits = omega (arith, row-fits i (nodeCount g) K inside, sized .all-ids)
+
+      here : (p e : ℕ) → List·Memᴰ (p, e) (rowAt ids dists K (getD (neighboursOf g i) j 0)) → Fit P (rowAt ids dists K i) p e → key q ≤ key (p, e + getD (weightsOf g i) j 0)
+      here p e m fit =
+          let a = in-place ids dists (getD (neighboursOf g i) j 0 * K) K (p, e) m in
+          let u = part-at ids (getD (neighboursOf g i) j 0 * K) K (a .index) (a .low) ∙ sym (ap (λ (x : ℕ × ℕ). x .0) (a .is)) in
+          let v = part-at dists (getD (neighboursOf g i) j 0 * K) K (a .index) (a .low) ∙ sym (ap (λ (x : ℕ × ℕ). x .1) (a .is)) in
+          let w = b .least (a .index) (a .low) (rw (u, v) (fit-fits P ids dists K i fits fit)) in
+          omega (arith, w, u, v)
+
+      given : Gives P (take K (drop (i * K) ids)) (take K (drop (getD (neighboursOf g i) j 0 * K) ids)) (take K (drop (getD (neighboursOf g i) j 0 * K) dists)) (getD (weightsOf g i) j 0) K q
+          → GivesOver g P ids dists K i (j + 1) q
+      given s =
+          let u = part-at ids (getD (neighboursOf g i) j 0 * K) K (s .index) (s .low) in
+          let v = part-at dists (getD (neighboursOf g i) j 0 * K) K (s .index) (s .low) in
+          record {
+            place = j;
+            low = omega arith;
+            point = getD ids (getD (neighboursOf g i) j 0 * K + s .index) 0;
+            far = getD dists (getD (neighboursOf g i) j 0 * K + s .index) 0;
+            mem = place-in ids dists (getD (neighboursOf g i) j 0 * K) K (s .index) (s .low);
+            fit = rw (u, v) at (fits-fit P ids dists K i fits (s .fits));
+            is = s .is ∙ λ k. (u k, v k + getD (weightsOf g i) j 0);
+          }
+
+-- the same, with the parts as they are lent: c is the node that arc j leads to, and w its weight
+module _ {g : Network} {P ids dists : List ℕ} {K i j : ℕ} (sized : Sized g K ids dists) (inside : i < nodeCount g) (c w : ℕ) (to : c ≡ getD (neighboursOf g i) j 0)
+    (weight : w ≡ getD (weightsOf g i) j 0) (low : c < nodeCount g) where
+  pub chosen-lent : {r q : ℕ × ℕ} → BestOf g P ids dists K i j r
+      → BestOfRow P (midOf (i * K) ((i * K + K) - i * K) ids) (midOf (c * K) ((c * K + K) - c * K) ids) (midOf (c * K) ((c * K + K) - c * K) dists) w
+      (length (midOf (c * K) ((c * K + K) - c * K) ids)) r q
+      → BestOf g P ids dists K i (j + 1) q
+  chosen-lent f b =
+      let own : (i * K + K) - i * K ≡ K = omega arith in
+      let other : (c * K + K) - c * K ≡ K = omega arith in
+      let long = mid-len (c * K) (c * K + K) ids (row-inside sized low .0) ∙ other in
+      chosen-more sized inside f (rw (long, own, other, to, weight) at b)
+
+-- a candidate is a point
+pub best-point : {g : Network} {P ids dists : List ℕ} {K i end : ℕ} {r : ℕ × ℕ} → length P ≡ nodeCount g → BestOf g P ids dists K i end r → r .1 ≢ NONE → r .0 < nodeCount g
+best-point {g} {P} {ids} {dists} {K} {i} {end} {r} points b n =
+    ⊎-elim
+    (λ q. absurd (n (ap (λ (x : ℕ × ℕ). x .1) q)))
+    (λ (v : GivesOver g P ids dists K i end r). omega (arith, ap (λ (x : ℕ × ℕ). x .0) (v .is), marked-inside P (v .point) (v .fit .point), points))
+    (b .from)
+
+-- ---- seed: the short rows below i have their best candidates in the queue.
+module _ {g : Network} {P xs ids dists : List ℕ} {K : ℕ} where
+  pub seeded-none : Queue (drop (nodeCount g) xs) 0 → Seeded g P xs xs ids dists K 0 0
+  seeded-none q =
+      record {
+        frame = record { size = refl; words = λ i h. refl };
+        few = omega arith;
+        queue = q;
+        only = λ k h. absurd (omega (arith, h .inside));
+        all = λ i h. absurd (omega arith);
+      }
+
+  module _ {ys : List ℕ} {i len : ℕ} (f : Seeded g P xs ys ids dists K i len) where
+    later : {k : ℕ} → SeedOf g P xs ids dists K i k → SeedOf g P xs ids dists K (i + 1) k
+    later s = record { node = s .node; low = omega (arith, s .low); short = s .short; best = s .best; gives = s .gives; is = s .is }
+
+    -- row i is not short, or there is nothing for it
+    pub seeded-whole : isShort xs i ≡ false → Seeded g P xs ys ids dists K (i + 1) len
+    seeded-whole e =
+        record {
+          frame = f .frame;
+          few = omega (arith, f .few);
+          queue = f .queue;
+          only = λ k h. later (f .only k h);
+          all = λ j h s. elim (ℕ-discrete j i) [ yes q ↦ absurd (false≢true (sym e ∙ ap (isShort xs) (sym q) ∙ s)) | no n ↦ f .all j (omega arith) s ];
+        }
+
+    pub seeded-nothing : {best : ℕ × ℕ} → BestOf g P ids dists K i (length (neighboursOf g i)) best → best .1 ≡ NONE → Seeded g P xs ys ids dists K (i + 1) len
+    seeded-nothing {best} b e =
+        record {
+          frame = f .frame;
+          few = omega (arith, f .few);
+          queue = f .queue;
+          only = λ k h. later (f .only k h);
+          all =
+              λ j h s.
+              elim (ℕ-discrete j i) [
+                | yes q ↦ rw q (record { best = best; is-best = b; held = inl e })
+                | no n ↦ f .all j (omega arith) s
+              ];
+        }
+
+    pub seeded-push : {zs : List ℕ} {best : ℕ × ℕ} → isShort xs i ≡ true → BestOf g P ids dists K i (length (neighboursOf g i)) best → best .1 ≢ NONE
+        → PushedAt ys zs (nodeCount g) len (offerOf i (best .0) (best .1)) → Seeded g P xs zs ids dists K (i + 1) (len + 1)
+    seeded-push {zs} {best} short b n p =
+        record {
+          frame = record { size = p .size ∙ f .frame .size; words = λ j h. p .before j h ∙ f .frame .words j h };
+          few = omega (arith, f .few);
+          queue = p .queue .queue;
+          only = λ k h. ⊎-elim (λ o. later (f .only k o)) (λ e. new k e) (p .queue .holds k .0 h);
+          all =
+              λ j h s.
+              elim (ℕ-discrete j i) [
+                | yes q ↦ rw q (record { best = best; is-best = b; held = inr (p .queue .holds (offerOf i (best .0) (best .1)) .1 (inr refl)) })
+                | no m ↦
+                    let o = f .all j (omega arith) s in
+                    record {
+                      best = o .best;
+                      is-best = o .is-best;
+                      held = ⊎-elim (λ e. inl e) (λ v. inr (p .queue .holds (offerOf j (o .best .0) (o .best .1)) .1 (inl v))) (o .held);
+                    }
+              ];
+        }
+      where
+        new : (k : ℕ) → k ≡ offerOf i (best .0) (best .1) → SeedOf g P xs ids dists K (i + 1) k
+        new k e =
+            record {
+              node = i;
+              low = omega arith;
+              short = short;
+              best = best;
+              gives = ⊎-elim (λ q. absurd (n (ap (λ (x : ℕ × ℕ). x .1) q))) (λ v. v) (b .from);
+              is = e;
+            }
+
+-- ---- take_in: what `put_last` leaves of the lent parts, said of the whole arrays.
+module _ {xs ids dists : List ℕ} {K i : ℕ} (can : CanTakeIn xs ids dists K i) where
+  width : (i * K + K) - i * K ≡ K
+  width = omega arith
+
+  ids-long : length (midOf (i * K) ((i * K + K) - i * K) ids) ≡ K
+  ids-long = mid-len (i * K) (i * K + K) ids (can .fits) ∙ width
+
+  dists-long : length (midOf (i * K) ((i * K + K) - i * K) dists) ≡ K
+  dists-long = mid-len (i * K) (i * K + K) dists (omega (arith, can .fits, can .same)) ∙ width
+
+  -- what `put_last` requires of the lent parts
+  pub put-last-can : (length (midOf (i * K) ((i * K + K) - i * K) dists) ≡ length (midOf (i * K) ((i * K + K) - i * K) ids))
+      × (1 ≤ length (midOf (i * K) ((i * K + K) - i * K) ids))
+  put-last-can = (dists-long ∙ sym ids-long, omega (arith, ids-long, can .some))
+
+  pub not-taken : {p d : ℕ} → (isShort xs i ≡ false) ⊎ ((LONGEST < d) ⊎ (hasPoint p (rowAt ids dists K i) ≡ true)) → TakenIn xs xs ids dists ids dists K i p d false
+  not-taken why =
+      record {
+        size = refl;
+        ids-size = refl;
+        dists-size = refl;
+        others = λ c n. refl;
+        taken = λ e. absurd (false≢true e);
+        refused = λ e. record { words = refl; row = refl; why = why };
+      }
+
+  module _ {p d : ℕ} {zs ws : List ℕ} {r : Bool} where
+    pub took-in : PutLast (midOf (i * K) ((i * K + K) - i * K) ids) (midOf (i * K) ((i * K + K) - i * K) dists) zs ws p d r → r ≡ true → getD xs i 0 ≡ 1 → d ≤ LONGEST
+        → TakenIn xs (set xs i 0) ids dists (putMid (i * K) ((i * K + K) - i * K) ids zs) (putMid (i * K) ((i * K + K) - i * K) dists ws) K i p d true
+    took-in t took short low =
+        rw (new-ids, new-dists)
+        (record {
+          size = length-set xs i 0;
+          ids-size = length-set ids (i * K + (K - 1)) p;
+          dists-size = length-set dists (i * K + (K - 1)) d;
+          others = set-other K i (K - 1) p d ids dists (omega (arith, can .some));
+          taken =
+              λ e.
+              record {
+                short = eq-eqb (getD xs i 0) 1 short;
+                low = low;
+                lacks = part-lacks xs ids dists K i (can .fits) p (rw width at (t .taken took .0));
+                words = refl;
+                row =
+                    set-row K i (K - 1) p d ids dists (omega (arith, can .some)) (omega (arith, can .some, can .fits))
+                    (omega (arith, can .some, can .fits, can .same));
+              };
+          refused = λ e. absurd (true≢false e);
+        })
+      where
+        new-ids : putMid (i * K) ((i * K + K) - i * K) ids zs ≡ set ids (i * K + (K - 1)) p
+        new-ids =
+            ap (putMid (i * K) ((i * K + K) - i * K) ids) (t .taken took .1 ∙ ap (λ n. set (midOf (i * K) ((i * K + K) - i * K) ids) (n - 1) p) ids-long)
+            ∙ set-mid-at (i * K) ((i * K + K) - i * K) (K - 1) ids p (omega (arith, ids-long, can .some))
+
+        new-dists : putMid (i * K) ((i * K + K) - i * K) dists ws ≡ set dists (i * K + (K - 1)) d
+        new-dists =
+            ap (putMid (i * K) ((i * K + K) - i * K) dists) (t .taken took .2 ∙ ap (λ n. set (midOf (i * K) ((i * K + K) - i * K) dists) (n - 1) d) ids-long)
+            ∙ set-mid-at (i * K) ((i * K + K) - i * K) (K - 1) dists d (omega (arith, dists-long, can .some))
+
+    pub left-out : PutLast (midOf (i * K) ((i * K + K) - i * K) ids) (midOf (i * K) ((i * K + K) - i * K) dists) zs ws p d r → r ≡ false
+        → TakenIn xs xs ids dists (putMid (i * K) ((i * K + K) - i * K) ids zs) (putMid (i * K) ((i * K + K) - i * K) dists ws) K i p d false
+    left-out t gone =
+        let q = ap (putMid (i * K) ((i * K + K) - i * K) ids) (t .refused gone .1) ∙ put-same (i * K) ((i * K + K) - i * K) ids in
+        let s = ap (putMid (i * K) ((i * K + K) - i * K) dists) (t .refused gone .2) ∙ put-same (i * K) ((i * K + K) - i * K) dists in
+        rw (q, s) (not-taken (inr (inr (stands (t .refused gone .0)))))
+      where
+        stands : (j : ℕ) × (j < length (midOf (i * K) ((i * K + K) - i * K) ids)) × (getD (midOf (i * K) ((i * K + K) - i * K) ids) j 0 ≡ p)
+            → hasPoint p (rowAt ids dists K i) ≡ true
+        stands m =
+            ⊎-elim
+            (λ e. e)
+            (λ e. absurd (lacks-part xs ids dists K i (can .fits) p e (m .0) (rw width at (m .1)) (rw width at (m .2))))
+            (bool-cases (hasPoint p (rowAt ids dists K i)))
+
+-- ---- offer: the arcs before place j have put in their entries.
+module _ {g : Network} {xs : List ℕ} {len v p d : ℕ} where
+  pub offered-none : Queue (drop (nodeCount g) xs) len → Offered g xs xs len len v p d 0
+  offered-none q =
+      record {
+        frame = record { size = refl; words = λ i h. refl };
+        queue = q;
+        grown = omega arith;
+        kept = λ k h. h;
+        old = λ k h. inl h;
+        new = λ j h. absurd (omega arith);
+      }
+
+  module _ {ys : List ℕ} {more j : ℕ} (f : Offered g xs ys len more v p d j) where
+    longer : {k : ℕ} → OfferedBy g v p d j k → OfferedBy g v p d (j + 1) k
+    longer o = record { place = o .place; low = omega (arith, o .low); is = o .is }
+
+    -- the arc at j leads to a row that is not short
+    pub offered-skip : getD xs (getD (neighboursOf g v) j 0) 0 ≢ 1 → Offered g xs ys len more v p d (j + 1)
+    offered-skip w =
+        record {
+          frame = f .frame;
+          queue = f .queue;
+          grown = omega (arith, f .grown);
+          kept = f .kept;
+          old = λ k h. ⊎-elim (λ o. inl o) (λ o. inr (longer o)) (f .old k h);
+          new =
+              λ i h.
+              elim (ℕ-discrete i j) [
+                | yes e ↦ inl (rw e (ne-eqb (getD xs (getD (neighboursOf g v) j 0) 0) 1 w))
+                | no n ↦ f .new i (omega arith)
+              ];
+        }
+
+    -- its entry is put in
+    pub offered-push : {zs : List ℕ} → PushedAt ys zs (nodeCount g) more (arcOffer g v p d j) → Offered g xs zs len (more + 1) v p d (j + 1)
+    offered-push t =
+        record {
+          frame = record { size = t .size ∙ f .frame .size; words = λ i h. t .before i h ∙ f .frame .words i h };
+          queue = t .queue .queue;
+          grown = omega (arith, f .grown);
+          kept = λ k h. t .queue .holds k .1 (inl (f .kept k h));
+          old =
+              λ k h.
+              ⊎-elim
+              (λ o. ⊎-elim (λ x. inl x) (λ x. inr (longer x)) (f .old k o))
+              (λ e. inr (record { place = j; low = omega arith; is = e }))
+              (t .queue .holds k .0 h);
+          new =
+              λ i h.
+              elim (ℕ-discrete i j) [
+                | yes e ↦ inr (t .queue .holds (arcOffer g v p d i) .1 (inr (ap (arcOffer g v p d) e)))
+                | no n ↦ ⊎-elim (λ w. inl w) (λ o. inr (t .queue .holds (arcOffer g v p d i) .1 (inl o))) (f .new i (omega arith))
+              ];
+        }

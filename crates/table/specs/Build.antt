@@ -1,0 +1,150 @@
+-- What `build` and its steps require and leave. Document 01, 'The table': 'Build fills it.' Words of scratch: a row's length for each node, then the
+-- queue. An entry of the queue offers a point to a node's row: its distance, and the tag of point and node.
+-- Assumes nothing.
+use Prim.Native.Nat.{ℕ, _+_, _*_, _≤_, _<_}
+use mathlib.Core.Path.{_≡_}
+use mathlib.Core.Logic.{_⊎_, _↔_}
+use mathlib.Core.Bool.{Bool, true, false}
+use mathlib.Core.List.{List}
+use lib.ListN.{length, getD, set, drop, replicate}
+use Rattle.network.specs.Network.{Network, nodeCount, arcCount, neighboursOf, weightsOf}
+use Rattle.network.specs.Accepted.{Accepted}
+use Rattle.network.specs.Distance.{NONE}
+use Rattle.network.specs.Points.{marked}
+use Rattle.expansion.specs.Queue.{Holds, Queue, keyOf}
+use Rattle.expansion.specs.Tags.{tagOf}
+use Rattle.expansion.specs.Area.{Kept, Blank, Wiped}
+use Rattle.table.specs.Flat.{Sized, IsTable}
+
+-- a point stands among the first `size` ids of a row
+pub record StandsIn (ids : List ℕ) (size p : ℕ) : Type 0 where
+  pub index : ℕ
+  pub low : index < size
+  pub is : getD ids index 0 ≡ p
+
+-- whether it does
+pub record StandsIs (ids : List ℕ) (size p : ℕ) (r : Bool) : Type 0 where
+  pub yes : r ≡ true → StandsIn ids size p
+  pub no : r ≡ false → StandsIn ids size p → ⊥
+
+-- a row of `size` entries takes (p, d) behind them where it has a free place and lacks p; else it stays as it is
+pub record Takes (ids ids′ dists dists′ : List ℕ) (size p d : ℕ) : Type 0 where
+  pub free : size < length ids
+  pub lacks : StandsIn ids size p → ⊥
+  pub new-ids : ids′ ≡ set ids size p
+  pub new-dists : dists′ ≡ set dists size d
+
+pub record Refuses (ids ids′ dists dists′ : List ℕ) (size p : ℕ) : Type 0 where
+  pub new-ids : ids′ ≡ ids
+  pub new-dists : dists′ ≡ dists
+  pub why : (size ≡ length ids) ⊎ StandsIn ids size p
+
+pub record Appended (ids ids′ dists dists′ : List ℕ) (size p d : ℕ) (r : Bool) : Type 0 where
+  pub taken : r ≡ true → Takes ids ids′ dists dists′ size p d
+  pub refused : r ≡ false → Refuses ids ids′ dists dists′ size p
+
+-- the same of node i's row, from place i * K on, whose size is the node's word of scratch
+pub record StandsAt (ids : List ℕ) (from size p : ℕ) : Type 0 where
+  pub index : ℕ
+  pub low : index < size
+  pub is : getD ids (from + index) 0 ≡ p
+
+pub record CanAppend (xs ids dists : List ℕ) (K i : ℕ) : Type 0 where
+  pub word : i < length xs
+  pub size : getD xs i 0 ≤ K
+  pub places : K ≤ 17
+  pub ids-room : i * K + K ≤ length ids
+  pub dists-room : i * K + K ≤ length dists
+
+pub record TakesAt (xs ys ids ids′ dists dists′ : List ℕ) (K i p d : ℕ) : Type 0 where
+  pub free : getD xs i 0 < K
+  pub lacks : StandsAt ids (i * K) (getD xs i 0) p → ⊥
+  pub words : ys ≡ set xs i (getD xs i 0 + 1)
+  pub new-ids : ids′ ≡ set ids (i * K + getD xs i 0) p
+  pub new-dists : dists′ ≡ set dists (i * K + getD xs i 0) d
+
+pub record RefusesAt (xs ys ids ids′ dists dists′ : List ℕ) (K i p : ℕ) : Type 0 where
+  pub words : ys ≡ xs
+  pub new-ids : ids′ ≡ ids
+  pub new-dists : dists′ ≡ dists
+  pub why : (getD xs i 0 ≡ K) ⊎ StandsAt ids (i * K) (getD xs i 0) p
+
+pub record AppendedAt (xs ys ids ids′ dists dists′ : List ℕ) (K i p d : ℕ) (r : Bool) : Type 0 where
+  pub taken : r ≡ true → TakesAt xs ys ids ids′ dists dists′ K i p d
+  pub refused : r ≡ false → RefusesAt xs ys ids ids′ dists dists′ K i p
+
+-- the entry that offers point p at distance d to node i
+abbrev pub offerKey : ℕ → ℕ → ℕ → ℕ
+offerKey i p d = keyOf d (tagOf p i)
+
+-- what offering (p, d), of the row of v, to the nodes that v's arcs lead to requires
+pub record CanOffer (g : Network) (xs : List ℕ) (len v p d : ℕ) : Type 0 where
+  pub accepted : Accepted g
+  pub inside : v < nodeCount g
+  pub point : p < nodeCount g
+  pub fits : d + 65535 < 4294967296
+  pub queue : Queue (drop (nodeCount g) xs) len
+  pub room : nodeCount g + 2 * (len + length (neighboursOf g v)) ≤ length xs
+
+-- the entry of arc j of v; some arc of v before place `end` put in the key
+abbrev pub arcOffer : Network → ℕ → ℕ → ℕ → ℕ → ℕ
+arcOffer g v p d j = offerKey (getD (neighboursOf g v) j 0) p (d + getD (weightsOf g v) j 0)
+
+pub record OfferedBy (g : Network) (v p d end k : ℕ) : Type 0 where
+  pub place : ℕ
+  pub low : place < end
+  pub is : k ≡ arcOffer g v p d place
+
+-- the arcs of v before place `end` have each put in an entry
+pub record Offered (g : Network) (xs ys : List ℕ) (len v p d end : ℕ) : Type 0 where
+  pub frame : Kept xs ys (nodeCount g)
+  pub queue : Queue (drop (nodeCount g) ys) (len + end)
+  pub holds : (k : ℕ) → Holds (drop (nodeCount g) ys) (len + end) k ↔ (Holds (drop (nodeCount g) xs) len k ⊎ OfferedBy g v p d end k)
+
+-- all arcs of v have; `more` is the queue's length then
+pub record OfferedAll (g : Network) (xs ys : List ℕ) (len more v p d : ℕ) : Type 0 where
+  pub count : more ≡ len + length (neighboursOf g v)
+  pub offered : Offered g xs ys len v p d (length (neighboursOf g v))
+
+-- the points below `end` have each put in an entry: itself, at distance 0
+pub record SeededBy (P : List ℕ) (end k : ℕ) : Type 0 where
+  pub node : ℕ
+  pub low : node < end
+  pub point : marked P node ≡ true
+  pub is : k ≡ offerKey node node 0
+
+pub record CanSeed (P xs : List ℕ) : Type 0 where
+  pub few : length P ≤ 65535
+  pub blank : Blank xs 0
+  pub room : length P + 2 * length P ≤ length xs
+
+pub record Seeded (P xs ys : List ℕ) (end len : ℕ) : Type 0 where
+  pub frame : Kept xs ys (length P)
+  pub few : len ≤ end
+  pub queue : Queue (drop (length P) ys) len
+  pub holds : (k : ℕ) → Holds (drop (length P) ys) len k ↔ SeededBy P end k
+
+-- an accepted network, a byte for each node, K of 2 to 17, table arrays of n * K entries, and words that are all 0: n, and 2 (n + K A) for the queue
+pub record CanBuild (g : Network) (P xs ids dists : List ℕ) (K : ℕ) : Type 0 where
+  pub accepted : Accepted g
+  pub points : length P ≡ nodeCount g
+  pub least : 2 ≤ K
+  pub most : K ≤ 17
+  pub sized : Sized g K ids dists
+  pub blank : Blank xs 0
+  pub room : nodeCount g + 2 * (nodeCount g + K * arcCount g) ≤ length xs
+
+-- the same, and all places are empty
+pub record CanSpread (g : Network) (P xs ids dists : List ℕ) (K : ℕ) : Type 0 where
+  pub can : CanBuild g P xs ids dists K
+  pub empty-ids : ids ≡ replicate (nodeCount g * K) NONE
+  pub empty-dists : dists ≡ replicate (nodeCount g * K) NONE
+
+pub record SpreadLeft (g : Network) (P xs ys ids dists : List ℕ) (K : ℕ) : Type 0 where
+  pub size : length ys ≡ length xs
+  pub table : IsTable g P K ids dists
+
+-- 'Build fills it': both arrays are the table, whatever they held, and the words are 0 again
+pub record BuildLeft (g : Network) (P xs ys ids dists : List ℕ) (K : ℕ) : Type 0 where
+  pub table : IsTable g P K ids dists
+  pub area : Wiped xs ys 0

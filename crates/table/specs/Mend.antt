@@ -1,0 +1,214 @@
+-- A table whose rows are freed of a point and filled again: what the steps of `remove` require and leave. Words of scratch: short flags n | queue. An
+-- entry of the queue offers a point to a short row: its distance, and the tag of point and node. Any contents of the table are allowed.
+-- Assumes nothing.
+use Prim.Native.Nat.{ℕ, _+_, _-_, _*_, _≤_, _<_}
+use mathlib.Core.Path.{_≡_}
+use mathlib.Core.Logic.{_≢_, _⊎_}
+use mathlib.Core.Bool.{Bool, true, false}
+use mathlib.Core.List.{List}
+use lib.Dec.{eqb}
+use lib.ListN.{length, getD, set, drop}
+use Rattle.network.specs.Network.{Network, Arc, nodeCount, arcCount, neighboursOf, weightsOf}
+use Rattle.network.specs.Accepted.{Accepted}
+use Rattle.network.specs.Walk.{Walk}
+use Rattle.network.specs.Distance.{NONE, dist}
+use Rattle.network.specs.Points.{marked}
+use Rattle.network.specs.Count.{count}
+use Rattle.network.specs.Nearest.{key, nearest}
+use Rattle.network.specs.Rows.{pad, row}
+use Rattle.network.proofs.Rank.{Nearer, before}
+use Rattle.expansion.specs.Queue.{Holds, Queue, keyOf}
+use Rattle.expansion.specs.Tags.{tagOf}
+use Rattle.expansion.specs.Area.{Kept}
+use Rattle.expansion.proofs.Room.{arcsLeft}
+use Rattle.table.specs.Flat.{rowAt, Sized}
+use Rattle.table.specs.Take.{takeOut, hasPoint}
+use Rattle.table.specs.Candidate.{LONGEST, GivesOver, BestOf}
+
+-- row i lacks the entry that it lost
+abbrev pub isShort : List ℕ → ℕ → Bool
+isShort xs i = eqb (getD xs i 0) 1
+
+-- ---- Freeing.
+-- a flag for each of n rows, that lie in both arrays
+pub record CanFree (xs ids dists : List ℕ) (n K : ℕ) : Type 0 where
+  pub few : n ≤ 65535
+  pub flags : n ≤ length xs
+  pub fits : n * K ≤ length ids
+  pub same : length dists ≡ length ids
+
+-- x is taken out of the rows below `end`, those that had it are flagged, and they are `changed`
+pub record Freed (xs ys ids dists ids′ dists′ : List ℕ) (K x end changed : ℕ) : Type 0 where
+  pub size : length ys ≡ length xs
+  pub ids-size : length ids′ ≡ length ids
+  pub dists-size : length dists′ ≡ length dists
+  pub flagged : (i : ℕ) → i < end → hasPoint x (rowAt ids dists K i) ≡ true → getD ys i 0 ≡ 1
+  pub others : (i : ℕ) → i < end → hasPoint x (rowAt ids dists K i) ≡ false → getD ys i 0 ≡ getD xs i 0
+  pub rest : (i : ℕ) → end ≤ i → getD ys i 0 ≡ getD xs i 0
+  pub freed : (i : ℕ) → i < end → rowAt ids′ dists′ K i ≡ takeOut x (rowAt ids dists K i)
+  pub later : (i : ℕ) → end ≤ i → rowAt ids′ dists′ K i ≡ rowAt ids dists K i
+  pub counted : changed ≡ count (λ i. hasPoint x (rowAt ids dists K i)) end
+
+-- ---- The first offers.
+-- the entry that offers point p at distance d to row i
+abbrev pub offerOf : ℕ → ℕ → ℕ → ℕ
+offerOf i p d = keyOf d (tagOf p i)
+
+-- an empty queue behind the flags, with room for an entry for each row
+pub record CanSeed (g : Network) (P xs ids dists : List ℕ) (K : ℕ) : Type 0 where
+  pub accepted : Accepted g
+  pub points : length P ≡ nodeCount g
+  pub sized : Sized g K ids dists
+  pub queue : Queue (drop (nodeCount g) xs) 0
+  pub room : nodeCount g + 2 * nodeCount g ≤ length xs
+
+-- the key is the best candidate of a short row below `end`
+pub record SeedOf (g : Network) (P xs ids dists : List ℕ) (K end k : ℕ) : Type 0 where
+  pub node : ℕ
+  pub low : node < end
+  pub short : isShort xs node ≡ true
+  pub best : ℕ × ℕ
+  pub gives : GivesOver g P ids dists K node (length (neighboursOf g node)) best
+  pub is : k ≡ offerOf node (best .0) (best .1)
+
+-- a short row below `end` has its best candidate in the queue, where it has one
+pub record HasSeed (g : Network) (P ids dists : List ℕ) (K i : ℕ) (Held : ℕ → Type 0) : Type 0 where
+  pub best : ℕ × ℕ
+  pub is-best : BestOf g P ids dists K i (length (neighboursOf g i)) best
+  pub held : (best .1 ≡ NONE) ⊎ Held (offerOf i (best .0) (best .1))
+
+-- the short rows below `end` have their best candidates in the queue, and nothing else is there
+pub record Seeded (g : Network) (P xs ys ids dists : List ℕ) (K end len : ℕ) : Type 0 where
+  pub frame : Kept xs ys (nodeCount g)
+  pub few : len ≤ end
+  pub queue : Queue (drop (nodeCount g) ys) len
+  pub only : (k : ℕ) → Holds (drop (nodeCount g) ys) len k → SeedOf g P xs ids dists K end k
+  pub all : (i : ℕ) → i < end → isShort xs i ≡ true → HasSeed g P ids dists K i (Holds (drop (nodeCount g) ys) len)
+
+-- ---- Taking an offer.
+-- (p, d) is put at the last place of a row that lacks p; else the row stays as it is. r says which
+pub record PutLast (ids dists ids′ dists′ : List ℕ) (p d : ℕ) (r : Bool) : Type 0 where
+  pub taken : r ≡ true → ((j : ℕ) → j < length ids → getD ids j 0 ≢ p) × (ids′ ≡ set ids (length ids - 1) p) × (dists′ ≡ set dists (length ids - 1) d)
+  pub refused : r ≡ false → ((j : ℕ) × (j < length ids) × (getD ids j 0 ≡ p)) × (ids′ ≡ ids) × (dists′ ≡ dists)
+
+-- row i has a flag, and lies in both arrays
+pub record CanTakeIn (xs ids dists : List ℕ) (K i : ℕ) : Type 0 where
+  pub flag : i < length xs
+  pub some : 1 ≤ K
+  pub fits : i * K + K ≤ length ids
+  pub same : length dists ≡ length ids
+
+-- short row i takes (p, d) at its last place and is short no more; or it stays as it is, for one of three reasons
+pub record Takes (xs ys ids dists ids′ dists′ : List ℕ) (K i p d : ℕ) : Type 0 where
+  pub short : isShort xs i ≡ true
+  pub low : d ≤ LONGEST
+  pub lacks : hasPoint p (rowAt ids dists K i) ≡ false
+  pub words : ys ≡ set xs i 0
+  pub row : rowAt ids′ dists′ K i ≡ set (rowAt ids dists K i) (K - 1) (p, d)
+
+pub record Refuses (xs ys ids dists ids′ dists′ : List ℕ) (K i p d : ℕ) : Type 0 where
+  pub words : ys ≡ xs
+  pub row : rowAt ids′ dists′ K i ≡ rowAt ids dists K i
+  pub why : (isShort xs i ≡ false) ⊎ ((LONGEST < d) ⊎ (hasPoint p (rowAt ids dists K i) ≡ true))
+
+-- one of both, by r; the other rows are as they were
+pub record TakenIn (xs ys ids dists ids′ dists′ : List ℕ) (K i p d : ℕ) (r : Bool) : Type 0 where
+  pub size : length ys ≡ length xs
+  pub ids-size : length ids′ ≡ length ids
+  pub dists-size : length dists′ ≡ length dists
+  pub others : (c : ℕ) → c ≢ i → rowAt ids′ dists′ K c ≡ rowAt ids dists K c
+  pub taken : r ≡ true → Takes xs ys ids dists ids′ dists′ K i p d
+  pub refused : r ≡ false → Refuses xs ys ids dists ids′ dists′ K i p d
+
+-- ---- Offering it on.
+-- what offering (p, d), of the row of v, to v's neighbours requires: the distance and the queue have room for them
+pub record CanOffer (g : Network) (xs : List ℕ) (len v p d : ℕ) : Type 0 where
+  pub accepted : Accepted g
+  pub inside : v < nodeCount g
+  pub point : p < nodeCount g
+  pub fits : d ≤ LONGEST
+  pub queue : Queue (drop (nodeCount g) xs) len
+  pub room : nodeCount g + 2 * (len + length (neighboursOf g v)) ≤ length xs
+
+-- the entry of arc j of v; some arc of v before place `end` put in the key
+abbrev pub arcOffer : Network → ℕ → ℕ → ℕ → ℕ → ℕ
+arcOffer g v p d j = offerOf (getD (neighboursOf g v) j 0) p (d + getD (weightsOf g v) j 0)
+
+pub record OfferedBy (g : Network) (v p d end k : ℕ) : Type 0 where
+  pub place : ℕ
+  pub low : place < end
+  pub is : k ≡ arcOffer g v p d place
+
+-- the arcs of v before place `end` have each put in an entry, or lead to a row that is not short
+pub record Offered (g : Network) (xs ys : List ℕ) (len more v p d end : ℕ) : Type 0 where
+  pub frame : Kept xs ys (nodeCount g)
+  pub queue : Queue (drop (nodeCount g) ys) more
+  pub grown : more ≤ len + end
+  pub kept : (k : ℕ) → Holds (drop (nodeCount g) xs) len k → Holds (drop (nodeCount g) ys) more k
+  pub old : (k : ℕ) → Holds (drop (nodeCount g) ys) more k → Holds (drop (nodeCount g) xs) len k ⊎ OfferedBy g v p d end k
+  pub new : (j : ℕ) → j < end → (isShort xs (getD (neighboursOf g v) j 0) ≡ false) ⊎ Holds (drop (nodeCount g) ys) more (arcOffer g v p d j)
+
+-- ---- Filling.
+-- an entry is of nodes
+pub record Entry (n k : ℕ) : Type 0 where
+  pub node : ℕ
+  pub point : ℕ
+  pub far : ℕ
+  pub is : k ≡ offerOf node point far
+  pub inside : node < n
+  pub low : point < n
+
+-- what waits, for a table of any contents: each short row takes once at the most, so the queue has room
+pub record Waiting (g : Network) (xs : List ℕ) (len : ℕ) : Type 0 where
+  pub queue : Queue (drop (nodeCount g) xs) len
+  pub entries : (k : ℕ) → Holds (drop (nodeCount g) xs) len k → Entry (nodeCount g) k
+  pub room : len + arcsLeft g (isShort xs) (nodeCount g) ≤ nodeCount g + arcCount g
+  pub size : nodeCount g + 2 * (nodeCount g + arcCount g) ≤ length xs
+
+-- what filling requires, of a table of any contents
+pub record CanFill (g : Network) (xs : List ℕ) (len : ℕ) (ids dists : List ℕ) (K : ℕ) : Type 0 where
+  pub accepted : Accepted g
+  pub some : 2 ≤ K
+  pub sized : Sized g K ids dists
+  pub waiting : Waiting g xs len
+
+-- i wants p: p is the point of Q with K - 1 before it, the entry that a short row lacks
+pub record Wants (g : Network) (Q : List ℕ) (K i p : ℕ) : Type 0 where
+  pub nearer : Nearer g Q i NONE p
+  pub rank : before g Q i NONE (key (p, dist g i p)) ≡ K - 1
+
+-- the next node of a shortest way from i to p is short and wants p too
+pub record Behind (g : Network) (Q xs : List ℕ) (K i p : ℕ) : Type 0 where
+  pub to : ℕ
+  pub weight : ℕ
+  pub arc : Arc g i to weight
+  pub sum : dist g i p ≡ weight + dist g to p
+  pub short : isShort xs to ≡ true
+  pub wants : Wants g Q K to p
+
+-- an entry is a point of Q, with the sum of a walk
+pub record Lead (g : Network) (Q : List ℕ) (k : ℕ) : Type 0 where
+  pub node : ℕ
+  pub point : ℕ
+  pub far : ℕ
+  pub is : k ≡ offerOf node point far
+  pub inside : node < nodeCount g
+  pub low : point < nodeCount g
+  pub is-point : marked Q point ≡ true
+  pub walk : Walk g node point far
+
+-- a table on its way to the table of Q: rows are whole or short; what waits leads to points; and what a short row wants waits, or its next node is
+-- short and wants it
+pub record Mending (g : Network) (Q : List ℕ) (K : ℕ) (ids dists xs : List ℕ) (len : ℕ) : Type 0 where
+  pub lacking : (i : ℕ) → i < nodeCount g → isShort xs i ≡ true → rowAt ids dists K i ≡ pad K (nearest g Q i NONE (K - 1))
+  pub whole : (i : ℕ) → i < nodeCount g → isShort xs i ≡ false → rowAt ids dists K i ≡ row g Q K i
+  pub leads : (k : ℕ) → Holds (drop (nodeCount g) xs) len k → Lead g Q k
+  pub frontier :
+      (i p : ℕ) → i < nodeCount g → isShort xs i ≡ true → Wants g Q K i p
+      → Holds (drop (nodeCount g) xs) len (offerOf i p (dist g i p)) ⊎ Behind g Q xs K i p
+
+-- filling leaves arrays of the same lengths, and a table that is being mended for Q becomes the table of Q
+pub record FillLeft (g : Network) (xs ys : List ℕ) (len : ℕ) (ids dists ids′ dists′ : List ℕ) (K : ℕ) : Type 0 where
+  pub size : length ys ≡ length xs
+  pub sized : Sized g K ids′ dists′
+  pub mended : (Q : List ℕ) → Mending g Q K ids dists xs len → (i : ℕ) → i < nodeCount g → rowAt ids′ dists′ K i ≡ row g Q K i

@@ -1,0 +1,196 @@
+// Build: source 000, Fig. 8. Every point is offered to its own node's row; the least offer by distance, point and node is taken out, and where the row
+// has a free place and lacks the point it takes it, and the node's neighbours are offered it in turn. Document 01, 'The table': 'Build fills it.'
+ghost use mathlib.Core.Path.{_≡_};
+ghost use Prim.Native.Nat.{_≤_};
+ghost use lib.ListN.{length, replicate};
+ghost use Rattle.network.specs.Network.{network};
+ghost use Rattle.network.specs.Distance.{NONE};
+ghost use Rattle.table.specs.Build.{StandsIs, Appended, CanAppend, AppendedAt, CanOffer, OfferedAll, CanSeed, Seeded, CanSpread, SpreadLeft, CanBuild, BuildLeft};
+use expansion::queue;
+use expansion::tags;
+use expansion::words;
+use network::arcs;
+use network::arcs::wide;
+use network::distance::Distance;
+
+// Makes every place empty.
+fn empty(places: &mut [u32])
+    ensures { λ _. ⌜ now (places .exit) ≡ replicate (length (now (places .entry))) NONE ⌝ }
+{
+    let mut i = 0;
+    while i < places.len() {
+        places[i] = Distance::NONE;
+        i += 1;
+    }
+}
+
+// Whether a point stands among the first `size` ids of a row.
+fn stands(ids_row: &[u32], size: usize, p: u32) -> bool
+    requires { ⌜ size ≤ length (now «ids_row») ⌝ }
+    ensures { λ r. ⌜ StandsIs (now («ids_row» .entry)) size p r ⌝ }
+{
+    let mut j = 0;
+    while j < size {
+        let id = ids_row[j];
+        if id == p {
+            return true;
+        }
+        j += 1;
+    }
+    false
+}
+
+// Puts (p, d) behind the `size` entries of a row, where it has a free place and lacks p. Returns whether it did.
+fn append(ids_row: &mut [u32], distances_row: &mut [u32], size: usize, p: u32, d: u32) -> bool
+    requires { ⌜ (length (now «distances_row») ≡ length (now «ids_row»)) × (size ≤ length (now «ids_row»)) ⌝ }
+    ensures { λ r. ⌜ Appended (now («ids_row» .entry)) (now («ids_row» .exit)) (now («distances_row» .entry)) (now («distances_row» .exit)) size p d r ⌝ }
+{
+    if size == ids_row.len() {
+        return false;
+    }
+    if stands(ids_row, size, p) {
+        return false;
+    }
+    ids_row[size] = p;
+    distances_row[size] = d;
+    true
+}
+
+// The same of a node's row, lent as the part of both arrays that it is. Its size is the node's word of scratch.
+fn append_at(
+    s: &mut [u32],
+    ids: &mut [u32],
+    distances: &mut [u32],
+    places: usize,
+    node: u32,
+    p: u32,
+    d: u32,
+) -> bool
+    requires { ⌜ CanAppend (now s) (now ids) (now distances) places node ⌝ }
+    ensures { λ r. ⌜ AppendedAt (now (s .entry)) (now (s .exit)) (now (ids .entry)) (now (ids .exit)) (now (distances .entry)) (now (distances .exit)) places node p d r ⌝ }
+{
+    let at = wide(node);
+    let from = at * places;
+    let end = from + places;
+    let size = s[at];
+    let taken = append(
+        &mut ids[from..end],
+        &mut distances[from..end],
+        wide(size),
+        p,
+        d,
+    );
+    if taken {
+        s[at] = size + 1;
+    }
+    taken
+}
+
+// Offers a point of a node's row to the nodes that its arcs lead to, at the distance over the arc. Returns the queue's length then.
+fn offer(
+    starts: &[u32],
+    neighbours: &[u32],
+    weights: &[u32],
+    s: &mut [u32],
+    len: usize,
+    node: u32,
+    p: u32,
+    d: u32,
+) -> usize
+    requires { ⌜ CanOffer (network (now starts) (now neighbours) (now weights)) (now s) len node p d ⌝ }
+    ensures { λ r. ⌜ OfferedAll (network (now (starts .entry)) (now (neighbours .entry)) (now (weights .entry))) (now (s .entry)) (now (s .exit)) len r node p d ⌝ }
+{
+    let at = starts.len() - 1;
+    let ahead = arcs::neighbours_of(starts, neighbours, wide(node));
+    let weighed = arcs::weights_of(starts, weights, wide(node));
+    let mut j = 0;
+    while j < ahead.len() {
+        let to = ahead[j];
+        let far = d + weighed[j];
+        let tag = tags::tag_of(p, to);
+        queue::push_at(s, at, len + j, far, tag);
+        j += 1;
+    }
+    len + j
+}
+
+// Offers every point to its own node's row. Returns how many there are.
+fn seed(points: &[u8], s: &mut [u32]) -> usize
+    requires { ⌜ CanSeed (now points) (now s) ⌝ }
+    ensures { λ r. ⌜ Seeded (now (points .entry)) (now (s .entry)) (now (s .exit)) (length (now (points .entry))) r ⌝ }
+{
+    let n = points.len();
+    let mut len = 0;
+    let mut v = 0;
+    while v < n {
+        let node = v as u32;
+        let mark = points[v];
+        v += 1;
+        if mark == 1 {
+            let tag = tags::tag_of(node, node);
+            queue::push_at(s, n, len, 0, tag);
+            len += 1;
+        }
+    }
+    len
+}
+
+// Offers every point to its own node's row, and takes the offers out, least first: a row that has a free place and lacks the point takes it, and the
+// node's neighbours are offered it. The queue is empty at the end.
+fn spread(
+    starts: &[u32],
+    neighbours: &[u32],
+    weights: &[u32],
+    points: &[u8],
+    s: &mut [u32],
+    ids: &mut [u32],
+    distances: &mut [u32],
+    places: usize,
+)
+    requires { ⌜ CanSpread (network (now starts) (now neighbours) (now weights)) (now points) (now s) (now ids) (now distances) places ⌝ }
+    ensures { λ _. ⌜ SpreadLeft (network (now (starts .entry)) (now (neighbours .entry)) (now (weights .entry))) (now (points .entry)) (now (s .entry)) (now (s .exit)) (now (ids .exit)) (now (distances .exit)) places ⌝ }
+{
+    let n = starts.len() - 1;
+    let len = seed(points, s);
+    let mut left = len;
+    while 0 < left {
+        let e = queue::pop_at(s, n, left);
+        left -= 1;
+        let d = e.distance;
+        let tag = e.tag;
+        let p = tags::tag_node(tag);
+        let node = tags::tag_parent(tag);
+        if append_at(s, ids, distances, places, node, p, d) {
+            left = offer(starts, neighbours, weights, s, left, node, p, d);
+        }
+    }
+}
+
+// Fills both arrays with the table of the points, whatever they hold. The scratch is all 0 before and after.
+pub fn build(
+    starts: &[u32],
+    neighbours: &[u32],
+    weights: &[u32],
+    points: &[u8],
+    s: &mut [u32],
+    ids: &mut [u32],
+    distances: &mut [u32],
+    places: usize,
+)
+    requires { ⌜ CanBuild (network (now starts) (now neighbours) (now weights)) (now points) (now s) (now ids) (now distances) places ⌝ }
+    ensures { λ _. ⌜ BuildLeft (network (now (starts .entry)) (now (neighbours .entry)) (now (weights .entry))) (now (points .entry)) (now (s .entry)) (now (s .exit)) (now (ids .exit)) (now (distances .exit)) places ⌝ }
+{
+    empty(ids);
+    empty(distances);
+    spread(
+        starts,
+        neighbours,
+        weights,
+        points,
+        s,
+        ids,
+        distances,
+        places,
+    );
+    words::zero(s);
+}

@@ -1,0 +1,321 @@
+// Remove: document 01, 'The table'. All rows are freed of the point before the first is filled. A freed row is short: it wants one entry, the best
+// that its neighbours' rows hold and it lacks. The least offer by distance, point and node is taken out; a short row that lacks its point takes it, is
+// short no more, and offers it to its short neighbours. Words of scratch: short flags n | queue.
+ghost use Prim.Native.Nat.{_≤_, _<_};
+ghost use mathlib.Core.Path.{_≡_};
+ghost use lib.ListN.{length, set};
+ghost use Rattle.network.specs.Network.{network, nodeCount, neighboursOf};
+ghost use Rattle.network.specs.Points.{marked};
+ghost use Rattle.table.specs.Candidate.{Better, BestOfRow, CanChoose, BestOf};
+ghost use Rattle.table.specs.Mend.{CanFree, Freed, CanSeed, Seeded, PutLast, CanTakeIn, TakenIn, CanOffer, Offered, CanFill, FillLeft};
+ghost use Rattle.table.specs.Remove.{CanRemove};
+ghost use Rattle.table.specs.Updated.{UpdateLeft};
+use crate::take;
+use expansion::queue;
+use expansion::tags;
+use expansion::words;
+use network::arcs;
+use network::arcs::wide;
+use network::distance::Distance;
+
+// An entry that a short row may take. A distance of NONE stands for none.
+struct Candidate {
+    point: u32,
+    distance: u32,
+}
+
+impl Candidate {
+    // Document 01: 'Every distance is at most 4,294,770,690.'
+    pub const LONGEST: u32 = 4294770690;
+}
+
+// Takes a point out of every row, and flags the rows that had it. Returns how many.
+fn free(s: &mut [u32], ids: &mut [u32], distances: &mut [u32], n: usize, k: usize, x: u32) -> u32
+    requires { ⌜ CanFree (now s) (now ids) (now distances) n k ⌝ }
+    ensures { λ r. ⌜ Freed (now (s .entry)) (now (s .exit)) (now (ids .entry)) (now (distances .entry)) (now (ids .exit)) (now (distances .exit)) k x n r ⌝ }
+{
+    let mut changed = 0;
+    let mut i = 0;
+    while i < n {
+        let was = take::take_out_of_row(ids, distances, k, i, x);
+        if was {
+            s[i] = 1;
+            changed += 1;
+        }
+        i += 1;
+    }
+    changed
+}
+
+// Whether a node is a point.
+fn is_marked(points: &[u8], p: u32) -> bool
+    ensures { λ r. ⌜ r ≡ marked (now (points .entry)) p ⌝ }
+{
+    let at = wide(p);
+    if points.len() <= at {
+        return false;
+    }
+    let mark = points[at];
+    mark == 1
+}
+
+// The better of a candidate and what an entry (p, e) of a neighbour's row gives over an arc of weight w: a point that the row lacks, at a distance
+// that can be one.
+fn better(points: &[u8], own: &[u32], best: Candidate, p: u32, e: u32, w: u32) -> Candidate
+    requires { ⌜ w ≤ 65535 ⌝ }
+    ensures { λ r. ⌜ Better (now (points .entry)) (now (own .entry)) (best .point, best .distance) (r .point, r .distance) p e w ⌝ }
+{
+    if Candidate::LONGEST < e {
+        return best;
+    }
+    let d = e + w;
+    let key = queue::key_of(d, p);
+    let least = queue::key_of(best.distance, best.point);
+    if least <= key {
+        return best;
+    }
+    let at = take::place_of_point(own, p);
+    if at < own.len() {
+        return best;
+    }
+    if is_marked(points, p) {
+        return Candidate {
+            point: p,
+            distance: d,
+        };
+    }
+    best
+}
+
+// The best of a candidate and what a neighbour's row gives over an arc of weight w.
+fn best_of_row(
+    points: &[u8],
+    own: &[u32],
+    ids: &[u32],
+    distances: &[u32],
+    w: u32,
+    best: Candidate,
+) -> Candidate
+    requires { ⌜ (w ≤ 65535) × (length (now distances) ≡ length (now ids)) ⌝ }
+    ensures { λ r. ⌜ BestOfRow (now (points .entry)) (now (own .entry)) (now (ids .entry)) (now (distances .entry)) w (length (now (ids .entry))) (best .point, best .distance) (r .point, r .distance) ⌝ }
+{
+    let mut least = best;
+    let mut j = 0;
+    while j < ids.len() {
+        let p = ids[j];
+        let e = distances[j];
+        least = better(points, own, least, p, e, w);
+        j += 1;
+    }
+    least
+}
+
+// The best entry that the rows of a node's neighbours hold and its own lacks.
+fn best_candidate(
+    starts: &[u32],
+    neighbours: &[u32],
+    weights: &[u32],
+    points: &[u8],
+    ids: &[u32],
+    distances: &[u32],
+    k: usize,
+    i: usize,
+) -> Candidate
+    requires { ⌜ CanChoose (network (now starts) (now neighbours) (now weights)) (now ids) (now distances) k i ⌝ }
+    ensures { λ r. ⌜ BestOf (network (now (starts .entry)) (now (neighbours .entry)) (now (weights .entry))) (now (points .entry)) (now (ids .entry)) (now (distances .entry)) k i (length (neighboursOf (network (now (starts .entry)) (now (neighbours .entry)) (now (weights .entry))) i)) (r .point, r .distance) ⌝ }
+{
+    let ahead = arcs::neighbours_of(starts, neighbours, i);
+    let weighed = arcs::weights_of(starts, weights, i);
+    let from = i * k;
+    let end = from + k;
+    let mut best = Candidate {
+        point: 0,
+        distance: Distance::NONE,
+    };
+    let mut j = 0;
+    while j < ahead.len() {
+        let a = wide(ahead[j]) * k;
+        let e = a + k;
+        let w = weighed[j];
+        best = best_of_row(
+            points,
+            &ids[from..end],
+            &ids[a..e],
+            &distances[a..e],
+            w,
+            best,
+        );
+        j += 1;
+    }
+    best
+}
+
+// Offers each short row its best candidate. Returns how many entries wait.
+fn seed(
+    starts: &[u32],
+    neighbours: &[u32],
+    weights: &[u32],
+    points: &[u8],
+    s: &mut [u32],
+    ids: &[u32],
+    distances: &[u32],
+    k: usize,
+) -> usize
+    requires { ⌜ CanSeed (network (now starts) (now neighbours) (now weights)) (now points) (now s) (now ids) (now distances) k ⌝ }
+    ensures { λ r. ⌜ Seeded (network (now (starts .entry)) (now (neighbours .entry)) (now (weights .entry))) (now (points .entry)) (now (s .entry)) (now (s .exit)) (now (ids .entry)) (now (distances .entry)) k (nodeCount (network (now (starts .entry)) (now (neighbours .entry)) (now (weights .entry)))) r ⌝ }
+{
+    let n = starts.len() - 1;
+    let mut len = 0;
+    let mut next = 0;
+    while next < n {
+        let at = next;
+        let node = at as u32;
+        let flag = s[at];
+        next += 1;
+        if flag != 1 {
+            continue;
+        }
+        let best = best_candidate(starts, neighbours, weights, points, ids, distances, k, at);
+        let point = best.point;
+        let distance = best.distance;
+        if distance == Distance::NONE {
+            continue;
+        }
+        let tag = tags::tag_of(point, node);
+        queue::push_at(s, n, len, distance, tag);
+        len += 1;
+    }
+    len
+}
+
+// Puts (p, d) at the last place of a row that lacks p. Returns whether it did.
+fn put_last(ids: &mut [u32], distances: &mut [u32], p: u32, d: u32) -> bool
+    requires { ⌜ (length (now distances) ≡ length (now ids)) × (1 ≤ length (now ids)) ⌝ }
+    ensures { λ r. ⌜ PutLast (now (ids .entry)) (now (distances .entry)) (now (ids .exit)) (now (distances .exit)) p d r ⌝ }
+{
+    let size = ids.len();
+    let at = take::place_of_point(ids, p);
+    if at < size {
+        return false;
+    }
+    ids[size - 1] = p;
+    distances[size - 1] = d;
+    true
+}
+
+// A short row takes (p, d), where it lacks p and d can be a distance; it is short no more. Its last place is free: it lost one. Returns whether it did.
+fn take_in(
+    s: &mut [u32],
+    ids: &mut [u32],
+    distances: &mut [u32],
+    k: usize,
+    i: usize,
+    p: u32,
+    d: u32,
+) -> bool
+    requires { ⌜ CanTakeIn (now s) (now ids) (now distances) k i ⌝ }
+    ensures { λ r. ⌜ TakenIn (now (s .entry)) (now (s .exit)) (now (ids .entry)) (now (distances .entry)) (now (ids .exit)) (now (distances .exit)) k i p d r ⌝ }
+{
+    let flag = s[i];
+    if flag != 1 {
+        return false;
+    }
+    if Candidate::LONGEST < d {
+        return false;
+    }
+    let a = i * k;
+    let e = a + k;
+    let took = put_last(&mut ids[a..e], &mut distances[a..e], p, d);
+    if took {
+        s[i] = 0;
+        return true;
+    }
+    false
+}
+
+// Offers an entry of a node's row to the short rows that its arcs lead to, at the distance over the arc. Returns how many entries wait then.
+fn offer(
+    starts: &[u32],
+    neighbours: &[u32],
+    weights: &[u32],
+    s: &mut [u32],
+    len: usize,
+    node: usize,
+    p: u32,
+    d: u32,
+) -> usize
+    requires { ⌜ CanOffer (network (now starts) (now neighbours) (now weights)) (now s) len node p d ⌝ }
+    ensures { λ r. ⌜ Offered (network (now (starts .entry)) (now (neighbours .entry)) (now (weights .entry))) (now (s .entry)) (now (s .exit)) len r node p d (length (neighboursOf (network (now (starts .entry)) (now (neighbours .entry)) (now (weights .entry))) node)) ⌝ }
+{
+    let n = starts.len() - 1;
+    let ahead = arcs::neighbours_of(starts, neighbours, node);
+    let weighed = arcs::weights_of(starts, weights, node);
+    let mut more = len;
+    let mut j = 0;
+    while j < ahead.len() {
+        let to = ahead[j];
+        let far = d + weighed[j];
+        j += 1;
+        let flag = s[wide(to)];
+        if flag == 1 {
+            let tag = tags::tag_of(p, to);
+            queue::push_at(s, n, more, far, tag);
+            more += 1;
+        }
+    }
+    more
+}
+
+// Takes the least offer out until none waits.
+fn fill(
+    starts: &[u32],
+    neighbours: &[u32],
+    weights: &[u32],
+    s: &mut [u32],
+    len: usize,
+    ids: &mut [u32],
+    distances: &mut [u32],
+    k: usize,
+)
+    requires { ⌜ CanFill (network (now starts) (now neighbours) (now weights)) (now s) len (now ids) (now distances) k ⌝ }
+    ensures { λ _. ⌜ FillLeft (network (now (starts .entry)) (now (neighbours .entry)) (now (weights .entry))) (now (s .entry)) (now (s .exit)) len (now (ids .entry)) (now (distances .entry)) (now (ids .exit)) (now (distances .exit)) k ⌝ }
+{
+    let n = starts.len() - 1;
+    let mut left = len;
+    while 0 < left {
+        let entry = queue::pop_at(s, n, left);
+        left -= 1;
+        let d = entry.distance;
+        let tag = entry.tag;
+        let p = tags::tag_node(tag);
+        let i = wide(tags::tag_parent(tag));
+        let took = take_in(s, ids, distances, k, i, p, d);
+        if took {
+            left = offer(starts, neighbours, weights, s, left, i, p, d);
+        }
+    }
+}
+
+// Clears the mark of a node and brings the table up to date. Returns how many rows changed. All words are 0 before and after.
+pub fn remove(
+    starts: &[u32],
+    neighbours: &[u32],
+    weights: &[u32],
+    points: &mut [u8],
+    s: &mut [u32],
+    ids: &mut [u32],
+    distances: &mut [u32],
+    x: u32,
+    k: usize,
+) -> u32
+    requires { ⌜ CanRemove (network (now starts) (now neighbours) (now weights)) (now points) (now s) (now ids) (now distances) x k ⌝ }
+    ensures { λ r. ⌜ UpdateLeft (network (now (starts .entry)) (now (neighbours .entry)) (now (weights .entry))) (now (points .entry)) (set (now (points .entry)) x 0) (now (points .exit)) (now (s .entry)) (now (s .exit)) (now (ids .entry)) (now (distances .entry)) (now (ids .exit)) (now (distances .exit)) k r ⌝ }
+{
+    let n = starts.len() - 1;
+    points[wide(x)] = 0;
+    let changed = free(s, ids, distances, n, k, x);
+    let len = seed(starts, neighbours, weights, points, s, ids, distances, k);
+    fill(starts, neighbours, weights, s, len, ids, distances, k);
+    words::zero(s);
+    changed
+}
