@@ -40,7 +40,7 @@ pub fn insert(
     if number != 0 {
         return Update { number, changed: 0 };
     }
-    let used = 2 * points.len() + 2 * (network.neighbours.len() + 1);
+    let used = 3 * points.len() + 2 * (network.neighbours.len() + 1);
     scratch[..used].fill(0);
     let changed = expand(network, node, &mut scratch[..used], &mut table);
     points[node as usize] = 1;

@@ -20,7 +20,7 @@ pub fn remove(
         return Update { number, changed: 0 };
     }
     let (n, arcs) = (points.len(), network.neighbours.len());
-    let used = n + 2 * (n + arcs);
+    let used = 3 * n + 2 * (arcs + 1);
     scratch[..used].fill(0);
     points[node as usize] = 0;
     let (short, words) = scratch[..used].split_at_mut(n);
