@@ -21,7 +21,8 @@ use Rattle.network.proofs.Ranges.{arc-at}
 use Rattle.network.proofs.NumberZero.{accepted-ranges}
 use Rattle.expansion.specs.Queue.{Holds, Queue}
 use Rattle.expansion.specs.Area.{queueBase, queueOf, unsettled, Entry, Stands, Area, Kept, Blank, Started, Left, PutIn, Followed}
-use Rattle.expansion.proofs.Room.{degree, arcsLeft, left-same, left-less, left-all}
+use Rattle.expansion.specs.Room.{degree, arcsLeft}
+use Rattle.expansion.proofs.Room.{left-same, left-less, left-all}
 
 -- the words before the queue are as they were
 module _ {n : ℕ} {xs ys : List ℕ} (b : ℕ) (same : Kept xs ys (queueBase n b)) where

@@ -14,8 +14,8 @@ use Rattle.network.specs.Network.{Network, nodeCount, neighboursOf}
 use Rattle.network.specs.Accepted.{Accepted}
 use Rattle.network.specs.Distance.{NONE, dist}
 use Rattle.network.specs.Points.{marked}
-use Rattle.network.specs.Nearest.{key, byDistance, nearest}
-use Rattle.network.proofs.Rank.{Nearer, key-order, nearer-passes, passes-nearer}
+use Rattle.network.specs.Nearest.{key, byDistance, nearest, Nearer}
+use Rattle.network.proofs.Rank.{key-order, nearer-passes, passes-nearer}
 use Rattle.network.proofs.Rows.{by-all, by-only, all-rising, nearest-length}
 use Rattle.expansion.specs.Queue.{keyOf}
 use Rattle.expansion.specs.Tags.{tagOf}

@@ -8,8 +8,8 @@ use native.Mathlib.Numerals.{add-one}
 use native.Mathlib.Omega.{arith}
 use lib.ListN.{length, take, getD, length-take}
 use lib.Seq.{take-suc}
-use Rattle.network.specs.Nearest.{key}
-use Rattle.network.proofs.Rising.{Rising, AllIn, take-rising, take-all-in, same-members}
+use Rattle.network.specs.Nearest.{key, Rising}
+use Rattle.network.proofs.Rising.{AllIn, take-rising, take-all-in, same-members}
 
 -- z stands at place m of xs
 pub record Next (xs : List (ℕ × ℕ)) (m : ℕ) (z : ℕ × ℕ) : Type 0 where

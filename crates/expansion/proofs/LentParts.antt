@@ -2,10 +2,10 @@
 -- Assumes nothing.
 use mathlib.Core.Path.{_≡_, sym, ap, _∙_}
 use mathlib.Core.List.{List, [], _++_, append-nil}
-use Prim.Native.Nat.{ℕ, _+_, _-_, _≤_, _<_}
+use Prim.Native.Nat.{ℕ, _-_, _≤_, _<_}
 use native.Mathlib.Omega.{arith}
 use lib.ListN.{length, getD, take, drop, length-drop, List·getD-append}
-use lib.Seq.{take-all, drop-at, drop-length, getD-take, getD-drop, length-take-le, ext-getD}
+use lib.Seq.{take-all, drop-at, drop-length, getD-take, length-take-le}
 use borrow.Rule.Slice.PartMut.{midOf, putMid, postOf, same-len-mid}
 
 -- the part
@@ -30,9 +30,3 @@ rejoined a xs zs fits same =
       before = λ i h. List·getD-append (take a xs) (zs ++ postOf a (length xs - a) xs) 0 i (omega arith) ∙ getD-take a xs i 0 h;
       part = drop-at (take a xs) (zs ++ postOf a (length xs - a) xs) a l ∙ ap (λ (t : List ℕ). zs ++ t) none ∙ append-nil zs;
     }
-
--- the part is the same where the words from a on are
-pub same-part : (a : ℕ) (xs ys : List ℕ) → length ys ≡ length xs → ((i : ℕ) → a ≤ i → getD ys i 0 ≡ getD xs i 0) → drop a ys ≡ drop a xs
-same-part a xs ys size same =
-    ext-getD 0 (drop a ys) (drop a xs) (simp length-drop (omega arith))
-    (λ i h. getD-drop a ys i 0 ∙ same (a + i) (omega arith) ∙ sym (getD-drop a xs i 0))

@@ -1,5 +1,5 @@
 -- The theorems of this crate, from the bottom up: the queue; the law of a search and its steps (exported for the searches); the area that holds a
--- search, and what keeps it; the three expansions.
+-- search, what keeps it, and stopping behind a node; the three expansions.
 pub mod LentParts
 pub mod QueueLaws
 pub mod TagLaws
@@ -12,6 +12,7 @@ pub mod StepLaws
 pub mod Progress
 pub mod Settled
 pub mod Beside
+pub mod Stopping
 pub mod FoundLaws
 pub mod Finding
 pub mod VisitLaws

@@ -11,8 +11,8 @@ use Rattle.network.specs.Accepted.{Accepted}
 use Rattle.network.proofs.Ranges.{neighbours-length}
 use Rattle.network.proofs.NumberZero.{accepted-ranges}
 use Rattle.expansion.specs.Area.{queueBase, nodeOf, Area, Kept, Blank, Started, Nodes, Took, CanFollow, Followed}
+use Rattle.expansion.specs.Room.{degree}
 use Rattle.expansion.proofs.Search.{Leads, closed-leads}
-use Rattle.expansion.proofs.Room.{degree}
 use Rattle.expansion.proofs.AreaLaws.{settledAs, size-settle, frame-settle, kept-less, kept-trans, label-same, area-left, area-start, area-settle, area-followed, place-left, label-settle, queue-settle, room, room-start, room-same, room-settle}
 use Rattle.expansion.proofs.AreaSearch.{Searched, key-node-of, search-start, search-took, search-settle, took-least, took-low}
 
@@ -63,6 +63,10 @@ module _ {g : Network} (ok : Accepted g) {s : ℕ} {Open Seen : ℕ → Type 0} 
 
       pub took-small : l + 65535 ≤ 4294836225
       took-small = omega (arith, took-low ok (p .area) (p .searched) t, took-place, ok .few)
+
+      -- what `settle` requires
+      pub took-fits : (b + nodeCount g + settled < length ys) × (b + v < length ys) × (l < 4294967295)
+      took-fits = (omega (arith, took-area .fits, took-place), omega (arith, took-area .fits, t .inside), omega (arith, took-small))
 
       room-taken : room g ys b left < room g xs b len
       room-taken = omega (arith, room-same g b left (t .leaves .frame), t .fewer)

@@ -220,16 +220,9 @@ module _ (xs ys : List ℕ) (len hole key d t : ℕ) (s : CanRise xs len hole ke
 
 -- ---- A queue.
 
--- zeros are a queue of no entries, which holds nothing
+-- zeros are a queue of no entries
 pub empty-queue : (xs : List ℕ) → ((j : ℕ) → getD xs j 0 ≡ 0) → Queue xs 0
 empty-queue xs z = record { room = omega arith; ordered = λ i pos lt. omega arith; zeros = λ j h. z j }
-
-pub empty-holds : (xs : List ℕ) (k : ℕ) → Holds xs 0 k → ⊥
-empty-holds xs k h = omega (arith, h .inside)
-
--- a queue of no entries is zeros
-pub queue-empty : (xs : List ℕ) → Queue xs 0 → (j : ℕ) → getD xs j 0 ≡ 0
-queue-empty xs q j = q .zeros j (omega arith)
 
 -- the first key is a least one
 first-least : (xs : List ℕ) (len : ℕ) → Ordered xs len → (n i : ℕ) → i ≤ n → i < len → keyAt xs 0 ≤ keyAt xs i

@@ -1,33 +1,14 @@
--- What a search has room for: its labels stay below NONE, and its entries, with the arcs that are not yet followed, are no more than the arcs
--- and one.
+-- What a queue has room for: the entries, with the arcs that are not yet followed, are no more than the arcs and one.
 -- Assumes nothing.
-use Prim.Native.Nat.{ℕ, zero, suc, _+_, _-_, _≤_, _<_}
+use Prim.Native.Nat.{ℕ, zero, suc, _+_, _≤_, _<_}
 use mathlib.Core.Path.{_≡_, refl}
 use mathlib.Core.Bool.{Bool, true, false}
 use mathlib.Core.Logic.{_≢_}
 use native.Mathlib.Decide.{ℕ-discrete}
 use native.Mathlib.Omega.{arith}
-use Rattle.network.specs.Network.{Network, Arc, nodeCount, arcCount, startOf}
+use Rattle.network.specs.Network.{Network, nodeCount, arcCount, startOf}
 use Rattle.network.specs.Accepted.{Accepted}
-use Rattle.network.specs.Distance.{NONE, dist}
-use Rattle.network.proofs.Least.{distance}
-
--- one arc more than a distance
-pub arc-fits : {g : Network} {u v w : ℕ} → Accepted g → (s : ℕ) → Arc g u v w → dist g s u ≢ NONE → dist g s u + w < NONE
-arc-fits {u} ok s r n = omega (arith, distance ok s u .bound n, ok .few, ok .some, ok .weight-high r)
-
--- how many arcs a node has
-abbrev pub degree : Network → ℕ → ℕ
-degree g v = startOf g (suc v) - startOf g v
-
-abbrev share : Bool → ℕ → ℕ
-share true x = x
-share false x = 0
-
--- the arcs of the nodes below n that pass a test
-unfoldable pub arcsLeft : Network → (ℕ → Bool) → ℕ → ℕ
-arcsLeft g t zero = 0
-arcsLeft g t (suc n) = arcsLeft g t n + share (t n) (degree g n)
+use Rattle.expansion.specs.Room.{degree, arcsLeft}
 
 pub left-same : (g : Network) (t u : ℕ → Bool) (n : ℕ) → ((x : ℕ) → x < n → u x ≡ t x) → arcsLeft g u n ≡ arcsLeft g t n
 unfolding arcsLeft

@@ -13,11 +13,10 @@ use Rattle.network.specs.Distance.{dist}
 use Rattle.network.proofs.Distances.{dist-walk, dist-self}
 use Rattle.expansion.proofs.Search.{Search, AtMost, Leads, pop-exact}
 
--- What becomes of an entry (x, m, u): it waits on, perhaps with a lower label; or x is settled; or the search does not answer for x; or it does
+-- What becomes of an entry (x, m, u): it waits on; or x is settled; or the search does not answer for x; or it does
 -- not follow the arcs of u.
 pub data Outcome (Open Seen : ℕ → Type 0) (Settled : ℕ → ℕ → Type 0) (Held : ℕ → ℕ → ℕ → Type 0) (x m u : ℕ) : Type 0 where
   waits : Held x m u → Outcome Open Seen Settled Held x m u
-  sooner : (n : ℕ) → n ≤ m → Held x n u → Outcome Open Seen Settled Held x m u
   has-label : (l : ℕ) → Settled x l → Outcome Open Seen Settled Held x m u
   not-seen : (Seen x → ⊥) → Outcome Open Seen Settled Held x m u
   not-open : (Open u → ⊥) → Outcome Open Seen Settled Held x m u
@@ -53,14 +52,12 @@ same-settled {s} kept old e =
 module _ {g : Network} (ok : Accepted g) {s : ℕ} {Open Seen : ℕ → Type 0} {Settled : ℕ → ℕ → Type 0} {Held : ℕ → ℕ → ℕ → Type 0} where
   reached : {x m u j : ℕ} → ((l : ℕ) → Settled x l → Seen x → l ≡ dist g s x) → Open u → Seen x → Walk g s x j → m ≤ j → Outcome Open Seen Settled Held x m u → AtMost (Settled x) j ⊎ AtMost (λ y. Held x y u) j
   reached {m} exact o p k h (waits a) = inr (record { label = m; low = h; has = a })
-  reached exact o p k h (sooner n l a) = inr (record { label = n; low = omega arith; has = a })
   reached exact o p k h (has-label l a) = inl (record { label = l; low = omega (arith, exact l a p, dist-walk ok k .most); has = a })
   reached exact o p k h (not-seen n) = absurd (n p)
   reached exact o p k h (not-open n) = absurd (n o)
 
   begun : ((l : ℕ) → Settled s l → Seen s → l ≡ dist g s s) → Open s → Seen s → Outcome Open Seen Settled Held s 0 s → Settled s 0 ⊎ Held s 0 s
   begun exact o p (waits a) = inr a
-  begun exact o p (sooner n l a) = let z : n ≡ 0 = omega arith in inr (rw z at a)
   begun exact o p (has-label l a) = inl (rw (exact l a p, dist-self ok s) at a)
   begun exact o p (not-seen n) = absurd (n p)
   begun exact o p (not-open n) = absurd (n o)
@@ -86,27 +83,6 @@ module _ {g : Network} (ok : Accepted g) {s : ℕ} {Open Seen : ℕ → Type 0} 
 pub record Removes (Held Held′ : ℕ → ℕ → ℕ → Type 0) (v : ℕ) : Type 0 where
   pub kept : (x m u : ℕ) → Held x m u → Held′ x m u ⊎ (x ≡ v)
   pub old : (x m u : ℕ) → Held′ x m u → Held x m u
-
-module _ {g : Network} (ok : Accepted g) {s : ℕ} {Open Seen : ℕ → Type 0} {Settled : ℕ → ℕ → Type 0} {Held Held′ : ℕ → ℕ → ℕ → Type 0} (e : Search g s Open Seen Settled Held) where
-  -- v is settled already, or the search does not answer for it
-  pub pop-settled : (v l : ℕ) → Settled v l → Removes Held Held′ v → Search g s Open Seen Settled Held′
-  pop-settled v l h gone =
-      requeue ok e
-      (λ x m u a. ⊎-elim (λ b. waits b) (λ q. has-label l (rw q h)) (gone .kept x m u a))
-      (λ x m u a. e .held-walk x m u (gone .old x m u a))
-
-  pub pop-not-seen : (v : ℕ) → (Seen v → ⊥) → Removes Held Held′ v → Search g s Open Seen Settled Held′
-  pop-not-seen v n gone =
-      requeue ok e
-      (λ x m u a. ⊎-elim (λ b. waits b) (λ q. not-seen (rw q n)) (gone .kept x m u a))
-      (λ x m u a. e .held-walk x m u (gone .old x m u a))
-
-  -- entries whose parents are not open leave the queue
-  pub prune : ((x m u : ℕ) → Held x m u → Held′ x m u ⊎ (Open u → ⊥)) → ((x m u : ℕ) → Held′ x m u → Held x m u) → Search g s Open Seen Settled Held′
-  prune kept old =
-      requeue ok e
-      (λ x m u a. ⊎-elim (λ b. waits b) (λ n. not-open n) (kept x m u a))
-      (λ x m u a. e .held-walk x m u (old x m u a))
 
 -- v is settled, at l
 pub record Marks (Settled Settled′ : ℕ → ℕ → Type 0) (v l : ℕ) : Type 0 where
@@ -164,11 +140,6 @@ module _ {g : Network} (ok : Accepted g) {s : ℕ} {Open Seen : ℕ → Type 0} 
 module _ {g : Network} (ok : Accepted g) {s : ℕ} {Open Seen : ℕ → Type 0} {Settled Settled′ : ℕ → ℕ → Type 0} {Held Held′ : ℕ → ℕ → ℕ → Type 0} (e : Search g s Open Seen Settled Held) (v l p : ℕ) (h : Held v l p) (marks : Marks Settled Settled′ v l) where
   removes-spreads : Removes Held Held′ v → Spreads g Held Held′ v l
   removes-spreads gone = record { kept = gone .kept; old = λ x m u a. inl (gone .old x m u a) }
-
-  -- the search does not follow the arcs of v, nor answer for v
-  pub settle-not-seen : (Open v → ⊥) → (Seen v → ⊥) → Removes Held Held′ v → Search g s Open Seen Settled′ Held′
-  settle-not-seen n n′ gone =
-      settle-by ok e v l (e .held-walk v l p h) marks (removes-spreads gone) (λ o. absurd (n′ o)) (λ x w o r. absurd (n o))
 
   -- the entry is a least one, and v was not settled
   module _ (leads : Leads g s Open Seen) (least : (x m u : ℕ) → Held x m u → l ≤ m) (new : (m : ℕ) → Settled v m → ⊥) where

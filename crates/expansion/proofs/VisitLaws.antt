@@ -94,7 +94,7 @@ nearer-none g P p =
     (λ x i. other-nearer g P p 0 x ∙ and-right (isOther P p x) (ltb (dist g p x) 0) (le-ltb (dist g p x) 0 (omega arith)))
 
 -- the rule: q can't be reached; k other points are nearer; fewer are
-pub not-reached : (g : Network) (P : List ℕ) (p q k : ℕ) → dist g p q ≡ NONE → false ≡ verified g P p q k
+not-reached : (g : Network) (P : List ℕ) (p q k : ℕ) → dist g p q ≡ NONE → false ≡ verified g P p q k
 unfolding verified
 not-reached g P p q k e = rw (eq-eqb (dist g p q) NONE e)
 
@@ -103,7 +103,7 @@ unfolding verified
 too-many g P p q k h =
     sym (and-right (not (eqb (dist g p q) NONE)) (ltb (othersNearer g P p (dist g p q)) k) (le-ltb (othersNearer g P p (dist g p q)) k h))
 
-pub few-enough : (g : Network) (P : List ℕ) (p q k : ℕ) → dist g p q ≢ NONE → othersNearer g P p (dist g p q) < k → true ≡ verified g P p q k
+few-enough : (g : Network) (P : List ℕ) (p q k : ℕ) → dist g p q ≢ NONE → othersNearer g P p (dist g p q) < k → true ≡ verified g P p q k
 unfolding verified
 few-enough g P p q k n h = rw (ne-eqb (dist g p q) NONE n, lt-ltb (othersNearer g P p (dist g p q)) k h)
 

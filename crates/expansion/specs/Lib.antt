@@ -2,6 +2,7 @@
 pub mod Queue
 pub mod Tags
 pub mod Area
+pub mod Room
 pub mod Taken
 pub mod Expand
 pub mod Distances

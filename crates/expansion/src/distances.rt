@@ -1,11 +1,10 @@
 // The expansion of everything: document 01, 'Distances from a node'.
 ghost use mathlib.Core.Path.{_≡_};
 ghost use Prim.Native.Nat.{_+_, _-_, _≤_, _<_};
-ghost use lib.ListN.{length, getD, replicate};
-ghost use Rattle.network.specs.Network.{network, nodeCount};
+ghost use lib.ListN.{length, getD};
+ghost use Rattle.network.specs.Network.{network};
 ghost use Rattle.network.specs.Count.{tabulate};
 ghost use Rattle.network.specs.Answers.{answered};
-ghost use Rattle.network.specs.Distance.{distancesFrom};
 ghost use Rattle.expansion.specs.Expand.{CanExpand, SettledAll, wordDistance};
 ghost use Rattle.expansion.specs.Distances.{DistancesLeft};
 use crate::step;
@@ -52,20 +51,20 @@ fn write_distances(words: &[u32], answers: &mut [u32], n: usize)
 {
     let mut v = 0;
     while v < n {
-        let word = words[v];
-        answers[v] = distance_of(word);
+        let distance = distance_of(words[v]);
+        answers[v] = distance.value;
         v += 1;
     }
 }
 
 // The distance that a label word stands for.
-fn distance_of(word: u32) -> u32
-    ensures { λ r. ⌜ r ≡ wordDistance word ⌝ }
+pub fn distance_of(word: u32) -> Distance
+    ensures { λ r. ⌜ r .value ≡ wordDistance word ⌝ }
 {
     if word == 0 {
-        return Distance::NONE;
+        return Distance::new(Distance::NONE);
     }
-    word - 1
+    Distance::new(word - 1)
 }
 
 // The distances from a node. The area is blank before and after.

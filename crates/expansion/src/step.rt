@@ -1,8 +1,8 @@
 // The steps of an expansion over its area of scratch: labels n | settled nodes n | queue, from word b of the lent slice on.
 ghost use mathlib.Core.Path.{_≡_};
 ghost use Prim.Native.Nat.{_+_, _*_, _-_, _≤_, _<_};
-ghost use lib.ListN.{length, getD, set, drop};
-ghost use Rattle.network.specs.Network.{network, nodeCount, neighboursOf};
+ghost use lib.ListN.{length, set};
+ghost use Rattle.network.specs.Network.{network, neighboursOf};
 ghost use Rattle.expansion.specs.Queue.{Queue};
 ghost use Rattle.expansion.specs.Area.{queueBase, queueOf, Area, Blank, Wiped, Started, Nodes, CanFollow, Followed};
 ghost use Rattle.expansion.specs.Taken.{TakenIs};

@@ -1,16 +1,19 @@
 -- Laws of `count` and `select`: who passes one test and who passes another, and the list of those who pass.
 -- Assumes nothing.
-use Prim.Native.Nat.{ℕ, zero, suc, _≤_, _<_}
+use Prim.Native.Nat.{ℕ, zero, suc, _+_, _≤_, _<_}
 use mathlib.Core.Path.{_≡_, refl, sym, ap, _∙_}
-use mathlib.Core.Bool.{Bool, true, false, not, _&&_}
+use mathlib.Core.Bool.{Bool, true, false, not, _&&_, false≢true}
 use mathlib.Core.Logic.{_≢_, ⊎-elim}
-use mathlib.Core.List.{List·Memᴰ, List·Memᴰ·head, List·Memᴰ·append-cases, List·Memᴰ·not-nil, List·Memᴰ·eq-of-singleton, Memᴰ·append-left, Memᴰ·append-right}
+use mathlib.Core.List.{List, [], _∷_, _++_, List·Memᴰ, List·Memᴰ·tail, List·Memᴰ·head, List·Memᴰ·append-cases, List·Memᴰ·not-nil, List·Memᴰ·eq-of-singleton, append-nil, Memᴰ·append-left, Memᴰ·append-right}
 use native.Mathlib.Nat.{eq-or-lt-of-le, le-of-suc-le-suc}
-use native.Mathlib.Decide.{ℕ-discrete}
+use native.Mathlib.Decide.{ℕ-discrete, decLt}
 use native.Mathlib.Omega.{arith}
 use lib.Dec.{eqb, ltb}
+use lib.ListN.{length, getD, length-append, List·getD-append}
+use lib.Seq.{getD-at}
 use borrow.Author.Tests.{eq-eqb, ne-eqb, lt-ltb, le-ltb}
 use Rattle.network.specs.Count.{count, bit, select, ifAny}
+use Rattle.network.specs.Parts.{Ascending}
 
 pub bit-mono : (x y : Bool) → (x ≡ true → y ≡ true) → bit x ≤ bit y
 bit-mono true y h = rw (h refl) (omega arith)
@@ -80,6 +83,9 @@ pub without-self : (t : ℕ → Bool) (a : ℕ) → without t a a ≡ false
 unfolding without
 without-self t a = rw (eq-eqb a a refl)
 
+pub without-not : (t : ℕ → Bool) (a x : ℕ) → without t a x ≡ true → x ≢ a
+without-not t a x h e = false≢true (sym (without-self t a) ∙ ap (without t a) (sym e) ∙ h)
+
 pub count-without : (t : ℕ → Bool) (a n : ℕ) → a < n → t a ≡ true → suc (count (without t a) n) ≡ count t n
 count-without t a n h f = sym (count-more (without t a) t a n h (without-self t a) f (λ x m. sym (without-other t a x m)))
 
@@ -105,3 +111,32 @@ select-passed t (suc n) x m =
     (λ l. let r = select-passed t n x l in (omega arith, r .1))
     (λ l. let r = any-mem (t n) x n l in (omega arith, ap t (r .0) ∙ r .1))
     (List·Memᴰ·append-cases (select t n) m)
+
+-- a place of a list holds a member
+pub member-at : {A : Type 0} (z : A) (xs : List A) (j : ℕ) → j < length xs → List·Memᴰ (getD xs j z) xs
+member-at z [] j h = absurd (omega arith)
+member-at z (x ∷ xs) zero h = List·Memᴰ·head refl
+member-at z (x ∷ xs) (suc j) h = List·Memᴰ·tail (member-at z xs j (omega arith))
+
+-- a rising list with one more behind all, and where a test says so
+one-more : (xs : List ℕ) (n : ℕ) → Ascending xs → ((x : ℕ) → List·Memᴰ x xs → x < n) → Ascending (xs ++ n ∷ [])
+one-more xs n a low = record { next = rises }
+  where
+    rises : (j : ℕ) → suc j < length (xs ++ n ∷ []) → getD (xs ++ n ∷ []) j 0 < getD (xs ++ n ∷ []) (suc j) 0
+    rises j h =
+        let b : suc j < length xs + 1 = simp length-append at h in
+        elim (decLt (suc j) (length xs)) [
+          | yes l ↦ rw (List·getD-append xs (n ∷ []) 0 j (omega arith), List·getD-append xs (n ∷ []) 0 (suc j) l) (a .next j l)
+          | no l ↦
+              rw (List·getD-append xs (n ∷ []) 0 j (omega arith), getD-at xs n [] 0 (suc j) (omega arith)) (low (getD xs j 0) (member-at 0 xs j (omega arith)))
+        ]
+
+if-ascending : (b : Bool) (xs : List ℕ) (n : ℕ) → Ascending xs → ((x : ℕ) → List·Memᴰ x xs → x < n) → Ascending (xs ++ ifAny b n)
+if-ascending true xs n a low = one-more xs n a low
+if-ascending false xs n a low = rw append-nil a
+
+-- document 01: 'Lists are ascending by node.'
+pub select-ascending : (t : ℕ → Bool) (n : ℕ) → Ascending (select t n)
+unfolding select
+select-ascending t zero = record { next = λ j h. absurd (omega arith) }
+select-ascending t (suc n) = if-ascending (t n) (select t n) n (select-ascending t n) (λ x m. select-passed t n x m .0)

@@ -8,15 +8,10 @@ use native.Mathlib.Omega.{arith}
 use Rattle.network.specs.Network.{Network, Arc, nodeCount}
 use Rattle.network.specs.Accepted.{Accepted}
 use Rattle.network.specs.Walk.{Walk, here, step}
-use Rattle.network.specs.Distance.{NONE, dist}
+use Rattle.network.specs.Distance.{NONE, dist, Upto}
 use Rattle.network.proofs.Within.{within-le-none}
 use Rattle.network.proofs.Least.{distance}
 use Rattle.network.proofs.Walks.{join, First, first, back}
-
--- a sum that is no sum of NONE: there is a way, and it is no longer
-pub record Upto (d s : ℕ) : Type 0 where
-  pub some : d ≢ NONE
-  pub most : d ≤ s
 
 -- the first arc of a shortest way from a to b
 pub record Next (g : Network) (a b : ℕ) : Type 0 where

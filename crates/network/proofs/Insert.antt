@@ -12,20 +12,20 @@ use lib.ListN.{length, take}
 use lib.Seq.{take-nil, take-take}
 use borrow.Author.Tests.{le-leb, lt-leb}
 use Rattle.network.specs.Count.{bit}
-use Rattle.network.specs.Nearest.{key, insert, insertIf}
+use Rattle.network.specs.Nearest.{key, insert, insertIf, Rising}
 use Rattle.network.proofs.Counts.{bit-lt}
-use Rattle.network.proofs.Rising.{Rising, AllIn, first-least, below}
+use Rattle.network.proofs.Rising.{AllIn, first-least, below}
 
 -- the clauses of `insert`
-insert-behind : (x y : ℕ × ℕ) (ys : List (ℕ × ℕ)) → key y ≤ key x → insert x (y ∷ ys) ≡ y ∷ insert x ys
+pub insert-behind : (x y : ℕ × ℕ) (ys : List (ℕ × ℕ)) → key y ≤ key x → insert x (y ∷ ys) ≡ y ∷ insert x ys
 unfolding insert
 insert-behind x y ys h = rw (le-leb (key y) (key x) h, insert)
 
-insert-before : (x y : ℕ × ℕ) (ys : List (ℕ × ℕ)) → key x < key y → insert x (y ∷ ys) ≡ x ∷ y ∷ ys
+pub insert-before : (x y : ℕ × ℕ) (ys : List (ℕ × ℕ)) → key x < key y → insert x (y ∷ ys) ≡ x ∷ y ∷ ys
 unfolding insert
 insert-before x y ys h = rw (lt-leb (key y) (key x) h, insert)
 
-insert-nil : (x : ℕ × ℕ) → insert x [] ≡ x ∷ []
+pub insert-nil : (x : ℕ × ℕ) → insert x [] ≡ x ∷ []
 unfolding insert
 insert-nil x = refl
 

@@ -12,11 +12,11 @@ use Rattle.network.specs.Network.{Network, Arc, nodeCount}
 use Rattle.network.specs.Accepted.{Accepted}
 use Rattle.network.specs.Distance.{NONE, dist}
 use Rattle.network.specs.Points.{isNearer, countNearer, isExpanded}
-use Rattle.network.specs.Nearest.{key}
+use Rattle.network.specs.Nearest.{key, Nearer}
 use Rattle.network.proofs.Tests.{and-parts, and-intro}
 use Rattle.network.proofs.Counts.{count-mono}
 use Rattle.network.proofs.Distances.{Next, dist-at-most, dist-arc}
-use Rattle.network.proofs.Rank.{Before, Nearer, Near, before-mono, nearer-passes, passes-nearer}
+use Rattle.network.proofs.Rank.{Before, Near, before-mono, nearer-passes, passes-nearer}
 
 module _ {g : Network} (ok : Accepted g) (P : List ℕ) {i c w : ℕ} (arc : Arc g i c w) where
   -- what c reaches i reaches

@@ -1,35 +1,22 @@
 -- The points nearer to node i than e, in order by distance and then by node: a point is Near i where fewer than k of them come before it.
 -- Assumes nothing.
 use Prim.Native.Nat.{ℕ, _≤_, _<_}
-use mathlib.Core.Path.{_≡_}
-use mathlib.Core.Bool.{Bool, true, _&&_}
+use mathlib.Core.Path.{_≡_, sym, _∙_}
+use mathlib.Core.Bool.{true}
 use mathlib.Core.Logic.{_≢_, _↔_, _⊎_, inl, inr, ⊎-elim}
 use mathlib.Core.List.{List}
 use native.Mathlib.Decide.{decLt}
 use native.Mathlib.Omega.{arith}
 use lib.Dec.{ltb}
-use borrow.Author.Tests.{lt-ltb, ltb-true}
+use borrow.Author.Tests.{lt-ltb, le-ltb, ltb-true}
 use Rattle.network.specs.Network.{Network, nodeCount}
 use Rattle.network.specs.Distance.{dist}
-use Rattle.network.specs.Count.{count}
 use Rattle.network.specs.Points.{marked, isNearer, countNearer}
-use Rattle.network.specs.Nearest.{key}
+use Rattle.network.specs.Nearest.{key, isBefore, before, Nearer}
 use Rattle.network.proofs.Tests.{and-parts, and-intro}
 use Rattle.network.proofs.Counts.{count-mono}
 
--- how many of the points nearer to i than e have a key less than k
-unfoldable pub isBefore : Network → List ℕ → ℕ → ℕ → ℕ → ℕ → Bool
-isBefore g P i e k x = isNearer g P i e x && ltb (key (x, dist g i x)) k
-
-unfoldable pub before : Network → List ℕ → ℕ → ℕ → ℕ → ℕ
-before g P i e k = count (isBefore g P i e k) (nodeCount g)
-
--- a point p with d(i, p) < e; one of the first k of them; one with a key less than k
-pub record Nearer (g : Network) (P : List ℕ) (i e p : ℕ) : Type 0 where
-  pub inside : p < nodeCount g
-  pub point : marked P p ≡ true
-  pub less : dist g i p < e
-
+-- one of the first k of the points nearer to i than e; one with a key less than k
 pub record Near (g : Network) (P : List ℕ) (i e k p : ℕ) : Type 0 where
   pub nearer : Nearer g P i e p
   pub few : before g P i e (key (p, dist g i p)) < k
@@ -44,6 +31,21 @@ key-order p d q e h l = (
   λ k. elim (decLt d e) [ yes a ↦ inl a | no b ↦ inr (omega arith, omega arith) ],
   λ s. ⊎-elim (λ a. omega arith) (λ b. omega arith) s,
 )
+
+-- as code tests it: nodes where the distances are equal, else distances
+pub key-by-node : (p d q e : ℕ) → d ≡ e → ltb p q ≡ ltb (key (p, d)) (key (q, e))
+key-by-node p d q e h =
+    elim (decLt p q) [
+      | yes l ↦ lt-ltb p q l ∙ sym (lt-ltb (key (p, d)) (key (q, e)) (omega arith))
+      | no l ↦ le-ltb p q (omega arith) ∙ sym (le-ltb (key (p, d)) (key (q, e)) (omega arith))
+    ]
+
+pub key-by-distance : (p d q e : ℕ) → p < 4294967296 → q < 4294967296 → d ≢ e → ltb d e ≡ ltb (key (p, d)) (key (q, e))
+key-by-distance p d q e u v h =
+    elim (decLt d e) [
+      | yes l ↦ lt-ltb d e l ∙ sym (lt-ltb (key (p, d)) (key (q, e)) (omega arith))
+      | no l ↦ le-ltb d e (omega arith) ∙ sym (le-ltb (key (p, d)) (key (q, e)) (omega arith))
+    ]
 
 -- two nodes never have one key
 pub key-other : (x y : ℕ × ℕ) → x .0 < 4294967296 → y .0 < 4294967296 → x .0 ≢ y .0 → key x ≢ key y

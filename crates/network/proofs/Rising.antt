@@ -6,17 +6,10 @@ use mathlib.Core.Logic.{_⊎_, inl, inr, ⊎-elim}
 use mathlib.Core.List.{List, [], _∷_, List·Memᴰ, List·Memᴰ·head, List·Memᴰ·tail, List·Memᴰ·cases-cons, List·Memᴰ·not-nil}
 use native.Mathlib.Omega.{arith}
 use lib.Dec.{ltb}
-use lib.ListN.{length, take}
+use lib.ListN.{length, take, getD}
 use Rattle.network.specs.Count.{bit}
-use Rattle.network.specs.Nearest.{key}
-use Rattle.network.proofs.Counts.{bit-lt, bit-ge, bit-most}
-
-abbrev pub Above : ℕ → List (ℕ × ℕ) → Type 0
-Above k xs = (y : ℕ × ℕ) → List·Memᴰ y xs → k < key y
-
-abbrev pub Rising : List (ℕ × ℕ) → Type 0
-Rising [] = Unit {0}
-Rising (x ∷ xs) = Above (key x) xs × Rising xs
+use Rattle.network.specs.Nearest.{key, Above, Rising}
+use Rattle.network.proofs.Counts.{bit-lt, bit-ge, bit-most, member-at}
 
 abbrev pub AllIn : List (ℕ × ℕ) → List (ℕ × ℕ) → Type 0
 AllIn xs ys = (z : ℕ × ℕ) → List·Memᴰ z xs → List·Memᴰ z ys
@@ -27,6 +20,13 @@ first-least {z} r m = ⊎-elim (λ e. omega (arith, ap key e)) (λ t. omega (ari
 
 behind : {y z : ℕ × ℕ} {ys : List (ℕ × ℕ)} → key y < key z → List·Memᴰ z (y ∷ ys) → List·Memᴰ z ys
 behind l m = ⊎-elim (λ e. absurd (omega (arith, ap key e))) (λ t. t) (List·Memᴰ·cases-cons m)
+
+-- what stands at a later place is more
+pub rising-at : (z : ℕ × ℕ) (xs : List (ℕ × ℕ)) → Rising xs → (i j : ℕ) → i < j → j < length xs → key (getD xs i z) < key (getD xs j z)
+rising-at z [] r i j h l = absurd (omega arith)
+rising-at z (x ∷ xs) r i zero h l = absurd (omega arith)
+rising-at z (x ∷ xs) r zero (suc j) h l = r .0 (getD xs j z) (member-at z xs j (omega arith))
+rising-at z (x ∷ xs) r (suc i) (suc j) h l = rising-at z xs (r .1) i j (omega arith) (omega arith)
 
 -- a member that none comes before stands first
 pub record Starts (z : ℕ × ℕ) (xs : List (ℕ × ℕ)) : Type 0 where

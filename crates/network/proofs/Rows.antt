@@ -14,12 +14,12 @@ use Rattle.network.specs.Accepted.{Accepted}
 use Rattle.network.specs.Distance.{NONE, dist}
 use Rattle.network.specs.Count.{count}
 use Rattle.network.specs.Points.{marked, isNearer, countNearer}
-use Rattle.network.specs.Nearest.{key, byDistance, nearest}
+use Rattle.network.specs.Nearest.{key, byDistance, nearest, Rising, isBefore, before, Nearer}
 use Rattle.network.specs.Rows.{pad, row}
 use Rattle.network.proofs.Distances.{dist-self, dist-zero}
-use Rattle.network.proofs.Rising.{Rising, Starts, starts, below, take-all-in, take-rising, take-below, below-take, same-members}
+use Rattle.network.proofs.Rising.{Starts, starts, below, take-all-in, take-rising, take-below, below-take, same-members}
 use Rattle.network.proofs.Insert.{insertIf-cases, insertIf-new, insertIf-old, insertIf-rising, insertIf-below, insertIf-length}
-use Rattle.network.proofs.Rank.{isBefore, before, Nearer, Near, key-other, nearer-passes, passes-nearer}
+use Rattle.network.proofs.Rank.{Near, key-other, nearer-passes, passes-nearer}
 
 -- what stands among the first k
 pub record Entry (g : Network) (P : List ℕ) (i e k p d : ℕ) : Type 0 where
@@ -68,7 +68,7 @@ module _ (g : Network) (P : List ℕ) (i e : ℕ) where
       insertIf-rising (isNearer g P i e n) (n, dist g i n) (byDistance g P i e n) (by-rising n (omega arith))
       (λ y m. let r = by-only n y m in key-other y (n, dist g i n) (omega arith) (omega arith) (omega arith))
 
-padding : (n : ℕ) (x z : ℕ × ℕ) → List·Memᴰ z (replicate n x) → z ≡ x
+pub padding : (n : ℕ) (x z : ℕ × ℕ) → List·Memᴰ z (replicate n x) → z ≡ x
 padding zero x z m = absurd (List·Memᴰ·not-nil m)
 padding (suc n) x z m = ⊎-elim (λ q. q) (λ t. padding n x z t) (List·Memᴰ·cases-cons m)
 

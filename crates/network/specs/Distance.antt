@@ -15,6 +15,10 @@ use Rattle.network.specs.Count.{tabulate}
 abbrev pub NONE : ℕ
 NONE = 4294967295
 
+-- 'Every distance is at most 4,294,770,690.'
+abbrev pub LONGEST : ℕ
+LONGEST = 4294770690
+
 -- w and then v, where v may be NONE
 unfoldable pub plus : ℕ → ℕ → ℕ
 plus w v = elim (eqb v NONE) [ true ↦ NONE | false ↦ w + v ]
@@ -38,10 +42,15 @@ unfoldable pub distancesFrom : Network → ℕ → List ℕ
 distancesFrom g a = tabulate (dist g a) (nodeCount g)
 
 -- What the distance is, on an accepted network (the theorem is `distance` of proofs/Least.antt): NONE and there is no walk, or the sum of a walk
--- and no more than that of any. 'Every distance is at most 4,294,770,690.'
+-- and no more than that of any
 pub record Least (g : Network) (a b : ℕ) : Type 0 where
   pub none : dist g a b ≡ NONE → {s : ℕ} → Walk g a b s → ⊥
   pub walk : dist g a b ≢ NONE → Walk g a b (dist g a b)
   pub least-sum : {s : ℕ} → Walk g a b s → dist g a b ≤ s
   pub bound : dist g a b ≢ NONE → dist g a b ≤ 65535 * (nodeCount g - 1)
-  pub limit : dist g a b ≢ NONE → dist g a b ≤ 4294770690
+  pub limit : dist g a b ≢ NONE → dist g a b ≤ LONGEST
+
+-- a sum that is no sum of NONE: there is a way, and it is no longer
+pub record Upto (d s : ℕ) : Type 0 where
+  pub some : d ≢ NONE
+  pub most : d ≤ s

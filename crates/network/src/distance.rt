@@ -11,6 +11,9 @@ impl Distance {
     // "Can't be reached" or "empty place".
     pub const NONE: u32 = 4294967295;
 
+    // 'Every distance is at most 4,294,770,690.'
+    pub const LONGEST: u32 = 4294770690;
+
     pub fn new(value: u32) -> Self
         ensures { λ r. ⌜ r .value ≡ value ⌝ }
     {

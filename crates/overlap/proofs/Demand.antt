@@ -3,41 +3,36 @@
 -- Assumes nothing.
 use Prim.Native.Nat.{ℕ, _*_, _≤_, _<_}
 use mathlib.Core.Path.{_≡_, refl, sym, ap, _∙_}
-use mathlib.Core.Bool.{Bool, true, false, cond, not, _||_}
-use mathlib.Core.Logic.{_≢_, _⊎_, inl, inr, ⊎-elim}
+use mathlib.Core.Bool.{false, not, _||_}
+use mathlib.Core.Logic.{_≢_, _⊎_, ⊎-elim}
 use mathlib.Core.List.{List, [], _∷_, _++_}
 use native.Mathlib.Decide.{ℕ-discrete, decLt}
 use native.Mathlib.Nat.{mul-le-mul-left}
 use native.Mathlib.Omega.{arith}
 use lib.Dec.{eqb, leb, ltb}
-use lib.ListN.{length, getD, set, replicate, length-set}
+use lib.ListN.{length, getD, set, length-set}
 use lib.Seq.{getD-set-same, getD-set-other}
-use borrow.Author.Tests.{eq-eqb, ne-eqb, lt-leb, le-ltb, ltb-false, not-false}
+use borrow.Author.Tests.{eq-eqb, ne-eqb, lt-leb, le-ltb, ltb-false}
 use Rattle.network.specs.Count.{any}
 use Rattle.network.specs.Network.{Network, nodeCount}
 use Rattle.network.specs.Accepted.{Accepted}
 use Rattle.network.specs.Check.{networkNumber}
-use Rattle.network.specs.Points.{listed, expanded}
 use Rattle.network.specs.Rows.{rowsChanged}
 use Rattle.network.specs.Answers.{answered}
-use Rattle.network.proofs.Tests.{tests, or-parts, or-intro, any-none, none-any}
+use Rattle.network.proofs.Tests.{or-parts, any-none, none-any}
 use Rattle.network.proofs.NumberZero.{number-zero}
-use Rattle.table.specs.Flat.{IsTable}
-use Rattle.table.proofs.Laid.{table-sizes}
+use Rattle.rows.specs.Flat.{IsTable}
+use Rattle.rows.proofs.Laid.{table-sizes}
 use Rattle.overlap.specs.declared.Update.{Update}
 use Rattle.overlap.specs.declared.Listing.{Listing}
-use Rattle.overlap.specs.Numbers.{firstNumber, badByteAt, pointsNumber, nodeNumber, kNumber, tableNumber, tableKNumber, scratchWords, shortNumber, queryNumber, tableCheckNumber, tableNodeNumber, buildNumber, updateNumber, tableQueryNumber}
-use Rattle.overlap.specs.Listed.{searchNumber, listedListing}
-use Rattle.overlap.specs.Build.{buildOutcome}
 use Rattle.overlap.specs.declared.updated.Kind.{Kind}
 use Rattle.overlap.specs.declared.updated.Kind.the-variants.{Insert, Remove}
+use Rattle.overlap.specs.Numbers.{firstNumber, badByteAt, pointsNumber, nodeNumber, kNumber, tableNumber, tableKNumber, scratchWords, shortNumber, networkPointsNumber, siteNumber, queryNumber, tableCheckNumber, tableNodeNumber, buildNumber, tableQueryNumber}
+use Rattle.overlap.specs.Listed.{searchNumber}
+use Rattle.overlap.specs.Build.{buildOutcome}
 use Rattle.overlap.specs.Updated.{kindMarks, kindNumber, changeNumber, Arrays, ChangeLeft}
-use Rattle.overlap.specs.Eager.{eagerOutcome}
-use Rattle.overlap.specs.Lazy.{lazyOutcome}
-use Rattle.overlap.specs.TableQuery.{QueryLeft}
-use Rattle.overlap.specs.Exported.{SearchExported}
-use Rattle.overlap.specs.Book.{Call, bookNumber, Page, bookCall, bookAnswers, bookMarks}
-use Rattle.overlap.specs.Demand.{OursAfter, Run, ends, call, foreign, Quotes, Agree, Demand3, demand-3}
+use Rattle.overlap.specs.Book.{Call, bookNumber, bookCall, bookAnswers, bookMarks}
+use Rattle.overlap.specs.Demand.{OursAfter, Run, ends, call, foreign, Agree, demand-3}
 use Rattle.overlap.proofs.Ready.{first-is, first-later, first-none, first-zero, number-none, points-ready, node-ready, table-ready}
 use Rattle.overlap.proofs.Outcomes.{eager-done, lazy-done}
 
@@ -118,26 +113,32 @@ module _ (g : Network) (net : networkNumber g ≡ 0) (K : ℕ) where
   ok : Accepted g
   ok = number-zero g .0 net
 
+  -- no condition of 1 to 6 is met
+  points-zero : {P ids distances : List ℕ} → Standing g K P ids distances → networkPointsNumber g P ≡ 0
+  unfolding networkPointsNumber
+  points-zero {P} s = first-skip (networkNumber g) _ net ∙ first-skip (pointsNumber (nodeCount g) P) [] (s .points) ∙ sym first-none
+
   -- a call's number by its contract is the book's
   module _ {P ids distances : List ℕ} (s : Standing g K P ids distances) (scratch : List ℕ) where
+    site-is : (node : ℕ) → siteNumber g P node ≡ firstNumber (nodeNumber (nodeCount g) node ∷ [])
+    unfolding siteNumber
+    site-is node = first-skip (networkPointsNumber g P) _ (points-zero s)
+
     node-skips : (node L : ℕ) → tableNodeNumber g P node L ids distances
         ≡ firstNumber (nodeNumber (nodeCount g) node ∷ tableNumber (nodeCount g) L (nodeCount g * K) (nodeCount g * K) ∷ [])
     unfolding tableNodeNumber
     node-skips node L =
         let z = table-sizes P K ids distances (s .table) in
-        first-skip (networkNumber g) _ net ∙ first-skip (pointsNumber (nodeCount g) P) _ (s .points) ∙ rw (z .all-ids, z .all-dists)
-
-    update-skips : (node L : ℕ) → updateNumber g P node L scratch ids distances
-        ≡ firstNumber (nodeNumber (nodeCount g) node ∷ tableNumber (nodeCount g) L (nodeCount g * K) (nodeCount g * K) ∷ shortNumber (length scratch) (scratchWords g L) ∷ [])
-    unfolding updateNumber
-    update-skips node L =
-        ap (λ (z : ℕ). firstNumber (z ∷ shortNumber (length scratch) (scratchWords g L) ∷ [])) (node-skips node L) ∙ first-first _ _
+        rw (z .all-ids, z .all-dists)
+        (ap (λ (x : ℕ). firstNumber (x ∷ tableNumber (nodeCount g) L (nodeCount g * K) (nodeCount g * K) ∷ [])) (site-is node)
+        ∙ first-first (nodeNumber (nodeCount g) node ∷ []) (tableNumber (nodeCount g) L (nodeCount g * K) (nodeCount g * K) ∷ []))
 
     number-is : (c : Call) → length scratch ≡ c .scratch → changeNumber (c .kind) g P (c .node) (c .places) scratch ids distances ≡ bookNumber g K P c
     unfolding changeNumber bookNumber
     number-is c l =
         rw (← l)
-        (ap (λ (z : ℕ). firstNumber (z ∷ kindNumber (c .kind) P (c .node) ∷ [])) (update-skips (c .node) (c .places)) ∙ first-first _ _)
+        (ap (λ (z : ℕ). firstNumber (z ∷ shortNumber (length scratch) (scratchWords g (c .places)) ∷ kindNumber (c .kind) P (c .node) ∷ [])) (node-skips (c .node) (c .places))
+        ∙ first-first _ _)
 
   -- a call does what the book does
   record Turned (P : List ℕ) (c : Call) (r : Update) (new : Arrays) : Type 0 where
@@ -223,20 +224,22 @@ module _ (g : Network) (net : networkNumber g ≡ 0) (K : ℕ) where
     unfolding shortNumber
     answers-zero = rw (le-ltb (length old) (nodeCount g) places)
 
+    site-zero : siteNumber g P q ≡ 0
+    unfolding siteNumber
+    site-zero = first-skip (networkPointsNumber g P) _ (points-zero s) ∙ first-skip (nodeNumber (nodeCount g) q) [] node-zero ∙ sym first-none
+
     search-zero : searchNumber g P q k scratch old ≡ 0
     unfolding searchNumber queryNumber
     search-zero =
         first-skip (queryNumber g P q k scratch) _
-        (first-skip (networkNumber g) _ net ∙ first-skip (pointsNumber (nodeCount g) P) _ (s .points) ∙ first-skip (nodeNumber (nodeCount g) q) _ node-zero
-        ∙ first-skip (kNumber k) _ k-zero ∙ first-skip (shortNumber (length scratch) (scratchWords g k)) [] scratch-zero ∙ sym first-none)
+        (first-skip (siteNumber g P q) _ site-zero ∙ first-skip (kNumber k) _ k-zero ∙ first-skip (shortNumber (length scratch) (scratchWords g k)) [] scratch-zero ∙ sym first-none)
         ∙ first-skip (shortNumber (length old) (nodeCount g)) [] answers-zero ∙ sym first-none
 
     query-zero : 2 ≤ K → tableQueryNumber g P q k K ids distances scratch old ≡ 0
     unfolding tableQueryNumber tableNodeNumber
     query-zero least =
         first-skip (tableNodeNumber g P q K ids distances) _
-        (first-skip (networkNumber g) _ net ∙ first-skip (pointsNumber (nodeCount g) P) _ (s .points) ∙ first-skip (nodeNumber (nodeCount g) q) _ node-zero
-        ∙ first-skip (tableNumber (nodeCount g) K (length ids) (length distances)) [] (table-zero least) ∙ sym first-none)
+        (first-skip (siteNumber g P q) _ site-zero ∙ first-skip (tableNumber (nodeCount g) K (length ids) (length distances)) [] (table-zero least) ∙ sym first-none)
         ∙ first-skip (tableKNumber k K) _ table-k-zero ∙ first-skip (shortNumber (length scratch) (scratchWords g k)) _ scratch-zero
         ∙ first-skip (shortNumber (length old) (nodeCount g)) [] answers-zero ∙ sym first-none
 
@@ -255,7 +258,7 @@ module _ (g : Network) (net : networkNumber g ≡ 0) (K : ℕ) where
               );
           lazy =
               λ h.
-              let x = rw (← lazy-done g P q k scratch old search-zero refl (record { sized = refl; answers = refl })) at h in
+              let x = rw (← lazy-done g P q k scratch old search-zero refl refl refl) at h in
               record {
                 number = ap (λ (l : Listing). l .number) (x .answer);
                 sized = ap (λ (l : Listing). l .length) (x .answer);
@@ -275,13 +278,14 @@ built g P K scratch ids distances e =
     rw (eq-eqb (buildNumber g P K scratch ids distances) 0 e) (record { same-ids = refl; same-dists = refl })
 
 pub demand : demand-3
-unfolding buildNumber tableCheckNumber
+unfolding buildNumber tableCheckNumber networkPointsNumber
 demand g P₀ K scratch ids distances e calls answers P ids′ distances′ run =
     let a = first-zero (tableCheckNumber g P₀ K ids distances) _ e .0 in
-    let b = first-zero (networkNumber g) _ a in
-    let c = first-zero (pointsNumber (nodeCount g) P₀) _ (b .1) in
-    let d = first-zero (tableNumber (nodeCount g) K (length ids) (length distances)) [] (c .1) in
-    let t = table-ready (nodeCount g) K (length ids) (length distances) (d .0) in
+    let d = first-zero (networkPointsNumber g P₀) _ a in
+    let b = first-zero (networkNumber g) _ (d .0) in
+    let c = first-zero (pointsNumber (nodeCount g) P₀) [] (b .1) in
+    let h = first-zero (tableNumber (nodeCount g) K (length ids) (length distances)) [] (d .1) in
+    let t = table-ready (nodeCount g) K (length ids) (length distances) (h .0) in
     let f = followed g (b .0) K (record { points = c .0; table = built g P₀ K scratch ids distances e }) run in
     record {
       answered-so = f .answers;

@@ -1,9 +1,10 @@
--- The hypotheses of demand 3 can be met: for every list of calls there is a run that the contracts allow; and network N with an insertion, a removal and a
--- refused call is one.
+-- The hypotheses of demand 3 can be met: for every list of calls there is a run that the contracts allow; and network N with an insertion, a removal,
+-- a refused call, and a refused call that is lent another network and another table, is one.
 -- Assumes nothing.
 use Prim.Native.Nat.{ℕ, _≤_}
 use mathlib.Core.Path.{_≡_, refl}
 use mathlib.Core.Bool.{true, not}
+use mathlib.Core.Logic.{_≢_, inl, inr}
 use mathlib.Core.List.{List, [], _∷_}
 use native.Mathlib.Decide.{ℕ-discrete}
 use native.Mathlib.Omega.{arith}
@@ -18,15 +19,15 @@ use Rattle.network.specs.Nearest.{insert, byDistance, nearest}
 use Rattle.network.specs.Rows.{row, sameRow, tableIds, tableDistances, rowsChanged}
 use Rattle.network.specs.Cases.{roads, points}
 use Rattle.network.proofs.Counts.{count-mono, count-all}
-use Rattle.table.proofs.Laid.{table-sized}
+use Rattle.rows.proofs.Laid.{table-sized}
 use Rattle.overlap.specs.declared.updated.Kind.{Kind}
 use Rattle.overlap.specs.declared.updated.Kind.the-variants.{Insert, Remove}
 use Rattle.overlap.specs.declared.Update.{Update}
-use Rattle.overlap.specs.Numbers.{firstNumber, badByteAt, pointsNumber, nodeNumber, tableNumber, shortNumber, markedNumber, unmarkedNumber, tableCheckNumber, buildNumber}
+use Rattle.overlap.specs.Numbers.{firstNumber, badByteAt, pointsNumber, nodeNumber, tableNumber, shortNumber, markedNumber, unmarkedNumber, networkPointsNumber, siteNumber, tableCheckNumber, tableNodeNumber, buildNumber}
 use Rattle.overlap.specs.Build.{buildOutcome}
 use Rattle.overlap.specs.Updated.{kindMarks, changeNumber, Arrays, ChangeLeft}
 use Rattle.overlap.specs.Book.{Call, bookNumber, bookCall, bookAnswers, bookMarks}
-use Rattle.overlap.specs.Demand.{Run, ends, call, Demand3}
+use Rattle.overlap.specs.Demand.{Run, ends, call, foreign, Demand3}
 use Rattle.overlap.proofs.Demand.{demand}
 
 -- no more rows change than there are
@@ -113,7 +114,7 @@ calls =
     ∷ []
 
 pub built : buildNumber (roads 7) points 2 (replicate 352 0) (replicate 12 0) (replicate 12 0) ≡ 0
-unfolding any arcsFrom arcsOf partOf badSize fallsAt badStarts badNeighbourAt badPart badNeighboursOf badNeighbours badWeightAt badWeights isArcAt hasArc lacksReturnAt lacksReturnOf lacksReturn networkNumber buildNumber tableCheckNumber firstNumber badByteAt pointsNumber tableNumber shortNumber
+unfolding any arcsFrom arcsOf partOf badSize fallsAt badStarts badNeighbourAt badPart badNeighboursOf badNeighbours badWeightAt badWeights isArcAt hasArc lacksReturnAt lacksReturnOf lacksReturn networkNumber buildNumber tableCheckNumber networkPointsNumber firstNumber badByteAt pointsNumber tableNumber shortNumber
 built = refl
 
 pub answers : bookAnswers (roads 7) 2 points calls
@@ -133,7 +134,24 @@ table =
 pub all : Runs (roads 7) points (table .0) (table .1) calls
 all = runs (roads 7) points (table .0) (table .1) calls
 
+-- between build and list, node 2 is to be inserted on P7's network, with our marks and a table of zeros: 11
+abbrev lent : Arrays
+lent = record { points = points; scratch = replicate 352 0; ids = replicate 12 0; distances = replicate 12 0 }
+
+met : changeNumber Insert (roads 6) points 2 2 (replicate 352 0) (replicate 12 0) (replicate 12 0) ≡ 11
+unfolding any arcsFrom arcsOf partOf badSize fallsAt badStarts badNeighbourAt badPart badNeighboursOf badNeighbours badWeightAt badWeights isArcAt hasArc lacksReturnAt lacksReturnOf lacksReturn networkNumber changeNumber tableNodeNumber siteNumber networkPointsNumber firstNumber badByteAt pointsNumber nodeNumber tableNumber shortNumber markedNumber
+met = refl
+
+refused : changeNumber Insert (roads 6) points 2 2 (replicate 352 0) (replicate 12 0) (replicate 12 0) ≢ 0
+refused z = omega (arith, met)
+
+pub run : Run (roads 7) points (table .0) (table .1) calls (all .answers) (all .marks) (all .last-ids) (all .last-distances)
+run =
+    foreign Insert (roads 6) 2 2 lent lent
+    (record { number = changeNumber Insert (roads 6) points 2 2 (replicate 352 0) (replicate 12 0) (replicate 12 0); changed = 0 })
+    (record { refused = λ _. (refl, refl); accepted = λ z. absurd (refused z) })
+    refused (inl (refl, refl)) (inr refl) (inr refl) (all .run)
+
 pub instance : Demand3 (roads 7) points 2 calls (all .answers) (all .marks) (all .last-ids) (all .last-distances)
 instance =
-    demand (roads 7) points 2 (replicate 352 0) (replicate 12 0) (replicate 12 0) built calls (all .answers) (all .marks) (all .last-ids) (all .last-distances)
-    (all .run)
+    demand (roads 7) points 2 (replicate 352 0) (replicate 12 0) (replicate 12 0) built calls (all .answers) (all .marks) (all .last-ids) (all .last-distances) run

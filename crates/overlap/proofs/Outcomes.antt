@@ -1,7 +1,7 @@
--- The outcomes of the calls: refused with its number, and accepted.
+-- The outcomes of the calls: refused with its number, and accepted; and what the exported calls make of them.
 -- Assumes nothing.
 use Prim.Native.Nat.{ℕ, _≤_, _<_}
-use mathlib.Core.Path.{_≡_}
+use mathlib.Core.Path.{_≡_, ap, _∙_}
 use mathlib.Core.Logic.{_≢_}
 use mathlib.Core.Bool.{Bool}
 use mathlib.Core.List.{List}
@@ -11,21 +11,25 @@ use Rattle.network.specs.Network.{Network}
 use Rattle.network.specs.Distance.{distancesFrom}
 use Rattle.network.specs.Answers.{answered}
 use Rattle.network.specs.Points.{verified, listed, expanded, exceedsLimit}
+use Rattle.rows.specs.Flat.{IsTable}
+use Rattle.rows.specs.Check.{isTable}
+use Rattle.overlap.specs.declared.Listing.{Listing}
+use Rattle.overlap.specs.declared.nearest.Found.{Found}
 use Rattle.overlap.specs.declared.nearest.Found.the-variants.{Refused, Points}
 use Rattle.overlap.specs.declared.verify.Rule.{Rule}
 use Rattle.overlap.specs.declared.verify.Rule.the-variants.{Answer}
+use Rattle.overlap.specs.declared.listed.Listed as call
+use Rattle.overlap.specs.declared.listed.Listed.the-variants as is
 use Rattle.overlap.specs.Distances.{DistancesOutcome, distancesNumber, distancesOutcome}
-use Rattle.overlap.specs.Nearest.{NearestOutcome, nearestNumber, nearestOutcome, NearestDone}
+use Rattle.overlap.specs.Nearest.{NearestOutcome, nearestNumber, nearestOutcome, foundListing, NearestDone}
 use Rattle.overlap.specs.Verify.{VerifyOutcome, verifyNumber, verifyOutcome}
-use Rattle.table.specs.Flat.{IsTable}
-use Rattle.table.specs.Check.{isTable}
 use Rattle.overlap.specs.Numbers.{buildNumber, tableCheckNumber}
 use Rattle.overlap.specs.TableCheck.{tableCheckAnswer}
 use Rattle.overlap.specs.Build.{BuildOutcome, buildOutcome}
-use Rattle.overlap.specs.Listed.{SearchOutcome, searchNumber}
+use Rattle.overlap.specs.Listed.{SearchOutcome, searchNumber, listedListing}
 use Rattle.overlap.specs.Eager.{eagerOutcome}
-use Rattle.overlap.specs.Lazy.{lazyOutcome, LazyDone}
-use Rattle.overlap.specs.declared.listed.Listed.the-variants as is
+use Rattle.overlap.specs.Lazy.{lazyOutcome}
+use Rattle.overlap.specs.Exported.{NearestExported, SearchExported}
 
 module _ (g : Network) (node : ℕ) (scratch answers : List ℕ) where
   pub distances-refused : (number : ℕ) → number ≡ distancesNumber g node scratch answers → number ≢ 0
@@ -89,10 +93,10 @@ module _ (g : Network) (P : List ℕ) (q k : ℕ) (scratch answers : List ℕ) w
   lazy-refused number e n = rw (← e, ne-eqb number 0 n)
 
   pub lazy-done : {s a : List ℕ} {size : ℕ} → searchNumber g P q k scratch answers ≡ 0 → s ≡ replicate (length scratch) 0
-      → LazyDone g P q k answers a size
+      → size ≡ length (listed g P q k) → a ≡ answered (listed g P q k) answers
       → _≡_ {A = SearchOutcome} (record { answer = is.Points size 0; scratch = s; answers = a }) (lazyOutcome g P q k scratch answers)
   unfolding lazyOutcome
-  lazy-done e z h = rw (eq-eqb (searchNumber g P q k scratch answers) 0 e, z, h .sized, h .answers)
+  lazy-done e z m h = rw (eq-eqb (searchNumber g P q k scratch answers) 0 e, z, m, h)
 
 module _ (g : Network) (P : List ℕ) (K : ℕ) (scratch ids distances : List ℕ) where
   pub build-refused : (number : ℕ) → number ≡ buildNumber g P K scratch ids distances → number ≢ 0
@@ -115,3 +119,23 @@ module _ (g : Network) (P : List ℕ) (K : ℕ) (ids distances : List ℕ) where
       → _≡_ {A = Rule} (Answer yes) (tableCheckAnswer g P K ids distances)
   unfolding tableCheckAnswer
   check-done l e h = rw (eq-eqb (tableCheckNumber g P K ids distances) 0 e, h, l)
+
+-- overlap.h's struct of an answer, and the arrays as it leaves them
+pub nearest-exported : {o : NearestOutcome} {a : Found} {s i d : List ℕ} {r : Listing} → r ≡ foundListing a
+    → _≡_ {A = NearestOutcome} (record { answer = a; scratch = s; ids = i; distances = d }) o → NearestExported o r s i d
+nearest-exported h e =
+    record {
+      answer = h ∙ ap (λ (x : NearestOutcome). foundListing (x .answer)) e;
+      scratch-left = ap (λ (x : NearestOutcome). x .scratch) e;
+      ids-left = ap (λ (x : NearestOutcome). x .ids) e;
+      distances-left = ap (λ (x : NearestOutcome). x .distances) e;
+    }
+
+pub search-exported : {o : SearchOutcome} {a : call.Listed} {s l : List ℕ} {r : Listing} → r ≡ listedListing a
+    → _≡_ {A = SearchOutcome} (record { answer = a; scratch = s; answers = l }) o → SearchExported o r s l
+search-exported h e =
+    record {
+      answer = h ∙ ap (λ (x : SearchOutcome). listedListing (x .answer)) e;
+      scratch-left = ap (λ (x : SearchOutcome). x .scratch) e;
+      answers-left = ap (λ (x : SearchOutcome). x .answers) e;
+    }

@@ -1,36 +1,32 @@
 -- The numbers of the conditions: the first of several, and what a number 0 leaves: no condition of the call is met.
 -- Assumes nothing.
-use Prim.Native.Nat.{ℕ, _+_, _*_, _≤_, _<_}
-use mathlib.Core.Path.{_≡_, refl, sym, ap, _∙_}
+use Prim.Native.Nat.{ℕ, _*_, _≤_, _<_}
+use mathlib.Core.Path.{_≡_, refl, sym, _∙_}
 use mathlib.Core.Bool.{Bool, true, false, cond, not, _||_}
 use mathlib.Core.List.{List, [], _∷_}
 use mathlib.Core.Logic.{_≢_}
-use native.Mathlib.Nat.{mul-le-mul-left, mul-le-mul-right}
 use native.Mathlib.Decide.{ℕ-discrete}
 use native.Mathlib.Omega.{arith}
 use lib.Dec.{eqb, leb, ltb}
-use lib.ListN.{length, replicate, length-replicate}
+use lib.ListN.{length}
 use borrow.Author.Tests.{eq-eqb, ne-eqb, eqb-true, eqb-false, leb-false, ltb-false, not-false}
 use Rattle.network.specs.Count.{any}
-use Rattle.network.specs.Network.{Network, nodeCount, arcCount}
+use Rattle.network.specs.Network.{Network, nodeCount}
 use Rattle.network.specs.Accepted.{Accepted}
 use Rattle.network.specs.Check.{networkNumber}
 use Rattle.network.specs.Points.{marked}
 use Rattle.network.proofs.Tests.{or-parts}
 use Rattle.network.proofs.NumberZero.{number-zero}
-use Rattle.overlap.specs.Numbers.{firstNumber, badByteAt, pointsNumber, nodeNumber, tableNumber, kNumber, scratchWords, shortNumber, markedNumber, unmarkedNumber, queryNumber, tableCheckNumber, tableNodeNumber, tableKNumber, tableQueryNumber, buildNumber, updateNumber}
-use Rattle.overlap.specs.Distances.{distancesNumber, DistancesReady}
-use Rattle.overlap.specs.Nearest.{nearestNumber, NearestReady}
-use Rattle.overlap.specs.Verify.{verifyNumber, VerifyReady}
-use Rattle.overlap.specs.declared.lazy.Method.{Method}
-use Rattle.overlap.specs.declared.lazy.Method.the-variants.{Lazy, LazyEp}
-use Rattle.overlap.specs.Build.{TableReady, BuildReady}
 use Rattle.overlap.specs.declared.updated.Kind.{Kind}
 use Rattle.overlap.specs.declared.updated.Kind.the-variants.{Insert, Remove}
-use Rattle.overlap.specs.Updated.{kindNumber, kindMark, changeNumber, UpdateReady, ChangeReady}
+use Rattle.overlap.specs.Numbers.{firstNumber, badByteAt, pointsNumber, nodeNumber, tableNumber, kNumber, scratchWords, shortNumber, markedNumber, unmarkedNumber, networkPointsNumber, siteNumber, queryNumber, tableCheckNumber, tableNodeNumber, tableKNumber, tableQueryNumber, buildNumber, QueryReady}
+use Rattle.overlap.specs.Distances.{distancesNumber}
+use Rattle.overlap.specs.Nearest.{nearestNumber, NearestReady}
+use Rattle.overlap.specs.Verify.{verifyNumber}
+use Rattle.overlap.specs.Build.{TableReady, BuildReady}
+use Rattle.overlap.specs.Updated.{kindNumber, kindMark, changeNumber, ChangeReady}
 use Rattle.overlap.specs.TableQuery.{TableQueryReady}
 use Rattle.overlap.specs.Listed.{searchNumber, SearchReady}
-use Rattle.overlap.specs.Lazy.{methodWords}
 
 -- the clauses of `firstNumber`: the first number is not 0; it is
 pub first-is : (x : ℕ) (xs : List ℕ) (r : ℕ) → r ≡ x → r ≢ 0 → r ≡ firstNumber (x ∷ xs)
@@ -100,6 +96,36 @@ pub short-ready : (have need : ℕ) → shortNumber have need ≡ 0 → need ≤
 unfolding shortNumber
 short-ready have need e = ltb-false have need (number-none (ltb have need) 10 (omega arith) e)
 
+pub table-k-ready : (k K : ℕ) → tableKNumber k K ≡ 0 → (1 ≤ k) × (k < K)
+unfolding tableKNumber
+table-k-ready k K e =
+    let r = or-parts (eqb k 0) _ (number-none (eqb k 0 || leb K k) 9 (omega arith) e) in
+    let n = eqb-false k 0 (r .0) in
+    (omega arith, leb-false K k (r .1))
+
+-- the lists that several calls begin with
+pub network-points-ready : (g : Network) (P : List ℕ) → networkPointsNumber g P ≡ 0 → Accepted g × (length P ≡ nodeCount g)
+unfolding networkPointsNumber
+network-points-ready g P e =
+    let a = first-zero (networkNumber g) _ e in
+    let b = first-zero (pointsNumber (nodeCount g) P) [] (a .1) in
+    (number-zero g .0 (a .0), points-ready (nodeCount g) P (b .0))
+
+pub site-ready : (g : Network) (P : List ℕ) (node : ℕ) → siteNumber g P node ≡ 0 → Accepted g × (length P ≡ nodeCount g) × (node < nodeCount g)
+unfolding siteNumber
+site-ready g P node e =
+    let a = first-zero (networkPointsNumber g P) _ e in
+    let b = first-zero (nodeNumber (nodeCount g) node) [] (a .1) in
+    let r = network-points-ready g P (a .0) in
+    (r .0, r .1, node-ready (nodeCount g) node (b .0))
+
+-- each call
+pub record DistancesReady (g : Network) (node : ℕ) (scratch answers : List ℕ) : Type 0 where
+  pub accepted : Accepted g
+  pub inside : node < nodeCount g
+  pub room : scratchWords g 1 ≤ length scratch
+  pub places : nodeCount g ≤ length answers
+
 pub distances-ready : (g : Network) (node : ℕ) (scratch answers : List ℕ) → distancesNumber g node scratch answers ≡ 0 → DistancesReady g node scratch answers
 unfolding distancesNumber
 distances-ready g node scratch answers e =
@@ -114,29 +140,21 @@ distances-ready g node scratch answers e =
       places = short-ready (length answers) (nodeCount g) (d .0);
     }
 
-pub record QueryReady (g : Network) (P : List ℕ) (node k : ℕ) (scratch : List ℕ) : Type 0 where
-  pub accepted : Accepted g
-  pub points : length P ≡ nodeCount g
-  pub inside : node < nodeCount g
-  pub some : 1 ≤ k
-  pub few : k ≤ 16
-  pub room : scratchWords g k ≤ length scratch
-
 pub query-ready : (g : Network) (P : List ℕ) (node k : ℕ) (scratch : List ℕ) → queryNumber g P node k scratch ≡ 0 → QueryReady g P node k scratch
 unfolding queryNumber
 query-ready g P node k scratch e =
-    let a = first-zero (networkNumber g) _ e in
-    let b = first-zero (pointsNumber (nodeCount g) P) _ (a .1) in
-    let c = first-zero (nodeNumber (nodeCount g) node) _ (b .1) in
-    let d = first-zero (kNumber k) _ (c .1) in
-    let f = first-zero (shortNumber (length scratch) (scratchWords g k)) [] (d .1) in
+    let a = first-zero (siteNumber g P node) _ e in
+    let b = first-zero (kNumber k) _ (a .1) in
+    let c = first-zero (shortNumber (length scratch) (scratchWords g k)) [] (b .1) in
+    let s = site-ready g P node (a .0) in
+    let r = k-ready k (b .0) in
     record {
-      accepted = number-zero g .0 (a .0);
-      points = points-ready (nodeCount g) P (b .0);
-      inside = node-ready (nodeCount g) node (c .0);
-      some = k-ready k (d .0) .0;
-      few = k-ready k (d .0) .1;
-      room = short-ready (length scratch) (scratchWords g k) (f .0);
+      accepted = s .0;
+      points = s .1;
+      inside = s .2;
+      some = r .0;
+      few = r .1;
+      room = short-ready (length scratch) (scratchWords g k) (c .0);
     }
 
 pub nearest-ready : (g : Network) (P : List ℕ) (node k : ℕ) (scratch ids distances : List ℕ) → nearestNumber g P node k scratch ids distances ≡ 0
@@ -146,14 +164,8 @@ nearest-ready g P node k scratch ids distances e =
     let a = first-zero (queryNumber g P node k scratch) _ e in
     let b = first-zero (shortNumber (length ids) k) _ (a .1) in
     let c = first-zero (shortNumber (length distances) k) [] (b .1) in
-    let ready = query-ready g P node k scratch (a .0) in
     record {
-      accepted = ready .accepted;
-      points = ready .points;
-      inside = ready .inside;
-      some = ready .some;
-      few = ready .few;
-      room = ready .room;
+      query = query-ready g P node k scratch (a .0);
       id-places = short-ready (length ids) k (b .0);
       distance-places = short-ready (length distances) k (c .0);
     }
@@ -164,50 +176,48 @@ unfolding searchNumber
 search-ready g P q k scratch answers e =
     let a = first-zero (queryNumber g P q k scratch) _ e in
     let b = first-zero (shortNumber (length answers) (nodeCount g)) [] (a .1) in
-    let ready = query-ready g P q k scratch (a .0) in
-    record {
-      accepted = ready .accepted;
-      points = ready .points;
-      site = ready .inside;
-      some = ready .some;
-      few = ready .few;
-      room = ready .room;
-      places = short-ready (length answers) (nodeCount g) (b .0);
-    }
+    record { query = query-ready g P q k scratch (a .0); places = short-ready (length answers) (nodeCount g) (b .0) }
+
+pub record VerifyReady (g : Network) (P : List ℕ) (p q k : ℕ) (scratch : List ℕ) : Type 0 where
+  pub query : QueryReady g P p k scratch
+  pub inside-q : q < nodeCount g
 
 pub verify-ready : (g : Network) (P : List ℕ) (p q k : ℕ) (scratch : List ℕ) → verifyNumber g P p q k scratch ≡ 0 → VerifyReady g P p q k scratch
 unfolding verifyNumber
 verify-ready g P p q k scratch e =
-    let a = first-zero (networkNumber g) _ e in
-    let b = first-zero (pointsNumber (nodeCount g) P) _ (a .1) in
-    let c = first-zero (nodeNumber (nodeCount g) p) _ (b .1) in
-    let d = first-zero (nodeNumber (nodeCount g) q) _ (c .1) in
-    let f = first-zero (kNumber k) _ (d .1) in
-    let h = first-zero (shortNumber (length scratch) (scratchWords g k)) _ (f .1) in
+    let a = first-zero (siteNumber g P p) _ e in
+    let b = first-zero (nodeNumber (nodeCount g) q) _ (a .1) in
+    let c = first-zero (kNumber k) _ (b .1) in
+    let d = first-zero (shortNumber (length scratch) (scratchWords g k)) _ (c .1) in
+    let s = site-ready g P p (a .0) in
+    let r = k-ready k (c .0) in
     record {
-      accepted = number-zero g .0 (a .0);
-      points = points-ready (nodeCount g) P (b .0);
-      inside-p = node-ready (nodeCount g) p (c .0);
-      inside-q = node-ready (nodeCount g) q (d .0);
-      some = k-ready k (f .0) .0;
-      few = k-ready k (f .0) .1;
-      room = short-ready (length scratch) (scratchWords g k) (h .0);
+      query =
+          record {
+            accepted = s .0;
+            points = s .1;
+            inside = s .2;
+            some = r .0;
+            few = r .1;
+            room = short-ready (length scratch) (scratchWords g k) (d .0);
+          };
+      inside-q = node-ready (nodeCount g) q (b .0);
     }
+
+-- of an accepted network with a byte for each node, and 8
+sized-ready : (g : Network) (P : List ℕ) (K : ℕ) (ids distances : List ℕ) → Accepted g → length P ≡ nodeCount g
+    → tableNumber (nodeCount g) K (length ids) (length distances) ≡ 0 → TableReady g P K ids distances
+sized-ready g P K ids distances a l e =
+    let t = table-ready (nodeCount g) K (length ids) (length distances) e in
+    record { accepted = a; points = l; least = t .0; most = t .1; sized = record { all-ids = t .2; all-dists = t .3 } }
 
 pub table-check-ready : (g : Network) (P : List ℕ) (K : ℕ) (ids distances : List ℕ) → tableCheckNumber g P K ids distances ≡ 0 → TableReady g P K ids distances
 unfolding tableCheckNumber
 table-check-ready g P K ids distances e =
-    let a = first-zero (networkNumber g) _ e in
-    let b = first-zero (pointsNumber (nodeCount g) P) _ (a .1) in
-    let c = first-zero (tableNumber (nodeCount g) K (length ids) (length distances)) [] (b .1) in
-    let t = table-ready (nodeCount g) K (length ids) (length distances) (c .0) in
-    record {
-      accepted = number-zero g .0 (a .0);
-      points = points-ready (nodeCount g) P (b .0);
-      least = t .0;
-      most = t .1;
-      sized = record { all-ids = t .2; all-dists = t .3 };
-    }
+    let a = first-zero (networkPointsNumber g P) _ e in
+    let b = first-zero (tableNumber (nodeCount g) K (length ids) (length distances)) [] (a .1) in
+    let r = network-points-ready g P (a .0) in
+    sized-ready g P K ids distances (r .0) (r .1) (b .0)
 
 pub build-ready : (g : Network) (P : List ℕ) (K : ℕ) (scratch ids distances : List ℕ) → buildNumber g P K scratch ids distances ≡ 0
     → BuildReady g P K scratch ids distances
@@ -225,29 +235,10 @@ pub table-node-ready : (g : Network) (P : List ℕ) (node K : ℕ) (ids distance
     → (node < nodeCount g) × TableReady g P K ids distances
 unfolding tableNodeNumber
 table-node-ready g P node K ids distances e =
-    let a = first-zero (networkNumber g) _ e in
-    let b = first-zero (pointsNumber (nodeCount g) P) _ (a .1) in
-    let c = first-zero (nodeNumber (nodeCount g) node) _ (b .1) in
-    let d = first-zero (tableNumber (nodeCount g) K (length ids) (length distances)) [] (c .1) in
-    let t = table-ready (nodeCount g) K (length ids) (length distances) (d .0) in (
-      node-ready (nodeCount g) node (c .0),
-      record {
-        accepted = number-zero g .0 (a .0);
-        points = points-ready (nodeCount g) P (b .0);
-        least = t .0;
-        most = t .1;
-        sized = record { all-ids = t .2; all-dists = t .3 };
-      },
-    )
-
-pub update-ready : (g : Network) (P : List ℕ) (node K : ℕ) (scratch ids distances : List ℕ) → updateNumber g P node K scratch ids distances ≡ 0
-    → UpdateReady g P node K scratch ids distances
-unfolding updateNumber
-update-ready g P node K scratch ids distances e =
-    let a = first-zero (tableNodeNumber g P node K ids distances) _ e in
-    let b = first-zero (shortNumber (length scratch) (scratchWords g K)) [] (a .1) in
-    let t = table-node-ready g P node K ids distances (a .0) in
-    record { inside = t .0; ready = t .1; room = short-ready (length scratch) (scratchWords g K) (b .0) }
+    let a = first-zero (siteNumber g P node) _ e in
+    let b = first-zero (tableNumber (nodeCount g) K (length ids) (length distances)) [] (a .1) in
+    let r = site-ready g P node (a .0) in
+    (r .2, sized-ready g P K ids distances (r .0) (r .1) (b .0))
 
 -- 11 is not met: the mark is what the kind asks
 mark-ready : (kind : Kind) (P : List ℕ) (node : ℕ) → kindNumber kind P node ≡ 0 → marked P node ≡ kindMark kind
@@ -263,16 +254,16 @@ pub change-ready : (kind : Kind) (g : Network) (P : List ℕ) (node K : ℕ) (sc
     → changeNumber kind g P node K scratch ids distances ≡ 0 → ChangeReady kind g P node K scratch ids distances
 unfolding changeNumber
 change-ready kind g P node K scratch ids distances e =
-    let a = first-zero (updateNumber g P node K scratch ids distances) _ e in
-    let b = first-zero (kindNumber kind P node) [] (a .1) in
-    record { update = update-ready g P node K scratch ids distances (a .0); mark = mark-ready kind P node (b .0) }
-
-pub table-k-ready : (k K : ℕ) → tableKNumber k K ≡ 0 → (1 ≤ k) × (k < K)
-unfolding tableKNumber
-table-k-ready k K e =
-    let r = or-parts (eqb k 0) _ (number-none (eqb k 0 || leb K k) 9 (omega arith) e) in
-    let n = eqb-false k 0 (r .0) in
-    (omega arith, leb-false K k (r .1))
+    let a = first-zero (tableNodeNumber g P node K ids distances) _ e in
+    let b = first-zero (shortNumber (length scratch) (scratchWords g K)) _ (a .1) in
+    let c = first-zero (kindNumber kind P node) [] (b .1) in
+    let t = table-node-ready g P node K ids distances (a .0) in
+    record {
+      inside = t .0;
+      ready = t .1;
+      room = short-ready (length scratch) (scratchWords g K) (b .0);
+      mark = mark-ready kind P node (c .0);
+    }
 
 pub table-query-ready : (g : Network) (P : List ℕ) (q k K : ℕ) (ids distances scratch answers : List ℕ)
     → tableQueryNumber g P q k K ids distances scratch answers ≡ 0 → TableQueryReady g P q k K ids distances scratch answers
@@ -292,33 +283,3 @@ table-query-ready g P q k K ids distances scratch answers e =
       room = short-ready (length scratch) (scratchWords g k) (c .0);
       places = short-ready (length answers) (nodeCount g) (d .0);
     }
-
--- words that are all 0, as many as they are
-pub all-zero : {xs : List ℕ} (l m : ℕ) → xs ≡ replicate l 0 → length xs ≡ m → xs ≡ replicate m 0
-all-zero l m e h =
-    let q : l ≡ m = sym (ap length e ∙ length-replicate l 0) ∙ h in
-    e ∙ ap (λ n. replicate n 0) q
-
--- S is enough for the words that are used: 2 k + 2 n + 2 (A + 1), since k and n are at least 1
-pub words-enough : (g : Network) (k : ℕ) → 1 ≤ k → 16 * nodeCount g + 8 * (arcCount g + nodeCount g) ≤ scratchWords g k
-words-enough g k h = omega (arith, mul-le-mul-left (8 * (arcCount g + nodeCount g)) h)
-
-pub words-for-found : (g : Network) (k : ℕ) → 1 ≤ k → k ≤ 16 → 1 ≤ nodeCount g → 2 * k + 2 * nodeCount g + 2 * (arcCount g + 1) ≤ scratchWords g k
-words-for-found g k h few some =
-    let low : 8 ≤ 8 * (arcCount g + nodeCount g) = omega arith in
-    omega (arith, words-enough g k h, mul-le-mul-right k low)
-
--- eager uses 2 k + 6 n + 4 (A + 1)
-pub words-for-eager : (g : Network) (k : ℕ) → 1 ≤ k → k ≤ 16 → 1 ≤ nodeCount g → 2 * k + 6 * nodeCount g + 4 * (arcCount g + 1) ≤ scratchWords g k
-words-for-eager g k h few some =
-    let low : 8 ≤ 8 * (arcCount g + nodeCount g) = omega arith in
-    omega (arith, words-enough g k h, mul-le-mul-right k low)
-
--- so do lazy, and lazy-EP with its rows and its second queue
-pub words-for-method : (m : Method) (g : Network) (k : ℕ) → 1 ≤ k → k ≤ 16 → 1 ≤ nodeCount g → methodWords m (nodeCount g) (arcCount g) k ≤ scratchWords g k
-words-for-method Lazy g k h few some = words-for-eager g k h few some
-words-for-method LazyEp g k h few some = omega (arith, mul-le-mul-left (arcCount g) h, mul-le-mul-left (nodeCount g) h)
-
--- build uses n + 2 (n + K A)
-pub words-for-build : (g : Network) (K : ℕ) → nodeCount g + 2 * (nodeCount g + K * arcCount g) ≤ scratchWords g K
-words-for-build g K = omega arith

@@ -1,14 +1,12 @@
 -- Document 01, 'The plain book'. It is fed the build's network, marks and K, then each call's kind, node, K and scratch length.
 -- Assumes nothing.
 use Prim.Native.Nat.{ℕ, _*_}
-use mathlib.Core.Bool.{Bool, true, false}
 use mathlib.Core.List.{List, [], _∷_}
-use lib.Dec.{eqb}
 use Rattle.network.specs.Network.{Network, nodeCount}
 use Rattle.network.specs.Rows.{rowsChanged}
 use Rattle.overlap.specs.declared.updated.Kind.{Kind}
 use Rattle.overlap.specs.declared.Update.{Update}
-use Rattle.overlap.specs.Numbers.{firstNumber, nodeNumber, tableNumber, scratchWords, shortNumber}
+use Rattle.overlap.specs.Numbers.{firstNumber, byNumber, nodeNumber, tableNumber, scratchWords, shortNumber}
 use Rattle.overlap.specs.Updated.{kindMarks, kindNumber}
 
 -- 'each call's kind, node, K and scratch length'
@@ -34,16 +32,14 @@ pub record Page : Type 0 where
   pub answer : Update
   pub marks : List ℕ
 
-abbrev pub bookBy : ℕ → Network → ℕ → List ℕ → Call → Bool → Page
-bookBy number g K P c true =
-    record {
+unfoldable pub bookCall : Network → ℕ → List ℕ → Call → Page
+bookCall g K P c =
+    byNumber (bookNumber g K P c)
+    (record { answer = record { number = bookNumber g K P c; changed = 0 }; marks = P })
+    (record {
       answer = record { number = 0; changed = rowsChanged g P (kindMarks (c .kind) P (c .node)) K };
       marks = kindMarks (c .kind) P (c .node);
-    }
-bookBy number g K P c false = record { answer = record { number = number; changed = 0 }; marks = P }
-
-unfoldable pub bookCall : Network → ℕ → List ℕ → Call → Page
-bookCall g K P c = bookBy (bookNumber g K P c) g K P c (eqb (bookNumber g K P c) 0)
+    })
 
 -- 'Its state is one mark a node, at first the build's': the answers to a list of calls, and the marks after it
 unfoldable pub bookAnswers : Network → ℕ → List ℕ → List Call → List Update

@@ -12,9 +12,9 @@ use Rattle.network.specs.Points.{listed, expanded}
 use Rattle.network.specs.Answers.{answered}
 use Rattle.overlap.specs.declared.Update.{Update}
 use Rattle.overlap.specs.declared.Listing.{Listing}
+use Rattle.overlap.specs.declared.updated.Kind.{Kind}
 use Rattle.overlap.specs.Numbers.{scratchWords, buildNumber, tableQueryNumber}
 use Rattle.overlap.specs.Build.{buildOutcome}
-use Rattle.overlap.specs.declared.updated.Kind.{Kind}
 use Rattle.overlap.specs.Updated.{Arrays, ChangeLeft}
 use Rattle.overlap.specs.Eager.{eagerOutcome}
 use Rattle.overlap.specs.Lazy.{lazyOutcome}

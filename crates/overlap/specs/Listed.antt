@@ -1,15 +1,13 @@
 -- What the searches share: their number but for 12, what they leave, and the values that they return. 1 to 5, 6, 7, 9, 10; m is k.
 -- Assumes nothing.
-use Prim.Native.Nat.{ℕ, _≤_, _<_}
-use mathlib.Core.Path.{_≡_}
+use Prim.Native.Nat.{ℕ, _≤_}
 use mathlib.Core.List.{List, [], _∷_}
 use lib.ListN.{length}
 use Rattle.network.specs.Network.{Network, nodeCount}
-use Rattle.network.specs.Accepted.{Accepted}
 use Rattle.overlap.specs.declared.listed.Listed as call
 use Rattle.overlap.specs.declared.listed.Listed.the-variants as is
 use Rattle.overlap.specs.declared.Listing.{Listing}
-use Rattle.overlap.specs.Numbers.{firstNumber, queryNumber, scratchWords, shortNumber}
+use Rattle.overlap.specs.Numbers.{firstNumber, queryNumber, shortNumber, QueryReady}
 
 unfoldable pub searchNumber : Network → List ℕ → ℕ → ℕ → List ℕ → List ℕ → ℕ
 searchNumber g P q k scratch answers =
@@ -32,20 +30,5 @@ listedListing (is.Points length count) = record { number = 0; count = count; len
 
 -- what number 0 leaves
 pub record SearchReady (g : Network) (P : List ℕ) (q k : ℕ) (scratch answers : List ℕ) : Type 0 where
-  pub accepted : Accepted g
-  pub points : length P ≡ nodeCount g
-  pub site : q < nodeCount g
-  pub some : 1 ≤ k
-  pub few : k ≤ 16
-  pub room : scratchWords g k ≤ length scratch
-  pub places : nodeCount g ≤ length answers
-
--- what the work asks, where it uses so many words of scratch
-pub record SearchArea (g : Network) (P : List ℕ) (q k words : ℕ) (area answers : List ℕ) : Type 0 where
-  pub accepted : Accepted g
-  pub points : length P ≡ nodeCount g
-  pub site : q < nodeCount g
-  pub some : 1 ≤ k
-  pub few : k ≤ 16
-  pub room : words ≤ length area
+  pub query : QueryReady g P q k scratch
   pub places : nodeCount g ≤ length answers

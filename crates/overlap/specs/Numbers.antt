@@ -1,12 +1,15 @@
--- Document 01, 'Numbers of refusal', 6 to 11: the number of each condition, 0 where it is not met, and the first number of several.
+-- Document 01, 'Numbers of refusal', 6 to 11: the number of each condition, 0 where it is not met; the first number of several; and the lists of
+-- conditions that several calls begin with, in the document's order.
 -- Assumes nothing.
-use Prim.Native.Nat.{ℕ, _+_, _*_}
+use Prim.Native.Nat.{ℕ, _+_, _*_, _≤_, _<_}
+use mathlib.Core.Path.{_≡_}
 use mathlib.Core.Bool.{Bool, cond, not, _||_}
 use mathlib.Core.List.{List, [], _∷_}
 use lib.Dec.{eqb, ltb, leb}
 use lib.ListN.{length, getD}
 use Rattle.network.specs.Count.{any}
 use Rattle.network.specs.Network.{Network, nodeCount, arcCount}
+use Rattle.network.specs.Accepted.{Accepted}
 use Rattle.network.specs.Check.{networkNumber}
 use Rattle.network.specs.Points.{marked}
 
@@ -14,6 +17,10 @@ use Rattle.network.specs.Points.{marked}
 unfoldable pub firstNumber : List ℕ → ℕ
 firstNumber [] = 0
 firstNumber (x ∷ xs) = cond (eqb x 0) (firstNumber xs) x
+
+-- 'the first met is returned, and a number is returned only then': what a call of this number leaves, refused or accepted
+abbrev pub byNumber : {A : Type 0} → ℕ → A → A → A
+byNumber number refused accepted = cond (eqb number 0) accepted refused
 
 -- 6: 'points has not n entries, or a byte above 1'
 unfoldable pub badByteAt : List ℕ → ℕ → Bool
@@ -25,6 +32,10 @@ pointsNumber n P = cond (not (eqb (length P) n) || any (badByteAt P) (length P))
 -- 7: 'a node given is n or more'
 unfoldable pub nodeNumber : ℕ → ℕ → ℕ
 nodeNumber n v = cond (leb n v) 7 0
+
+-- 8: 'K not 2 to 17, or a table array not n × K long', of arrays of so many ids and distances
+unfoldable pub tableNumber : ℕ → ℕ → ℕ → ℕ → ℕ
+tableNumber n K ids distances = cond (ltb K 2 || ltb 17 K || not (eqb ids (n * K)) || not (eqb distances (n * K))) 8 0
 
 -- 9: 'k is 0 or above 16'
 unfoldable pub kNumber : ℕ → ℕ
@@ -42,10 +53,6 @@ scratchWords g m = 16 * nodeCount g + 8 * (arcCount g + nodeCount g) * m
 unfoldable pub shortNumber : ℕ → ℕ → ℕ
 shortNumber have need = cond (ltb have need) 10 0
 
--- 8: 'K not 2 to 17, or a table array not n × K long', of arrays of so many ids and distances
-unfoldable pub tableNumber : ℕ → ℕ → ℕ → ℕ → ℕ
-tableNumber n K ids distances = cond (ltb K 2 || ltb 17 K || not (eqb ids (n * K)) || not (eqb distances (n * K))) 8 0
-
 -- 11: 'insert on a marked node; remove or verify of an unmarked one'
 unfoldable pub markedNumber : List ℕ → ℕ → ℕ
 markedNumber P p = cond (marked P p) 11 0
@@ -53,23 +60,36 @@ markedNumber P p = cond (marked P p) 11 0
 unfoldable pub unmarkedNumber : List ℕ → ℕ → ℕ
 unmarkedNumber P p = cond (marked P p) 0 11
 
--- what nearest and the searches test first: 1 to 5, 6, 7, 9, and 10 of scratch, where m is k
-unfoldable pub queryNumber : Network → List ℕ → ℕ → ℕ → List ℕ → ℕ
-queryNumber g P node k scratch =
+-- what every call with points tests first: 1 to 5, 6
+unfoldable pub networkPointsNumber : Network → List ℕ → ℕ
+networkPointsNumber g P =
     firstNumber
     (networkNumber g
     ∷ pointsNumber (nodeCount g) P
+    ∷ [])
+
+-- what the calls with points and a node test first: 7 too
+unfoldable pub siteNumber : Network → List ℕ → ℕ → ℕ
+siteNumber g P node =
+    firstNumber
+    (networkPointsNumber g P
     ∷ nodeNumber (nodeCount g) node
+    ∷ [])
+
+-- what nearest and the searches test first: 9, and 10 of scratch too, where m is k
+unfoldable pub queryNumber : Network → List ℕ → ℕ → ℕ → List ℕ → ℕ
+queryNumber g P node k scratch =
+    firstNumber
+    (siteNumber g P node
     ∷ kNumber k
     ∷ shortNumber (length scratch) (scratchWords g k)
     ∷ [])
 
--- what build and the table check test first: 1 to 5, 6, 8
+-- what the table check tests, and build first: 1 to 5, 6, 8
 unfoldable pub tableCheckNumber : Network → List ℕ → ℕ → List ℕ → List ℕ → ℕ
 tableCheckNumber g P K ids distances =
     firstNumber
-    (networkNumber g
-    ∷ pointsNumber (nodeCount g) P
+    (networkPointsNumber g P
     ∷ tableNumber (nodeCount g) K (length ids) (length distances)
     ∷ [])
 
@@ -85,18 +105,8 @@ buildNumber g P K scratch ids distances =
 unfoldable pub tableNodeNumber : Network → List ℕ → ℕ → ℕ → List ℕ → List ℕ → ℕ
 tableNodeNumber g P node K ids distances =
     firstNumber
-    (networkNumber g
-    ∷ pointsNumber (nodeCount g) P
-    ∷ nodeNumber (nodeCount g) node
+    (siteNumber g P node
     ∷ tableNumber (nodeCount g) K (length ids) (length distances)
-    ∷ [])
-
--- what insert and remove test before 11: 10 of scratch too, where m is K
-unfoldable pub updateNumber : Network → List ℕ → ℕ → ℕ → List ℕ → List ℕ → List ℕ → ℕ
-updateNumber g P node K scratch ids distances =
-    firstNumber
-    (tableNodeNumber g P node K ids distances
-    ∷ shortNumber (length scratch) (scratchWords g K)
     ∷ [])
 
 -- what the table query tests: 9 and 10 too, where m is k
@@ -108,3 +118,12 @@ tableQueryNumber g P q k K ids distances scratch answers =
     ∷ shortNumber (length scratch) (scratchWords g k)
     ∷ shortNumber (length answers) (nodeCount g)
     ∷ [])
+
+-- what a number 0 of nearest and the searches leaves
+pub record QueryReady (g : Network) (P : List ℕ) (node k : ℕ) (scratch : List ℕ) : Type 0 where
+  pub accepted : Accepted g
+  pub points : length P ≡ nodeCount g
+  pub inside : node < nodeCount g
+  pub some : 1 ≤ k
+  pub few : k ≤ 16
+  pub room : scratchWords g k ≤ length scratch

@@ -2,19 +2,13 @@
 -- filled them.'
 -- Assumes nothing.
 use Prim.Native.Nat.{ℕ}
-use mathlib.Core.Bool.{Bool, true, false}
 use mathlib.Core.List.{List}
-use lib.Dec.{eqb}
 use Rattle.network.specs.Network.{Network}
-use Rattle.table.specs.Check.{isTable}
+use Rattle.rows.specs.Check.{isTable}
 use Rattle.overlap.specs.declared.verify.Rule.{Rule}
 use Rattle.overlap.specs.declared.verify.Rule.the-variants.{Refused, Answer}
-use Rattle.overlap.specs.Numbers.{tableCheckNumber}
-
-abbrev pub tableCheckBy : ℕ → Network → List ℕ → ℕ → List ℕ → List ℕ → Bool → Rule
-tableCheckBy number g P K ids distances true = Answer (isTable g P K ids distances)
-tableCheckBy number g P K ids distances false = Refused number
+use Rattle.overlap.specs.Numbers.{byNumber, tableCheckNumber}
 
 unfoldable pub tableCheckAnswer : Network → List ℕ → ℕ → List ℕ → List ℕ → Rule
 tableCheckAnswer g P K ids distances =
-    tableCheckBy (tableCheckNumber g P K ids distances) g P K ids distances (eqb (tableCheckNumber g P K ids distances) 0)
+    byNumber (tableCheckNumber g P K ids distances) (Refused (tableCheckNumber g P K ids distances)) (Answer (isTable g P K ids distances))

@@ -1,16 +1,16 @@
 -- The table query: 1 to 5, 6, 7, 8, 9, 10; m is k. Document 01, 'The table': 'Table query (eager-M): the list, k from 1 to K - 1, since a point's row
 -- spends one place on itself.'
 -- Assumes nothing.
-use Prim.Native.Nat.{ℕ, _+_, _*_, _≤_, _<_}
+use Prim.Native.Nat.{ℕ, _≤_, _<_}
 use mathlib.Core.Path.{_≡_}
 use mathlib.Core.Logic.{_≢_}
 use mathlib.Core.List.{List}
 use lib.ListN.{length, replicate}
-use Rattle.network.specs.Network.{Network, nodeCount, arcCount}
+use Rattle.network.specs.Network.{Network, nodeCount}
 use Rattle.network.specs.Points.{listed}
 use Rattle.network.specs.Answers.{answered}
-use Rattle.table.specs.Flat.{IsTable}
-use Rattle.table.specs.Query.{SomePoints}
+use Rattle.rows.specs.Flat.{IsTable}
+use Rattle.query.specs.Query.{SomePoints}
 use Rattle.overlap.specs.declared.Listing.{Listing}
 use Rattle.overlap.specs.Numbers.{scratchWords}
 use Rattle.overlap.specs.Build.{TableReady}
@@ -37,18 +37,3 @@ pub record TableQueryReady (g : Network) (P : List ℕ) (q k K : ℕ) (ids dista
   pub few : k < K
   pub room : scratchWords g k ≤ length scratch
   pub places : nodeCount g ≤ length answers
-
--- what the work asks of the part of scratch that it uses: 6 n + 4 (A + 1) words
-pub record TableQueryArea (g : Network) (P : List ℕ) (q k K : ℕ) (ids distances area answers : List ℕ) : Type 0 where
-  pub site : q < nodeCount g
-  pub ready : TableReady g P K ids distances
-  pub some : 1 ≤ k
-  pub few : k < K
-  pub room : 6 * nodeCount g + 4 * (arcCount g + 1) ≤ length area
-  pub places : nodeCount g ≤ length answers
-
--- what the work leaves
-pub record TableQueryDone (g : Network) (P : List ℕ) (q k K : ℕ) (ids distances old new : List ℕ) (size : ℕ) : Type 0 where
-  pub any : SomePoints g P old new size
-  pub sized : IsTable g P K ids distances → size ≡ length (listed g P q k)
-  pub answers : IsTable g P K ids distances → new ≡ answered (listed g P q k) old

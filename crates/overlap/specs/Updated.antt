@@ -1,22 +1,24 @@
 -- The calls that change the table, insert and remove: 1 to 5, 6, 7, 8, 10, 11; m is K. Document 01, 'The table': 'Insert marks a node, remove clears
 -- one; each brings the table up to date and returns the number of rows whose contents differ before and after.'
 -- Assumes nothing.
-use Prim.Native.Nat.{ℕ, _+_, _*_, _≤_, _<_}
+use Prim.Native.Nat.{ℕ, _≤_, _<_}
 use mathlib.Core.Path.{_≡_}
 use mathlib.Core.Logic.{_≢_}
 use mathlib.Core.Bool.{Bool, true, false}
 use mathlib.Core.List.{List, [], _∷_}
 use lib.ListN.{length, set, replicate}
-use Rattle.network.specs.Network.{Network, nodeCount, arcCount}
+use Rattle.network.specs.Network.{Network, nodeCount}
 use Rattle.network.specs.Points.{marked}
 use Rattle.network.specs.Rows.{rowsChanged}
-use Rattle.table.specs.Flat.{Sized, IsTable}
+use Rattle.rows.specs.Flat.{Sized, IsTable}
+use Rattle.table.specs.Insert.{CanInsert}
+use Rattle.table.specs.Remove.{CanRemove}
 use Rattle.overlap.specs.declared.updated.Kind.{Kind}
 use Rattle.overlap.specs.declared.updated.Kind.the-variants.{Insert, Remove}
 use Rattle.overlap.specs.declared.updated.Updated as call
 use Rattle.overlap.specs.declared.updated.Updated.the-variants as is
 use Rattle.overlap.specs.declared.Update.{Update}
-use Rattle.overlap.specs.Numbers.{firstNumber, markedNumber, unmarkedNumber, scratchWords, updateNumber}
+use Rattle.overlap.specs.Numbers.{firstNumber, tableNodeNumber, shortNumber, markedNumber, unmarkedNumber, scratchWords}
 use Rattle.overlap.specs.Build.{TableReady}
 
 -- 'insert marks the node, remove clears it'
@@ -36,7 +38,8 @@ kindMark Remove = true
 unfoldable pub changeNumber : Kind → Network → List ℕ → ℕ → ℕ → List ℕ → List ℕ → List ℕ → ℕ
 changeNumber kind g P node K scratch ids distances =
     firstNumber
-    (updateNumber g P node K scratch ids distances
+    (tableNodeNumber g P node K ids distances
+    ∷ shortNumber (length scratch) (scratchWords g K)
     ∷ kindNumber kind P node
     ∷ [])
 
@@ -72,27 +75,14 @@ abbrev pub updatedUpdate : call.Updated → Update
 updatedUpdate (is.Refused number) = record { number = number; changed = 0 }
 updatedUpdate (is.Changed changed) = record { number = 0; changed = changed }
 
--- what number 0 leaves, but for the marks; and with them
-pub record UpdateReady (g : Network) (P : List ℕ) (node K : ℕ) (scratch ids distances : List ℕ) : Type 0 where
+-- what number 0 leaves
+pub record ChangeReady (kind : Kind) (g : Network) (P : List ℕ) (node K : ℕ) (scratch ids distances : List ℕ) : Type 0 where
   pub inside : node < nodeCount g
   pub ready : TableReady g P K ids distances
   pub room : scratchWords g K ≤ length scratch
-
-pub record ChangeReady (kind : Kind) (g : Network) (P : List ℕ) (node K : ℕ) (scratch ids distances : List ℕ) : Type 0 where
-  pub update : UpdateReady g P node K scratch ids distances
   pub mark : marked P node ≡ kindMark kind
 
--- what the work asks of the part of scratch that it uses: 3 n + 2 (A + 1) words
-pub record ChangeArea (kind : Kind) (g : Network) (P : List ℕ) (node K : ℕ) (area ids distances : List ℕ) : Type 0 where
-  pub inside : node < nodeCount g
-  pub ready : TableReady g P K ids distances
-  pub mark : marked P node ≡ kindMark kind
-  pub room : 3 * nodeCount g + 2 * (arcCount g + 1) ≤ length area
-
--- what the work leaves
-pub record ChangeDone (g : Network) (P Q P′ : List ℕ) (K : ℕ) (ids distances ids′ distances′ : List ℕ) (changed : ℕ) : Type 0 where
-  pub marks : P′ ≡ Q
-  pub sized : Sized g K ids′ distances′
-  pub most : changed ≤ nodeCount g
-  pub table : IsTable g P K ids distances → IsTable g Q K ids′ distances′
-  pub counted : IsTable g P K ids distances → changed ≡ rowsChanged g P Q K
+-- what the work asks of the words that it is lent
+abbrev pub CanChange : Kind → Network → List ℕ → List ℕ → List ℕ → List ℕ → ℕ → ℕ → Type 0
+CanChange Insert = CanInsert
+CanChange Remove = CanRemove

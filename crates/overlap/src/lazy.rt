@@ -1,12 +1,14 @@
-// The lazy and the lazy-EP call: their work once no condition of 1 to 10 is met.
+// The lazy and the lazy-EP call: their work once no condition is met. Document 01, 'What a site receives': 'Lazy (000, 3.3) and lazy-EP (000, 4.2):
+// the list.'
 ghost use mathlib.Core.Path.{_≡_};
-ghost use Prim.Native.Nat.{_≤_};
-ghost use lib.ListN.{length, replicate};
-ghost use Rattle.network.specs.Network.{network, nodeCount, arcCount};
-ghost use Rattle.overlap.specs.Listed.{SearchReady, SearchArea};
-ghost use Rattle.overlap.specs.Lazy.{lazyOutcome, methodWords, LazyDone};
-use crate::listed;
+ghost use Rattle.network.specs.Network.{network};
+ghost use Rattle.searches.specs.Eager.{CanSearch};
+ghost use Rattle.lazy_searches.specs.Lazy.{SearchLeft};
+ghost use Rattle.lazy_searches.specs.LazyEp.{CanExtend};
+ghost use Rattle.overlap.specs.Listed.{SearchReady};
+ghost use Rattle.overlap.specs.Lazy.{lazyOutcome};
 use crate::listed::Listed;
+use crate::numbers;
 use expansion::words;
 use network::arcs::wide;
 
@@ -16,35 +18,24 @@ pub enum Method {
     LazyEp,
 }
 
-// The words of scratch that the work uses.
-fn method_words(method: Method, n: usize, arcs: usize, k: usize) -> usize
-    requires { ⌜ (n ≤ 65535) × (arcs ≤ 524288) × (k ≤ 16) ⌝ }
-    ensures { λ r. ⌜ r ≡ methodWords method n arcs k ⌝ }
-{
-    match method {
-        Method::Lazy => 2 * k + 6 * n + 4 * (arcs + 1),
-        Method::LazyEp => 5 * n + 2 * (n * k) + 4 * (arcs + 1) + 2 * (arcs * k + n),
-    }
-}
-
-// Searches, over an area of any contents.
+// The one or the other, over an area that is all 0 before and after.
 fn search(
     method: Method,
     starts: &[u32],
     neighbours: &[u32],
     weights: &[u32],
     points: &[u8],
-    q: u32,
-    k: usize,
     area: &mut [u32],
     answers: &mut [u32],
+    q: u32,
+    k: usize,
 ) -> usize
-    requires { ⌜ SearchArea (network (now starts) (now neighbours) (now weights)) (now points) q k (methodWords method (nodeCount (network (now starts) (now neighbours) (now weights))) (length (now neighbours)) k) (now area) (now answers) ⌝ }
-    ensures { λ r. ⌜ LazyDone (network (now (starts .entry)) (now (neighbours .entry)) (now (weights .entry))) (now (points .entry)) q k (now (answers .entry)) (now (answers .exit)) r ⌝ }
+    requires { ⌜ CanSearch (network (now starts) (now neighbours) (now weights)) (now points) (now area) (now answers) q k ⌝ }
+    requires { ⌜ CanExtend (network (now starts) (now neighbours) (now weights)) (now points) (now area) (now answers) q k ⌝ }
+    ensures { λ r. ⌜ SearchLeft (network (now (starts .entry)) (now (neighbours .entry)) (now (weights .entry))) (now (points .entry)) q k (now (area .entry)) (now (area .exit)) (now (answers .entry)) (now (answers .exit)) r ⌝ }
 {
-    words::zero(area);
     match method {
-        Method::Lazy => searches::lazy::lazy(
+        Method::Lazy => lazy_searches::lazy::lazy(
             starts,
             neighbours,
             weights,
@@ -55,12 +46,21 @@ fn search(
             k,
         ),
         Method::LazyEp => {
-            searches::lazy_ep::lazy_ep(starts, neighbours, weights, points, area, answers, q, k)
+            lazy_searches::lazy_ep::lazy_ep(
+                starts,
+                neighbours,
+                weights,
+                points,
+                area,
+                answers,
+                q,
+                k,
+            )
         }
     }
 }
 
-// Searches and leaves the whole scratch zero. Only the words that are used are cleared before.
+// Clears the scratch, and searches over the part of it that either search fills: lazy-EP has rows of k places and a second queue of k A + n entries.
 fn run(
     method: Method,
     starts: &[u32],
@@ -73,22 +73,24 @@ fn run(
     answers: &mut [u32],
 ) -> usize
     requires { ⌜ SearchReady (network (now starts) (now neighbours) (now weights)) (now points) q k (now scratch) (now answers) ⌝ }
-    ensures { λ r. ⌜ (now (scratch .exit) ≡ replicate (length (now (scratch .entry))) 0) × LazyDone (network (now (starts .entry)) (now (neighbours .entry)) (now (weights .entry))) (now (points .entry)) q k (now (answers .entry)) (now (answers .exit)) r ⌝ }
+    ensures { λ r. ⌜ SearchLeft (network (now (starts .entry)) (now (neighbours .entry)) (now (weights .entry))) (now (points .entry)) q k (now (scratch .entry)) (now (scratch .exit)) (now (answers .entry)) (now (answers .exit)) r ⌝ }
 {
-    let used = method_words(method, starts.len() - 1, neighbours.len(), wide(k));
-    let size = search(
+    let n = starts.len() - 1;
+    let arcs = neighbours.len();
+    let k = wide(k);
+    let used = 7 * n + 4 * (arcs + 1) + 2 * k * (n + arcs);
+    words::zero(scratch);
+    search(
         method,
         starts,
         neighbours,
         weights,
         points,
-        q,
-        wide(k),
         &mut scratch[..used],
         answers,
-    );
-    words::zero(scratch);
-    size
+        q,
+        k,
+    )
 }
 
 // The whole call.
@@ -105,7 +107,16 @@ pub fn answer(
 ) -> Listed
     ensures { λ r. ⌜ record { answer = r; scratch = now (scratch .exit); answers = now (answers .exit) } ≡ lazyOutcome (network (now (starts .entry)) (now (neighbours .entry)) (now (weights .entry))) (now (points .entry)) q k (now (scratch .entry)) (now (answers .entry)) ⌝ }
 {
-    let refusal = listed::number(starts, neighbours, weights, points, q, k, scratch, answers);
+    let refusal = numbers::search_number(
+        starts,
+        neighbours,
+        weights,
+        points,
+        q,
+        k,
+        scratch,
+        answers,
+    );
     if refusal != 0 {
         return Listed::Refused(refusal);
     }

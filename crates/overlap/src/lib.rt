@@ -331,7 +331,7 @@ fn update_of(answer: Updated) -> Update
 }
 
 // Insert. Lent: the network, the points, scratch of S entries with m = K, and both table arrays. Returned: number 0 and how many rows changed, or 1
-// to 5, 6, 7, 8, 10, 11. Accepted: the node is marked, the table of the points before is the table of the points after, and the whole scratch is
+// to 5, 6, 7, 8, 10, 11. Accepted: the node is marked, the table of the points before becomes the table of the points after, and the whole scratch is
 // zero; of a table that the check would deny nothing is said but its length and that the count is at most n. Refused: nothing is written. Document
 // 01: 'Insert marks a node, remove clears one; each brings the table up to date and returns the number of rows whose contents differ before and
 // after.'

@@ -1,11 +1,12 @@
-// The nearest call: its number, and its work once no condition is met.
+// The nearest call: its work once no condition is met. Document 01, 'What a site receives': 'Nearest: the points p with d(node, p) < e, e any 32-bit
+// number, by distance then node, cut after the first k; ids and distances in two arrays.'
 ghost use mathlib.Core.Path.{_≡_};
 ghost use Prim.Native.Nat.{_+_, _≤_};
 ghost use lib.ListN.{length, getD, replicate};
 ghost use Rattle.network.specs.Count.{tabulate};
 ghost use Rattle.network.specs.Network.{network};
 ghost use Rattle.network.specs.Answers.{answered};
-ghost use Rattle.overlap.specs.Nearest.{nearestNumber, nearestOutcome, NearestReady, NearestArea, NearestDone};
+ghost use Rattle.overlap.specs.Nearest.{nearestOutcome, NearestReady, NearestDone};
 use crate::numbers;
 use expansion::words;
 use network::arcs::wide;
@@ -14,31 +15,6 @@ use network::arcs::wide;
 pub enum Found {
     Refused(u32),
     Points(usize),
-}
-
-// The first condition met of 1 to 5, 6, 7, 9, 10, or 0.
-fn number(
-    starts: &[u32],
-    neighbours: &[u32],
-    weights: &[u32],
-    points: &[u8],
-    node: u32,
-    k: u32,
-    scratch: &[u32],
-    ids: &[u32],
-    distances: &[u32],
-) -> u32
-    ensures { λ r. ⌜ r ≡ nearestNumber (network (now (starts .entry)) (now (neighbours .entry)) (now (weights .entry))) (now (points .entry)) node k (now (scratch .entry)) (now (ids .entry)) (now (distances .entry)) ⌝ }
-{
-    let number = numbers::query_number(starts, neighbours, weights, points, node, k, scratch);
-    if number != 0 {
-        return number;
-    }
-    let number = numbers::short_number(ids.len(), wide(k));
-    if number != 0 {
-        return number;
-    }
-    numbers::short_number(distances.len(), wide(k))
 }
 
 // Copies `count` words from word `at` on to the front of an answer array.
@@ -53,40 +29,7 @@ fn copy(from: &[u32], at: usize, count: usize, answers: &mut [u32])
     }
 }
 
-// Writes the points, over an area of any contents.
-fn write(
-    starts: &[u32],
-    neighbours: &[u32],
-    weights: &[u32],
-    points: &[u8],
-    node: u32,
-    e: u32,
-    k: u32,
-    area: &mut [u32],
-    ids: &mut [u32],
-    distances: &mut [u32],
-) -> usize
-    requires { ⌜ NearestArea (network (now starts) (now neighbours) (now weights)) (now points) node k (now area) (now ids) (now distances) ⌝ }
-    ensures { λ r. ⌜ NearestDone (network (now (starts .entry)) (now (neighbours .entry)) (now (weights .entry))) (now (points .entry)) node e k (now (ids .entry)) (now (ids .exit)) (now (distances .entry)) (now (distances .exit)) r ⌝ }
-{
-    let places = wide(k);
-    words::zero(area);
-    let found = expansion::nearest::nearest(
-        starts,
-        neighbours,
-        weights,
-        points,
-        area,
-        node,
-        e,
-        places,
-    );
-    copy(area, 0, found, ids);
-    copy(area, places, found, distances);
-    found
-}
-
-// Writes the points and leaves the whole scratch zero. Only the words that are used are cleared before.
+// Clears the scratch, searches over it, copies what was found, and clears that.
 fn run(
     starts: &[u32],
     neighbours: &[u32],
@@ -102,20 +45,22 @@ fn run(
     requires { ⌜ NearestReady (network (now starts) (now neighbours) (now weights)) (now points) node k (now scratch) (now ids) (now distances) ⌝ }
     ensures { λ r. ⌜ (now (scratch .exit) ≡ replicate (length (now (scratch .entry))) 0) × NearestDone (network (now (starts .entry)) (now (neighbours .entry)) (now (weights .entry))) (now (points .entry)) node e k (now (ids .entry)) (now (ids .exit)) (now (distances .entry)) (now (distances .exit)) r ⌝ }
 {
-    let used = 2 * wide(k) + 2 * (starts.len() - 1) + 2 * (neighbours.len() + 1);
-    let found = write(
+    let places = wide(k);
+    words::zero(scratch);
+    let found = expansion::nearest::nearest(
         starts,
         neighbours,
         weights,
         points,
+        scratch,
         node,
         e,
-        k,
-        &mut scratch[..used],
-        ids,
-        distances,
+        places,
     );
-    words::zero(scratch);
+    copy(scratch, 0, found, ids);
+    copy(scratch, places, found, distances);
+    let end = 2 * places;
+    words::zero(&mut scratch[..end]);
     found
 }
 
@@ -134,7 +79,7 @@ pub fn answer(
 ) -> Found
     ensures { λ r. ⌜ record { answer = r; scratch = now (scratch .exit); ids = now (ids .exit); distances = now (distances .exit) } ≡ nearestOutcome (network (now (starts .entry)) (now (neighbours .entry)) (now (weights .entry))) (now (points .entry)) node e k (now (scratch .entry)) (now (ids .entry)) (now (distances .entry)) ⌝ }
 {
-    let refusal = number(
+    let refusal = numbers::nearest_number(
         starts,
         neighbours,
         weights,

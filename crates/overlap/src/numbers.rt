@@ -1,10 +1,17 @@
-// The conditions of refusal 6 to 11, each with its own number; 0 where it is not met. Document 01, 'Numbers of refusal'.
+// The number of each call: the first condition met, or 0. Document 01, 'Numbers of refusal'. The conditions 6 to 11 come first, each with its own
+// number, 0 where it is not met. S is computed behind the tests of n, A and m, so that no product wraps.
 ghost use mathlib.Core.Path.{_≡_};
 ghost use Prim.Native.Nat.{_+_, _*_, _≤_, _<_};
 ghost use lib.ListN.{length};
 ghost use Rattle.network.specs.Count.{any};
 ghost use Rattle.network.specs.Network.{network};
-ghost use Rattle.overlap.specs.Numbers.{badByteAt, pointsNumber, nodeNumber, tableNumber, kNumber, tableKNumber, shortNumber, markedNumber, unmarkedNumber, queryNumber, tableCheckNumber, tableNodeNumber, updateNumber};
+ghost use Rattle.overlap.specs.Numbers.{badByteAt, pointsNumber, nodeNumber, tableNumber, kNumber, tableKNumber, shortNumber, markedNumber, unmarkedNumber, networkPointsNumber, siteNumber, queryNumber, tableCheckNumber, tableNodeNumber, buildNumber, tableQueryNumber};
+ghost use Rattle.overlap.specs.Distances.{distancesNumber};
+ghost use Rattle.overlap.specs.Nearest.{nearestNumber};
+ghost use Rattle.overlap.specs.Verify.{verifyNumber};
+ghost use Rattle.overlap.specs.Listed.{searchNumber};
+ghost use Rattle.overlap.specs.Updated.{changeNumber};
+use crate::updated::Kind;
 use network::arcs::wide;
 
 // Of 6: a byte above 1.
@@ -23,7 +30,7 @@ fn bad_byte(points: &[u8]) -> bool
 }
 
 // 6: points has not n entries, or a byte above 1.
-pub fn points_number(n: usize, points: &[u8]) -> u32
+fn points_number(n: usize, points: &[u8]) -> u32
     ensures { λ r. ⌜ r ≡ pointsNumber n (now (points .entry)) ⌝ }
 {
     if points.len() != n {
@@ -36,7 +43,7 @@ pub fn points_number(n: usize, points: &[u8]) -> u32
 }
 
 // 7: a node given is n or more.
-pub fn node_number(n: usize, node: u32) -> u32
+fn node_number(n: usize, node: u32) -> u32
     ensures { λ r. ⌜ r ≡ nodeNumber n node ⌝ }
 {
     if n <= wide(node) {
@@ -46,7 +53,7 @@ pub fn node_number(n: usize, node: u32) -> u32
 }
 
 // 8: K is not 2 to 17, or a table array has not n × K entries.
-pub fn table_number(n: usize, places: u32, ids: usize, distances: usize) -> u32
+fn table_number(n: usize, places: u32, ids: usize, distances: usize) -> u32
     requires { ⌜ n ≤ 65535 ⌝ }
     ensures { λ r. ⌜ r ≡ tableNumber n places ids distances ⌝ }
 {
@@ -67,7 +74,7 @@ pub fn table_number(n: usize, places: u32, ids: usize, distances: usize) -> u32
 }
 
 // 9: k is 0 or above 16.
-pub fn k_number(k: u32) -> u32
+fn k_number(k: u32) -> u32
     ensures { λ r. ⌜ r ≡ kNumber k ⌝ }
 {
     if k == 0 {
@@ -80,7 +87,7 @@ pub fn k_number(k: u32) -> u32
 }
 
 // 9, by table: k is 0 or above K - 1.
-pub fn table_k_number(k: u32, places: u32) -> u32
+fn table_k_number(k: u32, places: u32) -> u32
     ensures { λ r. ⌜ r ≡ tableKNumber k places ⌝ }
 {
     if k == 0 {
@@ -93,7 +100,7 @@ pub fn table_k_number(k: u32, places: u32) -> u32
 }
 
 // S, the words of scratch that a call asks, for m from 1 to 17.
-pub fn scratch_words(n: usize, arcs: usize, m: u32) -> usize
+fn scratch_words(n: usize, arcs: usize, m: u32) -> usize
     requires { ⌜ (n ≤ 65535) × (arcs ≤ 524288) × (m ≤ 17) ⌝ }
     ensures { λ r. ⌜ r ≡ 16 * n + 8 * (arcs + n) * m ⌝ }
 {
@@ -101,7 +108,7 @@ pub fn scratch_words(n: usize, arcs: usize, m: u32) -> usize
 }
 
 // 10: an array has fewer entries than are asked.
-pub fn short_number(have: usize, need: usize) -> u32
+fn short_number(have: usize, need: usize) -> u32
     ensures { λ r. ⌜ r ≡ shortNumber have need ⌝ }
 {
     if have < need {
@@ -110,8 +117,16 @@ pub fn short_number(have: usize, need: usize) -> u32
     0
 }
 
+// 10: scratch has fewer words than S.
+fn scratch_number(n: usize, arcs: usize, m: u32, have: usize) -> u32
+    requires { ⌜ (n ≤ 65535) × (arcs ≤ 524288) × (m ≤ 17) ⌝ }
+    ensures { λ r. ⌜ r ≡ shortNumber have (16 * n + 8 * (arcs + n) * m) ⌝ }
+{
+    short_number(have, scratch_words(n, arcs, m))
+}
+
 // 11: insert on a marked node.
-pub fn marked_number(points: &[u8], p: u32) -> u32
+fn marked_number(points: &[u8], p: u32) -> u32
     requires { ⌜ p < length (now points) ⌝ }
     ensures { λ r. ⌜ r ≡ markedNumber (now (points .entry)) p ⌝ }
 {
@@ -123,7 +138,7 @@ pub fn marked_number(points: &[u8], p: u32) -> u32
 }
 
 // 11: remove or verify of an unmarked node.
-pub fn unmarked_number(points: &[u8], p: u32) -> u32
+fn unmarked_number(points: &[u8], p: u32) -> u32
     requires { ⌜ p < length (now points) ⌝ }
     ensures { λ r. ⌜ r ≡ unmarkedNumber (now (points .entry)) p ⌝ }
 {
@@ -134,8 +149,30 @@ pub fn unmarked_number(points: &[u8], p: u32) -> u32
     11
 }
 
-// What nearest and the searches test first: 1 to 5, 6, 7, 9, and 10 of scratch. S is computed where n, A and k are known to be in range.
-pub fn query_number(
+// What every call with points tests first: 1 to 5, 6.
+fn network_points_number(starts: &[u32], neighbours: &[u32], weights: &[u32], points: &[u8]) -> u32
+    ensures { λ r. ⌜ r ≡ networkPointsNumber (network (now (starts .entry)) (now (neighbours .entry)) (now (weights .entry))) (now (points .entry)) ⌝ }
+{
+    let number = network::check::network_number(starts, neighbours, weights);
+    if number != 0 {
+        return number;
+    }
+    points_number(starts.len() - 1, points)
+}
+
+// The same, and 7: what the calls with points and a node test first.
+fn site_number(starts: &[u32], neighbours: &[u32], weights: &[u32], points: &[u8], node: u32) -> u32
+    ensures { λ r. ⌜ r ≡ siteNumber (network (now (starts .entry)) (now (neighbours .entry)) (now (weights .entry))) (now (points .entry)) node ⌝ }
+{
+    let number = network_points_number(starts, neighbours, weights, points);
+    if number != 0 {
+        return number;
+    }
+    node_number(starts.len() - 1, node)
+}
+
+// What nearest and the searches test first: 1 to 5, 6, 7, 9, and 10 of scratch.
+fn query_number(
     starts: &[u32],
     neighbours: &[u32],
     weights: &[u32],
@@ -146,16 +183,7 @@ pub fn query_number(
 ) -> u32
     ensures { λ r. ⌜ r ≡ queryNumber (network (now (starts .entry)) (now (neighbours .entry)) (now (weights .entry))) (now (points .entry)) node k (now (scratch .entry)) ⌝ }
 {
-    let number = network::check::network_number(starts, neighbours, weights);
-    if number != 0 {
-        return number;
-    }
-    let n = starts.len() - 1;
-    let number = points_number(n, points);
-    if number != 0 {
-        return number;
-    }
-    let number = node_number(n, node);
+    let number = site_number(starts, neighbours, weights, points, node);
     if number != 0 {
         return number;
     }
@@ -163,11 +191,115 @@ pub fn query_number(
     if number != 0 {
         return number;
     }
-    let need = scratch_words(n, neighbours.len(), k);
-    short_number(scratch.len(), need)
+    scratch_number(starts.len() - 1, neighbours.len(), k, scratch.len())
 }
 
-// What build and the table check test first: 1 to 5, 6, 8.
+// Distances: 1 to 5, 7, 10.
+pub fn distances_number(
+    starts: &[u32],
+    neighbours: &[u32],
+    weights: &[u32],
+    node: u32,
+    scratch: &[u32],
+    answers: &[u32],
+) -> u32
+    ensures { λ r. ⌜ r ≡ distancesNumber (network (now (starts .entry)) (now (neighbours .entry)) (now (weights .entry))) node (now (scratch .entry)) (now (answers .entry)) ⌝ }
+{
+    let number = network::check::network_number(starts, neighbours, weights);
+    if number != 0 {
+        return number;
+    }
+    let n = starts.len() - 1;
+    let number = node_number(n, node);
+    if number != 0 {
+        return number;
+    }
+    let number = scratch_number(n, neighbours.len(), 1, scratch.len());
+    if number != 0 {
+        return number;
+    }
+    short_number(answers.len(), n)
+}
+
+// Nearest: 1 to 5, 6, 7, 9, 10.
+pub fn nearest_number(
+    starts: &[u32],
+    neighbours: &[u32],
+    weights: &[u32],
+    points: &[u8],
+    node: u32,
+    k: u32,
+    scratch: &[u32],
+    ids: &[u32],
+    distances: &[u32],
+) -> u32
+    ensures { λ r. ⌜ r ≡ nearestNumber (network (now (starts .entry)) (now (neighbours .entry)) (now (weights .entry))) (now (points .entry)) node k (now (scratch .entry)) (now (ids .entry)) (now (distances .entry)) ⌝ }
+{
+    let number = query_number(starts, neighbours, weights, points, node, k, scratch);
+    if number != 0 {
+        return number;
+    }
+    let number = short_number(ids.len(), wide(k));
+    if number != 0 {
+        return number;
+    }
+    short_number(distances.len(), wide(k))
+}
+
+// Verify: 1 to 5, 6, 7, 9, 10, 11.
+pub fn verify_number(
+    starts: &[u32],
+    neighbours: &[u32],
+    weights: &[u32],
+    points: &[u8],
+    p: u32,
+    q: u32,
+    k: u32,
+    scratch: &[u32],
+) -> u32
+    ensures { λ r. ⌜ r ≡ verifyNumber (network (now (starts .entry)) (now (neighbours .entry)) (now (weights .entry))) (now (points .entry)) p q k (now (scratch .entry)) ⌝ }
+{
+    let number = site_number(starts, neighbours, weights, points, p);
+    if number != 0 {
+        return number;
+    }
+    let n = starts.len() - 1;
+    let number = node_number(n, q);
+    if number != 0 {
+        return number;
+    }
+    let number = k_number(k);
+    if number != 0 {
+        return number;
+    }
+    let number = scratch_number(n, neighbours.len(), k, scratch.len());
+    if number != 0 {
+        return number;
+    }
+    unmarked_number(points, p)
+}
+
+// Eager but for 12, lazy and lazy-EP: 1 to 5, 6, 7, 9, 10.
+pub fn search_number(
+    starts: &[u32],
+    neighbours: &[u32],
+    weights: &[u32],
+    points: &[u8],
+    q: u32,
+    k: u32,
+    scratch: &[u32],
+    answers: &[u32],
+) -> u32
+    ensures { λ r. ⌜ r ≡ searchNumber (network (now (starts .entry)) (now (neighbours .entry)) (now (weights .entry))) (now (points .entry)) q k (now (scratch .entry)) (now (answers .entry)) ⌝ }
+{
+    let number = query_number(starts, neighbours, weights, points, q, k, scratch);
+    if number != 0 {
+        return number;
+    }
+    short_number(answers.len(), starts.len() - 1)
+}
+
+// The table check: 1 to 5, 6, 8.
 pub fn table_check_number(
     starts: &[u32],
     neighbours: &[u32],
@@ -179,20 +311,35 @@ pub fn table_check_number(
 ) -> u32
     ensures { λ r. ⌜ r ≡ tableCheckNumber (network (now (starts .entry)) (now (neighbours .entry)) (now (weights .entry))) (now (points .entry)) places (now (ids .entry)) (now (distances .entry)) ⌝ }
 {
-    let number = network::check::network_number(starts, neighbours, weights);
+    let number = network_points_number(starts, neighbours, weights, points);
     if number != 0 {
         return number;
     }
-    let n = starts.len() - 1;
-    let number = points_number(n, points);
+    table_number(starts.len() - 1, places, ids.len(), distances.len())
+}
+
+// Build: 1 to 5, 6, 8, 10.
+pub fn build_number(
+    starts: &[u32],
+    neighbours: &[u32],
+    weights: &[u32],
+    points: &[u8],
+    places: u32,
+    scratch: &[u32],
+    ids: &[u32],
+    distances: &[u32],
+) -> u32
+    ensures { λ r. ⌜ r ≡ buildNumber (network (now (starts .entry)) (now (neighbours .entry)) (now (weights .entry))) (now (points .entry)) places (now (scratch .entry)) (now (ids .entry)) (now (distances .entry)) ⌝ }
+{
+    let number = table_check_number(starts, neighbours, weights, points, places, ids, distances);
     if number != 0 {
         return number;
     }
-    table_number(n, places, ids.len(), distances.len())
+    scratch_number(starts.len() - 1, neighbours.len(), places, scratch.len())
 }
 
 // What the calls with a node and a table test first: 1 to 5, 6, 7, 8.
-pub fn table_node_number(
+fn table_node_number(
     starts: &[u32],
     neighbours: &[u32],
     weights: &[u32],
@@ -204,24 +351,16 @@ pub fn table_node_number(
 ) -> u32
     ensures { λ r. ⌜ r ≡ tableNodeNumber (network (now (starts .entry)) (now (neighbours .entry)) (now (weights .entry))) (now (points .entry)) node places (now (ids .entry)) (now (distances .entry)) ⌝ }
 {
-    let number = network::check::network_number(starts, neighbours, weights);
+    let number = site_number(starts, neighbours, weights, points, node);
     if number != 0 {
         return number;
     }
-    let n = starts.len() - 1;
-    let number = points_number(n, points);
-    if number != 0 {
-        return number;
-    }
-    let number = node_number(n, node);
-    if number != 0 {
-        return number;
-    }
-    table_number(n, places, ids.len(), distances.len())
+    table_number(starts.len() - 1, places, ids.len(), distances.len())
 }
 
-// What insert and remove test before the marks: 10 of scratch too.
-pub fn update_number(
+// Insert and remove: 1 to 5, 6, 7, 8, 10, 11.
+pub fn change_number(
+    kind: Kind,
     starts: &[u32],
     neighbours: &[u32],
     weights: &[u32],
@@ -232,7 +371,7 @@ pub fn update_number(
     ids: &[u32],
     distances: &[u32],
 ) -> u32
-    ensures { λ r. ⌜ r ≡ updateNumber (network (now (starts .entry)) (now (neighbours .entry)) (now (weights .entry))) (now (points .entry)) node places (now (scratch .entry)) (now (ids .entry)) (now (distances .entry)) ⌝ }
+    ensures { λ r. ⌜ r ≡ changeNumber kind (network (now (starts .entry)) (now (neighbours .entry)) (now (weights .entry))) (now (points .entry)) node places (now (scratch .entry)) (now (ids .entry)) (now (distances .entry)) ⌝ }
 {
     let number = table_node_number(
         starts,
@@ -247,6 +386,53 @@ pub fn update_number(
     if number != 0 {
         return number;
     }
-    let need = scratch_words(starts.len() - 1, neighbours.len(), places);
-    short_number(scratch.len(), need)
+    let number = scratch_number(starts.len() - 1, neighbours.len(), places, scratch.len());
+    if number != 0 {
+        return number;
+    }
+    match kind {
+        Kind::Insert => marked_number(points, node),
+        Kind::Remove => unmarked_number(points, node),
+    }
+}
+
+// The table query: 1 to 5, 6, 7, 8, 9, 10.
+pub fn table_query_number(
+    starts: &[u32],
+    neighbours: &[u32],
+    weights: &[u32],
+    points: &[u8],
+    q: u32,
+    k: u32,
+    places: u32,
+    ids: &[u32],
+    distances: &[u32],
+    scratch: &[u32],
+    answers: &[u32],
+) -> u32
+    ensures { λ r. ⌜ r ≡ tableQueryNumber (network (now (starts .entry)) (now (neighbours .entry)) (now (weights .entry))) (now (points .entry)) q k places (now (ids .entry)) (now (distances .entry)) (now (scratch .entry)) (now (answers .entry)) ⌝ }
+{
+    let number = table_node_number(
+        starts,
+        neighbours,
+        weights,
+        points,
+        q,
+        places,
+        ids,
+        distances,
+    );
+    if number != 0 {
+        return number;
+    }
+    let number = table_k_number(k, places);
+    if number != 0 {
+        return number;
+    }
+    let n = starts.len() - 1;
+    let number = scratch_number(n, neighbours.len(), k, scratch.len());
+    if number != 0 {
+        return number;
+    }
+    short_number(answers.len(), n)
 }

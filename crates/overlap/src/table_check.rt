@@ -1,4 +1,5 @@
-// The table check: its number, and the check once no condition is met.
+// The table check: the check once no condition is met. Document 01, 'The table': 'Table check: yes exactly when both arrays are the table that build
+// would write, whoever filled them.'
 ghost use mathlib.Core.Path.{_≡_};
 ghost use Rattle.network.specs.Network.{network};
 ghost use Rattle.overlap.specs.TableCheck.{tableCheckAnswer};
@@ -30,7 +31,7 @@ pub fn answer(
     if refusal != 0 {
         return Rule::Refused(refusal);
     }
-    let yes = table::check::check(
+    let yes = rows::check::check(
         starts,
         neighbours,
         weights,

@@ -1,7 +1,9 @@
-// The insert and the remove call: their number, and their work once no condition is met.
+// The insert and the remove call: their work once no condition is met. Document 01, 'The table': 'Insert marks a node, remove clears one; each brings
+// the table up to date and returns the number of rows whose contents differ before and after.'
 ghost use mathlib.Core.Path.{_≡_};
 ghost use Rattle.network.specs.Network.{network};
-ghost use Rattle.overlap.specs.Updated.{kindMarks, changeNumber, UpdateDone, ChangeLeft, updatedUpdate, ChangeReady, ChangeArea, ChangeDone};
+ghost use Rattle.table.specs.Updated as table;
+ghost use Rattle.overlap.specs.Updated.{kindMarks, ChangeLeft, updatedUpdate, ChangeReady, CanChange};
 use crate::numbers;
 use expansion::words;
 use network::arcs::wide;
@@ -18,42 +20,7 @@ pub enum Updated {
     Changed(u32),
 }
 
-// The first condition met of 1 to 5, 6, 7, 8, 10, 11, or 0.
-fn number(
-    kind: Kind,
-    starts: &[u32],
-    neighbours: &[u32],
-    weights: &[u32],
-    points: &[u8],
-    node: u32,
-    places: u32,
-    scratch: &[u32],
-    ids: &[u32],
-    distances: &[u32],
-) -> u32
-    ensures { λ r. ⌜ r ≡ changeNumber kind (network (now (starts .entry)) (now (neighbours .entry)) (now (weights .entry))) (now (points .entry)) node places (now (scratch .entry)) (now (ids .entry)) (now (distances .entry)) ⌝ }
-{
-    let number = numbers::update_number(
-        starts,
-        neighbours,
-        weights,
-        points,
-        node,
-        places,
-        scratch,
-        ids,
-        distances,
-    );
-    if number != 0 {
-        return number;
-    }
-    match kind {
-        Kind::Insert => numbers::marked_number(points, node),
-        Kind::Remove => numbers::unmarked_number(points, node),
-    }
-}
-
-// Brings marks and table up to date, over an area of any contents.
+// Brings marks and table up to date, over an area that is all 0 before and after.
 fn change(
     kind: Kind,
     starts: &[u32],
@@ -66,10 +33,9 @@ fn change(
     node: u32,
     places: usize,
 ) -> u32
-    requires { ⌜ ChangeArea kind (network (now starts) (now neighbours) (now weights)) (now points) node places (now area) (now ids) (now distances) ⌝ }
-    ensures { λ r. ⌜ ChangeDone (network (now (starts .entry)) (now (neighbours .entry)) (now (weights .entry))) (now (points .entry)) (kindMarks kind (now (points .entry)) node) (now (points .exit)) places (now (ids .entry)) (now (distances .entry)) (now (ids .exit)) (now (distances .exit)) r ⌝ }
+    requires { ⌜ CanChange kind (network (now starts) (now neighbours) (now weights)) (now points) (now area) (now ids) (now distances) node places ⌝ }
+    ensures { λ r. ⌜ table.UpdateLeft (network (now (starts .entry)) (now (neighbours .entry)) (now (weights .entry))) (now (points .entry)) (kindMarks kind (now (points .entry)) node) (now (points .exit)) (now (area .entry)) (now (area .exit)) (now (ids .entry)) (now (distances .entry)) (now (ids .exit)) (now (distances .exit)) places r ⌝ }
 {
-    words::zero(area);
     match kind {
         Kind::Insert => table::insert::insert(
             starts,
@@ -96,7 +62,7 @@ fn change(
     }
 }
 
-// The same, and leaves the whole scratch zero. Only the words that are used are cleared before.
+// Clears the scratch, and brings marks and table up to date over the part of it that is used.
 fn run(
     kind: Kind,
     starts: &[u32],
@@ -110,10 +76,11 @@ fn run(
     distances: &mut [u32],
 ) -> u32
     requires { ⌜ ChangeReady kind (network (now starts) (now neighbours) (now weights)) (now points) node places (now scratch) (now ids) (now distances) ⌝ }
-    ensures { λ r. ⌜ UpdateDone (network (now (starts .entry)) (now (neighbours .entry)) (now (weights .entry))) (kindMarks kind (now (points .entry)) node) places (record { points = now (points .entry); scratch = now (scratch .entry); ids = now (ids .entry); distances = now (distances .entry) }) (record { points = now (points .exit); scratch = now (scratch .exit); ids = now (ids .exit); distances = now (distances .exit) }) r ⌝ }
+    ensures { λ r. ⌜ table.UpdateLeft (network (now (starts .entry)) (now (neighbours .entry)) (now (weights .entry))) (now (points .entry)) (kindMarks kind (now (points .entry)) node) (now (points .exit)) (now (scratch .entry)) (now (scratch .exit)) (now (ids .entry)) (now (distances .entry)) (now (ids .exit)) (now (distances .exit)) places r ⌝ }
 {
     let used = 3 * (starts.len() - 1) + 2 * (neighbours.len() + 1);
-    let changed = change(
+    words::zero(scratch);
+    change(
         kind,
         starts,
         neighbours,
@@ -124,9 +91,7 @@ fn run(
         distances,
         node,
         wide(places),
-    );
-    words::zero(scratch);
-    changed
+    )
 }
 
 // The whole call.
@@ -144,7 +109,7 @@ pub fn answer(
 ) -> Updated
     ensures { λ r. ⌜ ChangeLeft kind (network (now (starts .entry)) (now (neighbours .entry)) (now (weights .entry))) node places (record { points = now (points .entry); scratch = now (scratch .entry); ids = now (ids .entry); distances = now (distances .entry) }) (record { points = now (points .exit); scratch = now (scratch .exit); ids = now (ids .exit); distances = now (distances .exit) }) (updatedUpdate r) ⌝ }
 {
-    let refusal = number(
+    let refusal = numbers::change_number(
         kind,
         starts,
         neighbours,

@@ -6,15 +6,16 @@ use mathlib.Core.Bool.{true, false}
 use mathlib.Core.Logic.{_≢_, inl}
 use mathlib.Core.List.{List}
 use native.Mathlib.Omega.{arith}
+use native.Mathlib.Decide.{ℕ-discrete}
 use Rattle.network.specs.Network.{Network, nodeCount}
 use Rattle.network.specs.Accepted.{Accepted}
 use Rattle.network.specs.Walk.{Walk}
 use Rattle.network.specs.Distance.{NONE, dist}
 use Rattle.network.specs.Points.{marked, isNearer, countNearer, isListed, isExpanded}
-use Rattle.network.specs.Nearest.{key}
+use Rattle.network.specs.Nearest.{key, Nearer, before, isBefore}
 use Rattle.network.proofs.Counts.{count-mono, without, without-other, count-without}
 use Rattle.network.proofs.Distances.{dist-walk, dist-symmetric}
-use Rattle.network.proofs.Rank.{Nearer, Near, before, isBefore, nearer-passes, passes-before}
+use Rattle.network.proofs.Rank.{Near, nearer-passes, passes-before}
 use Rattle.expansion.proofs.Search.{Explored, closed-leads, finished}
 use Rattle.searches.proofs.Beaten.{Unbeaten, Part, unbeaten-closed, expanded-unbeaten}
 use Rattle.searches.proofs.Listed.{listed-parts, lazy-open}
@@ -51,6 +52,16 @@ module _ {g : Network} (ok : Accepted g) (P : List ℕ) (q k : ℕ) (Settled : �
         settled = all (f .node) (f .met) (omega (arith, f .reach));
         near = record { nearer = n; few = omega (arith, before-less n, rw (← e) at (f .few)) };
       }
+
+  -- so each listed point is flagged, where the site's own is, and those that are found from a settled node are
+  pub listed-flagged : (Flagged : ℕ → Type 0) → (isListed g P q k q ≡ true → Flagged q)
+      → ((v m p : ℕ) → Settled v m → Near g P v m k p → isListed g P q k p ≡ true → Flagged p)
+      → (p : ℕ) → p < nodeCount g → isListed g P q k p ≡ true → Flagged p
+  listed-flagged Flagged own told p low h =
+      elim (ℕ-discrete p q) [
+        | yes e ↦ rw e (own (rw e at h))
+        | no n ↦ let f = eager-finished p low h n in told (f .node) (dist g q (f .node)) p (f .settled) (f .near) h
+      ]
 
   -- the nodes that the search goes through are settled
   pub expanded-settled : (m : ℕ) → isExpanded g P q k m ≡ true → Settled m (dist g q m)

@@ -33,11 +33,11 @@ use Rattle.searches.specs.Flags.{idsBase, Flags, CanLook, Looked}
 use Rattle.searches.specs.Eager.{CanExplore, isFound}
 use Rattle.searches.proofs.Beaten.{Beaten, Unbeaten, stops, goes-on, expanded-unbeaten}
 use Rattle.searches.proofs.Finds.{Met, met-leads}
-use Rattle.searches.proofs.Answers.{eager-finished, expanded-settled, come-expanded}
-use Rattle.searches.proofs.Lends.{first-size, first-part, first-after}
+use Rattle.searches.proofs.Answers.{listed-flagged, expanded-settled, come-expanded}
+use Rattle.network.proofs.Lends.{first-size, first-part, first-after}
 use Rattle.searches.proofs.FlagLaws.{flag-right}
 use Rattle.searches.proofs.LookLaws.{flags-same}
-use Rattle.searches.proofs.Stopping.{kept-same, progress-stopped, took-beside}
+use Rattle.expansion.proofs.Stopping.{kept-same, progress-stopped, took-beside}
 
 -- a settled node that is expanded
 abbrev pub isDone : Network → List ℕ → ℕ → ℕ → List ℕ → ℕ → ℕ → Bool
@@ -288,13 +288,7 @@ module _ {g : Network} {P : List ℕ} {q k b : ℕ} {s₀ : List ℕ} (c : CanEx
         by x false a = and-right (not (unsettled xs b x)) (isExpanded g P q k x) a ∙ sym a
 
     listed-flag : (p : ℕ) → p < nodeCount g → isListed g P q k p ≡ true → getD xs (nodeCount g + p) 0 ≢ 0
-    listed-flag p h a =
-        elim (ℕ-discrete p q) [
-          | yes s ↦ rw s (e .own (rw s at a))
-          | no n ↦
-              let f = eager-finished ok P q k (LabelAt (nodeCount g) xs b) all p h a n in
-              e .told (f .node) (dist g q (f .node)) p (f .settled) (f .near) a
-        ]
+    listed-flag = listed-flagged ok P q k (LabelAt (nodeCount g) xs b) all (λ p. getD xs (nodeCount g + p) 0 ≢ 0) (e .own) (e .told)
 
     pub found-all : (p : ℕ) → p < nodeCount g → isFound (nodeCount g) ys p ≡ isListed g P q k p
     found-all p h =

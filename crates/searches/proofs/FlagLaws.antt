@@ -16,7 +16,7 @@ use Rattle.network.specs.Points.{marked, verified, isListed}
 use Rattle.network.proofs.Tests.{and-parts, and-intro}
 use Rattle.expansion.specs.Area.{Blank}
 use Rattle.expansion.specs.Visited.{CanVisit, VerifyLeft}
-use Rattle.searches.specs.Flags.{idsBase, innerBase, Grows, CanVerify, CanVerifyAll, Verified, VerifiedAll}
+use Rattle.searches.specs.Flags.{idsBase, innerBase, Grows, CanVerify, CanVerifyAll, Verified, VerifiedAll, Flags}
 
 -- a flag that is set exactly where a test passes
 pub flag-right : (word : ℕ) (test : Bool) → (test ≡ true → word ≢ 0) → (word ≢ 0 → test ≡ true) → not (eqb word 0) ≡ test
@@ -39,6 +39,33 @@ module _ (g : Network) (P : List ℕ) (q k p : ℕ) where
   unfolding isListed
   verified-listed m e = and-intro (marked P p) _ m e
 
+-- only p's flags change
+module _ (g : Network) (p : ℕ) (xs ws : List ℕ) (inside : p < nodeCount g) (other : (i : ℕ) → i ≢ p → i ≢ nodeCount g + p → getD ws i 0 ≡ getD xs i 0) where
+  pub changed-grows : (getD xs (nodeCount g + p) 0 ≢ 0 → getD ws (nodeCount g + p) 0 ≢ 0) → Grows g xs ws
+  changed-grows keeps x h n =
+      elim (ℕ-discrete x p) [
+        | yes e ↦ rw e (keeps (rw e at n))
+        | no m ↦ rw (other (nodeCount g + x) (omega arith) (omega arith)) n
+      ]
+
+  pub changed-flags : {P : List ℕ} {q k : ℕ} → Flags g P q k xs → (getD ws (nodeCount g + p) 0 ≢ 0 → isListed g P q k p ≡ true)
+      → (isListed g P q k p ≡ true → getD ws (nodeCount g + p) 0 ≢ 0) → Flags g P q k ws
+  changed-flags f sound told =
+      record {
+        sound =
+            λ x h n.
+            elim (ℕ-discrete x p) [
+              | yes e ↦ rw e (sound (rw e at n))
+              | no m ↦ f .sound x h (rw (other (nodeCount g + x) (omega arith) (omega arith)) at n)
+            ];
+        once =
+            λ x h n l.
+            elim (ℕ-discrete x p) [
+              | yes e ↦ rw e (told (rw e at l))
+              | no m ↦ changed-grows (λ a. told (f .sound p inside a)) x h (f .once x h (rw (other x m (omega arith)) at n) l)
+            ];
+      }
+
 module _ {g : Network} {P : List ℕ} {q k p : ℕ} {xs : List ℕ} (c : CanVerify g P q k xs p) where
   -- it was verified before
   pub verified-seen : getD xs p 0 ≢ 0 → Verified g P q k xs xs p
@@ -58,32 +85,11 @@ module _ {g : Network} {P : List ℕ} {q k p : ℕ} {xs : List ℕ} (c : CanVeri
             record {
               size = size;
               words = λ i h. other i (omega (arith, c .inside)) (omega (arith, c .inside));
-              flags = record { sound = sounds; once = onces };
-              grows = grown;
+              flags = changed-flags g p xs ws (c .inside) other (c .front .flags) sound told;
+              grows = changed-grows g p xs ws (c .inside) other (λ n. told (c .front .flags .sound p (c .inside) n));
             };
         told = told;
       }
-    where
-      grown : Grows g xs ws
-      grown x h n =
-          elim (ℕ-discrete x p) [
-            | yes e ↦ rw e (told (c .front .flags .sound p (c .inside) (rw e at n)))
-            | no m ↦ rw (other (nodeCount g + x) (omega (arith, c .inside)) (omega arith)) n
-          ]
-
-      sounds : (x : ℕ) → x < nodeCount g → getD ws (nodeCount g + x) 0 ≢ 0 → isListed g P q k x ≡ true
-      sounds x h n =
-          elim (ℕ-discrete x p) [
-            | yes e ↦ rw e (sound (rw e at n))
-            | no m ↦ c .front .flags .sound x h (rw (other (nodeCount g + x) (omega (arith, c .inside)) (omega arith)) at n)
-          ]
-
-      onces : (x : ℕ) → x < nodeCount g → getD ws x 0 ≢ 0 → isListed g P q k x ≡ true → getD ws (nodeCount g + x) 0 ≢ 0
-      onces x h n l =
-          elim (ℕ-discrete x p) [
-            | yes e ↦ rw e (told (rw e at l))
-            | no m ↦ grown x h (c .front .flags .once x h (rw (other x m (omega arith)) at n) l)
-          ]
 
   -- what `verify` requires, when p's flag is set
   blank-set : Blank (set xs p 1) (innerBase g k)

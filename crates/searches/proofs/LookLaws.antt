@@ -1,10 +1,10 @@
 -- Looking at a node: the words behind the flags are lent to `nearest`, the found points are verified, and their words are cleared.
 -- Assumes nothing.
 use Prim.Native.Nat.{ℕ, zero, suc, _+_, _-_, _≤_, _<_}
-use mathlib.Core.Path.{_≡_, refl, sym, ap, _∙_}
+use mathlib.Core.Path.{_≡_, sym, ap, _∙_}
 use mathlib.Core.Bool.{true}
 use mathlib.Core.Logic.{_≢_, ⊎-elim}
-use mathlib.Core.List.{List, [], _∷_, List·Memᴰ, List·Memᴰ·head, List·Memᴰ·tail, List·Memᴰ·cases-cons, List·Memᴰ·not-nil}
+use mathlib.Core.List.{List, [], _∷_, List·Memᴰ, List·Memᴰ·cases-cons, List·Memᴰ·not-nil}
 use native.Mathlib.Decide.{decLt}
 use native.Mathlib.Omega.{arith}
 use lib.ListN.{length, getD, replicate, length-replicate}
@@ -19,7 +19,8 @@ use Rattle.expansion.proofs.LentParts.{lent-part, lent-length}
 use Rattle.expansion.proofs.FoundLaws.{Next}
 use Rattle.expansion.proofs.Settled.{zero-blank}
 use Rattle.searches.specs.Flags.{idsBase, innerBase, Flags, CanVerifyAll, VerifiedAll, CanLook, Looked}
-use Rattle.searches.proofs.Lends.{Returned, returned}
+use Rattle.network.proofs.Lends.{Returned, returned}
+use Rattle.network.proofs.Counts.{member-at}
 
 -- the same flags
 pub flags-same : {g : Network} {P : List ℕ} {q k : ℕ} {xs ys : List ℕ} → ((i : ℕ) → i < idsBase g → getD ys i 0 ≡ getD xs i 0) → Flags g P q k xs → Flags g P q k ys
@@ -29,12 +30,7 @@ flags-same {g} same f =
       once = λ p h n l. rw (same (nodeCount g + p) (omega arith)) (f .once p h (rw (same p (omega arith)) at n) l);
     }
 
--- a place of a list holds a member, and a member has a place
-pub getD-member : (xs : List (ℕ × ℕ)) (i : ℕ) → i < length xs → List·Memᴰ (getD xs i (0, 0)) xs
-getD-member [] i h = absurd (omega arith)
-getD-member (x ∷ xs) zero h = List·Memᴰ·head refl
-getD-member (x ∷ xs) (suc i) h = List·Memᴰ·tail (getD-member xs i (omega arith))
-
+-- a member of a list has a place
 pub place-of : (xs : List (ℕ × ℕ)) (z : ℕ × ℕ) → List·Memᴰ z xs → (i : ℕ) × Next xs i z
 place-of [] z m = absurd (List·Memᴰ·not-nil m)
 place-of (x ∷ xs) z m =
@@ -73,7 +69,7 @@ module _ {g : Network} {P : List ℕ} {q k : ℕ} {xs : List ℕ} {v : ℕ} (c :
     entry : (i : ℕ) → i < r → Entry g P v l k (getD zs i 0) (getD zs (k + i) 0)
     entry i h =
         listed-near (c .front .accepted) P v l k (getD zs i 0) (getD zs (k + i) 0)
-        (rw (n .found-in .entry i h) (getD-member (nearest g P v l k) i (omega (arith, n .found-in .count))))
+        (rw (n .found-in .entry i h) (member-at (0, 0) (nearest g P v l k) i (omega (arith, n .found-in .count))))
 
     few : r ≤ k
     few = omega (arith, n .found-in .count, nearest-length g P v l k)

@@ -10,7 +10,7 @@ use lib.Seq.{length-take-le}
 use Rattle.expansion.specs.Area.{Wiped}
 use Rattle.expansion.proofs.Settled.{zero-blank}
 use Rattle.searches.specs.Eager.{CanWipe}
-use Rattle.searches.proofs.Lends.{first-size, first-part, first-after}
+use Rattle.network.proofs.Lends.{first-size, first-part, first-after}
 
 module _ {n : ℕ} {xs ys : List ℕ} {b settled len : ℕ} (c : CanWipe n xs b settled len) (w : Wiped xs ys b) where
   pub flags-fit : 2 * n ≤ length ys

@@ -1,6 +1,3 @@
-// The searches for the points that list a site: eager, lazy, and lazy with extended pruning.
+// The searches for the points that list a site: eager, and what it shares with the others.
 pub mod eager;
 pub mod flags;
-pub mod lazy;
-pub mod lazy_ep;
-mod second;

@@ -2,7 +2,7 @@
 -- Assumes nothing.
 use Prim.Native.Nat.{ℕ, zero, _+_}
 use mathlib.Core.Path.{_≡_, refl, sym, ap, _∙_}
-use mathlib.Core.Logic.{_≢_, _⊎_, inl, inr, ⊎-elim}
+use mathlib.Core.Logic.{_≢_, inl, inr, ⊎-elim}
 use mathlib.Core.Bool.{true}
 use mathlib.Core.List.{List}
 use native.Mathlib.Decide.{ℕ-discrete}
@@ -14,7 +14,8 @@ use Rattle.network.specs.Network.{Network, nodeCount}
 use Rattle.network.specs.Points.{marked}
 use Rattle.expansion.specs.Queue.{Queue, PushedAt}
 use Rattle.expansion.specs.Area.{Blank}
-use Rattle.table.specs.Build.{StandsIn, offerKey, arcOffer, OfferedBy, Offered, SeededBy, Seeded}
+use Rattle.table.specs.Offer.{offerOf, arcOffer, OfferedBy}
+use Rattle.table.specs.Build.{StandsIn, Offered, SeededBy, Seeded}
 
 -- stands: the first j ids are not p
 pub stands-none : {ids : List ℕ} {p : ℕ} → StandsIn ids 0 p → ⊥
@@ -96,7 +97,7 @@ module _ {P xs : List ℕ} where
           );
         }
 
-    pub seeded-point : {zs : List ℕ} → marked P v ≡ true → PushedAt ys zs (length P) len (offerKey v v 0) → Seeded P xs zs (v + 1) (len + 1)
+    pub seeded-point : {zs : List ℕ} → marked P v ≡ true → PushedAt ys zs (length P) len (offerOf v v 0) → Seeded P xs zs (v + 1) (len + 1)
     seeded-point m t =
         record {
           frame = record { size = t .size ∙ f .frame .size; words = λ i h. t .before i h ∙ f .frame .words i h };
@@ -110,7 +111,7 @@ module _ {P xs : List ℕ} where
                 (t .queue .holds k .0 h),
             λ s.
                 elim (ℕ-discrete (s .node) v) [
-                  | yes e ↦ t .queue .holds k .1 (inr (s .is ∙ ap (λ (x : ℕ). offerKey x x 0) e))
+                  | yes e ↦ t .queue .holds k .1 (inr (s .is ∙ ap (λ (x : ℕ). offerOf x x 0) e))
                   | no n ↦ t .queue .holds k .1 (inl (f .holds k .1 (record { node = s .node; low = omega (arith, s .low); point = s .point; is = s .is })))
                 ],
           );

@@ -13,12 +13,11 @@ use Rattle.network.specs.Network.{Network, Arc, nodeCount}
 use Rattle.network.specs.Accepted.{Accepted}
 use Rattle.network.specs.Walk.{step}
 use Rattle.network.specs.Distance.{NONE, dist}
-use Rattle.network.specs.Nearest.{key}
+use Rattle.network.specs.Nearest.{key, Rising, Nearer}
 use Rattle.network.proofs.Distances.{dist-at-most, dist-walk, dist-zero}
-use Rattle.network.proofs.Rising.{Rising}
-use Rattle.network.proofs.Rank.{Nearer, key-other}
-use Rattle.table.specs.Exact.{Sorted, Sound, Placed, stands, full, Table}
-use Rattle.table.proofs.Partial.{Partial, no-shorter}
+use Rattle.network.proofs.Rank.{key-other}
+use Rattle.rows.specs.Exact.{Sorted, Sound, Placed, stands, full, Table}
+use Rattle.rows.proofs.Partial.{Partial, no-shorter}
 
 -- ---- A list with one entry more.
 last-cases : (y x : ℕ × ℕ) (xs : List (ℕ × ℕ)) → List·Memᴰ y (xs ++ x ∷ []) → List·Memᴰ y xs ⊎ (y ≡ x)

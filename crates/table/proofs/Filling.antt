@@ -4,7 +4,7 @@
 -- Assumes nothing.
 use Prim.Native.Nat.{ℕ, zero, suc, _+_, _-_, _*_, _≤_, _<_}
 use mathlib.Core.Path.{_≡_, refl, sym, ap, _∙_}
-use mathlib.Core.Logic.{_≢_, _↔_, _⊎_, inl, inr, ⊎-elim}
+use mathlib.Core.Logic.{_≢_, _↔_, inl, inr, ⊎-elim}
 use mathlib.Core.List.{List, [], _∷_, _++_, List·Memᴰ, List·Memᴰ·not-nil, Memᴰ·cast}
 use native.Mathlib.Decide.{ℕ-discrete, decLt}
 use native.Mathlib.Nat.{add-zero}
@@ -22,14 +22,16 @@ use Rattle.network.proofs.NumberZero.{accepted-ranges}
 use Rattle.network.proofs.Least.{distance}
 use Rattle.network.proofs.Distances.{dist-walk}
 use Rattle.expansion.specs.Queue.{Holds, Queue, PoppedAt}
-use Rattle.expansion.proofs.Room.{degree}
+use Rattle.expansion.specs.Room.{degree}
 use Rattle.expansion.proofs.TagLaws.{entry-same}
-use Rattle.table.specs.Exact.{Placed}
-use Rattle.table.specs.Flat.{place, places, rowAt, Sized, IsTable}
-use Rattle.table.specs.Build.{StandsAt, CanAppend, TakesAt, RefusesAt, offerKey, OfferedBy, CanOffer, Offered, SeededBy, Seeded, CanSpread}
-use Rattle.table.proofs.Exact.{exact-row}
-use Rattle.table.proofs.Flat.{places-length, place-in, in-place, places-padded, places-same}
-use Rattle.table.proofs.Laid.{row-fits, rows-apart, rows-table}
+use Rattle.rows.specs.Exact.{Placed}
+use Rattle.rows.specs.Flat.{place, places, rowAt, Sized, IsTable}
+use Rattle.table.specs.Offer.{offerOf, OfferedBy, CanOffer}
+use Rattle.table.specs.Build.{StandsAt, CanAppend, TakesAt, RefusesAt, Offered, SeededBy, Seeded, CanSpread}
+use Rattle.rows.proofs.Exact.{exact-row}
+use Rattle.rows.proofs.Flat.{places-length, place-in, in-place, places-padded, places-same}
+use Rattle.rows.proofs.Laid.{row-fits, rows-apart, rows-table}
+use Rattle.rows.proofs.PutLaws.{places-nil}
 use Rattle.table.proofs.Building.{Offer, Building, TakenOut, RowTakes, OverArc, OffersOn, building-same, building-done, building-dropped, building-taken, offer, stands-placed, full-placed, taken-exact}
 use Rattle.table.proofs.BuildRoom.{freeArcs, free-same, free-less, free-all}
 
@@ -41,7 +43,7 @@ rowsOf K xs ids dists i = places ids dists (i * K) (getD xs i 0)
 pub record HeldIn (n : ℕ) (xs : List ℕ) (len i p d : ℕ) : Type 0 where
   pub node : i < 65536
   pub point : p < 65536
-  pub holds : Holds (drop n xs) len (offerKey i p d)
+  pub holds : Holds (drop n xs) len (offerOf i p d)
 
 pub record Filling (g : Network) (P : List ℕ) (K : ℕ) (xs ids dists : List ℕ) (len : ℕ) : Type 0 where
   pub sized : Sized g K ids dists
@@ -60,12 +62,8 @@ places-more ids dists at (suc k) =
     let q : suc at + k ≡ at + suc k = omega arith in
     ap (λ (l : List (ℕ × ℕ)). place ids dists at ∷ l) (rw q at (places-more ids dists (suc at) k))
 
-no-places : (ids dists : List ℕ) (at : ℕ) → places ids dists at 0 ≡ []
-unfolding places
-no-places ids dists at = refl
-
 -- offers go by distance and point, then by node
-rows-order : (i p d j q e : ℕ) → i < 65536 → p < 65536 → j < 65536 → q < 65536 → offerKey i p d ≤ offerKey j q e → key (p, d) ≤ key (q, e)
+rows-order : (i p d j q e : ℕ) → i < 65536 → p < 65536 → j < 65536 → q < 65536 → offerOf i p d ≤ offerOf j q e → key (p, d) ≤ key (q, e)
 rows-order i p d j q e a b a′ b′ l = elim (decLt d e) [ yes h ↦ omega arith | no h ↦ omega arith ]
 
 -- ---- The start: all places are empty, and every point is offered to its own row.
@@ -80,9 +78,9 @@ module _ {g : Network} {P xs ys ids dists : List ℕ} {K len : ℕ} (c : CanSpre
   start-word i h = s .frame .words i (omega (arith, nodes)) ∙ c .can .blank .zero i (omega arith)
 
   start-held : (i p d : ℕ) → HeldIn (nodeCount g) ys len i p d → Offer g P i p d
-  start-held i p d x = from (start-holds (offerKey i p d) .0 (x .holds))
+  start-held i p d x = from (start-holds (offerOf i p d) .0 (x .holds))
     where
-      from : SeededBy P (nodeCount g) (offerKey i p d) → Offer g P i p d
+      from : SeededBy P (nodeCount g) (offerOf i p d) → Offer g P i p d
       from s =
           let f = c .can .accepted .few in
           let e = entry-same d p i 0 (s .node) (s .node) (x .point) (x .node) (omega (arith, s .low)) (omega (arith, s .low)) (s .is) in
@@ -108,7 +106,7 @@ module _ {g : Network} {P xs ys ids dists : List ℕ} {K len : ℕ} (c : CanSpre
               (record {
                 node = omega arith;
                 point = omega arith;
-                holds = start-holds (offerKey i i 0) .1 (record { node = i; low = h; point = a; is = refl });
+                holds = start-holds (offerOf i i 0) .1 (record { node = i; low = h; point = a; is = refl });
               });
           closed = λ r p d m. absurd (List·Memᴰ·not-nil m);
         };
@@ -134,7 +132,7 @@ module _ {g : Network} {P xs ys ids dists : List ℕ} {K len : ℕ} (c : CanSpre
         last = 0;
         built =
             building-same (c .can .accepted)
-            (λ i h. ap (places ids dists (i * K)) (start-word i h) ∙ no-places ids dists (i * K))
+            (λ i h. ap (places ids dists (i * K)) (start-word i h) ∙ places-nil ids dists (i * K))
             start-built;
         left = omega (arith, s .few, nodes, free-all (c .can .accepted) K ys start-word);
       }
@@ -157,15 +155,15 @@ filling-table {g} {P} {xs} {ids} {dists} {K} {len} ok f h =
 
 -- ---- A turn.
 module _ {g : Network} {P xs ys ids dists : List ℕ} {K len : ℕ} (ok : Accepted g) (some : 1 ≤ K) (f : Filling g P K xs ids dists len) (more : 0 < len) (i p d : ℕ)
-    (node-fits : i < 65536) (point-fits : p < 65536) (pop : PoppedAt xs ys (nodeCount g) len (offerKey i p d)) where
+    (node-fits : i < 65536) (point-fits : p < 65536) (pop : PoppedAt xs ys (nodeCount g) len (offerOf i p d)) where
   pub taken-out : TakenOut (HeldIn (nodeCount g) xs len) (HeldIn (nodeCount g) ys (len - 1)) i p d
   taken-out =
       record {
         was = record { node = node-fits; point = point-fits; holds = pop .queue .was };
         least =
             λ j q e x.
-            rows-order i p d j q e node-fits point-fits (x .node) (x .point) (pop .queue .least (offerKey j q e) (x .holds));
-        old = λ j q e x. record { node = x .node; point = x .point; holds = pop .queue .old (offerKey j q e) (x .holds) };
+            rows-order i p d j q e node-fits point-fits (x .node) (x .point) (pop .queue .least (offerOf j q e) (x .holds));
+        old = λ j q e x. record { node = x .node; point = x .point; holds = pop .queue .old (offerOf j q e) (x .holds) };
         kept =
             λ j q e x.
             ⊎-elim
@@ -173,7 +171,7 @@ module _ {g : Network} {P xs ys ids dists : List ℕ} {K len : ℕ} (ok : Accept
             (λ a.
             let s = entry-same e q j d p i (x .point) (x .node) point-fits node-fits a in
             inr (s .2, s .1, s .0))
-            (pop .queue .kept (offerKey j q e) (x .holds));
+            (pop .queue .kept (offerOf j q e) (x .holds));
       }
 
   built : Building g P K (rowsOf K ys ids dists) (HeldIn (nodeCount g) xs len) (f .last)
@@ -323,7 +321,7 @@ module _ {g : Network} {P xs ys ids dists : List ℕ} {K len : ℕ} (ok : Accept
       abbrev deg : ℕ
       deg = length (neighboursOf g i)
 
-      over : (j q e : ℕ) → j < 65536 → q < 65536 → OfferedBy g i p d deg (offerKey j q e) → OverArc g i p d j q e
+      over : (j q e : ℕ) → j < 65536 → q < 65536 → OfferedBy g i p d deg (offerOf j q e) → OverArc g i p d j q e
       over j q e a b y =
           let arc = arc-at (accepted-ranges ok) i popped-node (y .place) (y .low) in
           let s = entry-same e q j (d + getD (weightsOf g i) (y .place) 0) p (getD (neighboursOf g i) (y .place) 0) b a point-fits (omega (arith, ok .leads-in arc, ok .few)) (y .is) in
@@ -332,13 +330,13 @@ module _ {g : Network} {P xs ys ids dists : List ℕ} {K len : ℕ} (ok : Accept
       offers-on : OffersOn g (HeldIn (nodeCount g) ys (len - 1)) (HeldIn (nodeCount g) ws (len - 1 + deg)) i p d
       offers-on =
           record {
-            kept = λ j q e x. record { node = x .node; point = x .point; holds = o .holds (offerKey j q e) .1 (inl (rw same-queue (x .holds))) };
+            kept = λ j q e x. record { node = x .node; point = x .point; holds = o .holds (offerOf j q e) .1 (inl (rw same-queue (x .holds))) };
             old =
                 λ j q e x.
                 ⊎-elim
                 (λ a. inl (record { node = x .node; point = x .point; holds = rw same-queue at a }))
                 (λ a. inr (over j q e (x .node) (x .point) a))
-                (o .holds (offerKey j q e) .0 (x .holds));
+                (o .holds (offerOf j q e) .0 (x .holds));
             new =
                 λ {j} {w} arc.
                 let y = arc-place (accepted-ranges ok) arc in
@@ -346,7 +344,7 @@ module _ {g : Network} {P xs ys ids dists : List ℕ} {K len : ℕ} (ok : Accept
                   node = omega (arith, ok .leads-in arc, ok .few);
                   point = point-fits;
                   holds =
-                      o .holds (offerKey j p (d + w)) .1
+                      o .holds (offerOf j p (d + w)) .1
                       (inr (record { place = y .at; low = y .low; is = omega (arith, y .leads, y .weighs) }));
                 };
           }

@@ -13,12 +13,12 @@ use lib.ListN.{length, getD, take, set}
 use borrow.Author.Tests.{eqb-false}
 use Rattle.network.specs.Network.{Network, nodeCount, neighboursOf}
 use Rattle.network.specs.Accepted.{Accepted}
-use Rattle.network.specs.Distance.{NONE, dist}
+use Rattle.network.specs.Distance.{NONE, dist, Upto}
 use Rattle.network.specs.Count.{count}
 use Rattle.network.specs.Nearest.{insert, nearest}
 use Rattle.network.specs.Rows.{row, rowsChanged}
-use Rattle.network.proofs.Counts.{count-mono, count-none, without, without-self, without-other, count-without}
-use Rattle.network.proofs.Distances.{Upto, dist-walk, dist-symmetric, dist-at-most}
+use Rattle.network.proofs.Counts.{count-mono, count-none, without, without-other, count-without, without-not}
+use Rattle.network.proofs.Distances.{dist-walk, dist-symmetric, dist-at-most}
 use Rattle.network.proofs.Rank.{Near}
 use Rattle.network.proofs.Rows.{row-length, row-members}
 use Rattle.network.proofs.Prefix.{near-next}
@@ -27,15 +27,15 @@ use Rattle.expansion.proofs.Search.{Leads, closed-leads}
 use Rattle.expansion.proofs.AreaLaws.{settledAs, label-same, label-settle, others-settle}
 use Rattle.expansion.proofs.AreaSearch.{took-held, took-exact, search-finished}
 use Rattle.expansion.proofs.Progress.{Progress, progress-start, progress-settled, took-area, took-word}
-use Rattle.searches.proofs.Stopping.{kept-same, progress-stopped}
-use Rattle.table.specs.Flat.{rowAt, Sized, IsTable}
-use Rattle.table.specs.Update.{Added}
-use Rattle.table.specs.Put.{takes, HasRow, PutInRow}
+use Rattle.expansion.proofs.Stopping.{kept-same, progress-stopped}
+use Rattle.rows.specs.Flat.{rowAt, Sized, IsTable}
+use Rattle.rows.specs.Update.{Added}
+use Rattle.rows.specs.Put.{takes, HasRow, PutInRow}
 use Rattle.table.specs.Insert.{CanInsert}
-use Rattle.table.proofs.Laid.{row-fits, table-rows, rows-table}
-use Rattle.table.proofs.Update.{row-added, row-kept, near-or-not, changed-near, set-added}
-use Rattle.table.proofs.Changed.{added-changes}
-use Rattle.table.proofs.PutLaws.{taken-in, not-taken, takes-nearer, insert-pad}
+use Rattle.rows.proofs.Laid.{row-fits, table-rows, rows-table}
+use Rattle.rows.proofs.Update.{row-added, row-kept, near-or-not, changed-near, set-added}
+use Rattle.rows.proofs.Changed.{added-changes}
+use Rattle.rows.proofs.PutLaws.{taken-in, not-taken, takes-nearer, insert-pad}
 
 -- the arrays were the table of P, and x is near v once it is marked: the row of v takes x
 pub record Enters (g : Network) (P ids dists : List ℕ) (x K v : ℕ) : Type 0 where
@@ -56,11 +56,8 @@ pub record Inserting (g : Network) (P ids₀ dists₀ : List ℕ) (x K : ℕ) (x
   pub counted : IsTable g P K ids₀ dists₀ → (t : ℕ → Bool) → Tells g P xs x K t → changed ≡ count t (nodeCount g)
 
 -- who passes a test but for v; and where v does not pass it, as many do
-without-apart : (b : ℕ → Bool) (v y : ℕ) → without b v y ≡ true → y ≢ v
-without-apart b v y a q = false≢true (sym (without-self b v) ∙ ap (without b v) (sym q) ∙ a)
-
 without-passes : (b : ℕ → Bool) (v y : ℕ) → without b v y ≡ true → b y ≡ true
-without-passes b v y a = sym (without-other b v y (without-apart b v y a)) ∙ a
+without-passes b v y a = sym (without-other b v y (without-not b v y a)) ∙ a
 
 count-skipped : (b : ℕ → Bool) (v n : ℕ) → (b v ≡ true → ⊥) → count (without b v) n ≡ count b n
 count-skipped b v n out =
@@ -214,7 +211,7 @@ module _ {g : Network} {P s₀ ids₀ dists₀ : List ℕ} {x K : ℕ} (c : CanI
         tells-without : (b : ℕ → Bool) → Tells g P ws x K b → Tells g P xs x K (without b v)
         tells-without b tells =
             record {
-              only = λ y h a. let d = tells .only y h (without-passes b v y a) in (λ z. d .0 (word-other y h (without-apart b v y a) ∙ z), d .1);
+              only = λ y h a. let d = tells .only y h (without-passes b v y a) in (λ z. d .0 (word-other y h (without-not b v y a) ∙ z), d .1);
               all =
                   λ y h w near.
                   elim (ℕ-discrete y v) [

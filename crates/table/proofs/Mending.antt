@@ -1,5 +1,6 @@
--- A table on its way to the table of the points that are left. Freed rows are the nearest without their last; what a short row wants waits in the queue,
--- or the next node on the way to it is short and wants it too. So the least offer, where its row is short and lacks its point, is what the row wants.
+-- A table on its way to the table of the points that are left. Freed rows are the nearest without their last; what a short row wants waits in the
+-- queue, or the next node on the way to it is short and wants it too. So the least offer, where its row is short and lacks its point, is what the
+-- row wants.
 -- Assumes nothing.
 use Prim.Native.Nat.{ℕ, zero, suc, _+_, _-_, _≤_, _<_}
 use mathlib.Core.Path.{_≡_, refl, sym, ap, _∙_}
@@ -18,31 +19,36 @@ use Rattle.network.specs.Walk.{Walk, step}
 use Rattle.network.specs.Distance.{NONE, dist}
 use Rattle.network.specs.Points.{marked}
 use Rattle.network.specs.Count.{count}
-use Rattle.network.specs.Nearest.{key, nearest}
+use Rattle.network.specs.Nearest.{key, nearest, before, Nearer}
 use Rattle.network.specs.Rows.{pad, row, rowsChanged}
 use Rattle.network.proofs.Distances.{dist-walk, dist-at-most, dist-next}
 use Rattle.network.proofs.Least.{distance}
-use Rattle.network.proofs.Rank.{before, Nearer, Near}
+use Rattle.network.proofs.Rank.{Near}
 use Rattle.network.proofs.Rows.{row-members, near-listed, listed-near, nearest-source, nearest-length}
 use Rattle.network.proofs.Prefix.{near-next}
 use Rattle.network.proofs.Ranges.{arc-at, arc-place}
 use Rattle.network.proofs.NumberZero.{accepted-ranges}
 use Rattle.expansion.specs.Queue.{Holds, PoppedAt}
 use Rattle.expansion.proofs.TagLaws.{entry-same}
-use Rattle.table.specs.Flat.{rowAt, IsTable}
-use Rattle.table.specs.Update.{Added}
-use Rattle.table.specs.Take.{takeOut, hasPoint}
+use Rattle.rows.specs.Flat.{rowAt, IsTable}
+use Rattle.rows.specs.Update.{Added}
+use Rattle.rows.specs.Take.{takeOut, hasPoint}
 use Rattle.table.specs.Candidate.{Fit, GivesOver}
-use Rattle.table.specs.Mend.{isShort, Freed, offerOf, Seeded, Takes, Refuses, arcOffer, Offered, OfferedBy, Wants, Behind, Lead, Mending}
-use Rattle.table.proofs.Laid.{table-rows}
-use Rattle.table.proofs.Update.{nearest-removed, row-kept}
-use Rattle.table.proofs.Changed.{removed-changes}
-use Rattle.table.proofs.TakeLaws.{has-member, has-some, take-absent, take-row}
+use Rattle.table.specs.Offer.{offerOf, arcOffer, OfferedBy}
+use Rattle.table.specs.Mend.{isShort, Freed, Seeded, Takes, Refuses, Offered, Wants, Behind, Lead, Mending}
+use Rattle.rows.proofs.Laid.{table-rows}
+use Rattle.rows.proofs.Update.{nearest-removed, row-kept}
+use Rattle.rows.proofs.Changed.{removed-changes}
+use Rattle.rows.proofs.TakeLaws.{has-member, has-some, take-absent, take-row}
 use Rattle.table.proofs.RemoveSteps.{bool-cases, marked-inside}
 use Rattle.table.proofs.Wanted.{pad-member, wanted, wants-same, wants-lacks, lacks-rank, taken-whole, short-whole}
 
+-- a row that waits behind another does so while that one is short
+still-behind : {g : Network} {Q xs ys : List ℕ} {K c q : ℕ} (b : Behind g Q xs K c q) → isShort ys (b .to) ≡ true → Behind g Q ys K c q
+still-behind b s = record { to = b .to; weight = b .weight; arc = b .arc; sum = b .sum; short = s; wants = b .wants }
+
 -- a lead of a key, where the key is known
-pub lead-walk : {g : Network} → Accepted g → {Q : List ℕ} {k : ℕ} (i p d : ℕ) → k ≡ offerOf i p d → i < 65536 → p < 65536 → Lead g Q k → Walk g i p d × (marked Q p ≡ true)
+lead-walk : {g : Network} → Accepted g → {Q : List ℕ} {k : ℕ} (i p d : ℕ) → k ≡ offerOf i p d → i < 65536 → p < 65536 → Lead g Q k → Walk g i p d × (marked Q p ≡ true)
 lead-walk ok i p d e h m l =
     let f = ok .few in
     let q = entry-same d p i (l .far) (l .point) (l .node) m h (omega (arith, l .low)) (omega (arith, l .inside)) (sym e ∙ l .is) in
@@ -133,15 +139,7 @@ module _ {g : Network} (ok : Accepted g) {Q : List ℕ} {K : ℕ} {ids dists xs 
                 (λ e. absurd (dropped c q h (sym (same-flag c h) ∙ s) w e))
                 (o .queue .kept (offerOf c q (dist g c q)) v))
                 (λ (b : Behind g Q xs K c q).
-                inr
-                (record {
-                  to = b .to;
-                  weight = b .weight;
-                  arc = b .arc;
-                  sum = b .sum;
-                  short = same-flag (b .to) (ok .leads-in (b .arc)) ∙ b .short;
-                  wants = b .wants;
-                }))
+                inr (still-behind b (same-flag (b .to) (ok .leads-in (b .arc)) ∙ b .short)))
                 (m .frontier c q h (sym (same-flag c h) ∙ s) w);
           })
         where
@@ -253,16 +251,7 @@ module _ {g : Network} (ok : Accepted g) {Q : List ℕ} {K : ℕ} {ids dists xs 
               (λ (b : Behind g Q xs K c q).
               elim (ℕ-discrete (b .to) i) [
                 | yes e ↦ inl (offered c q (b .weight) (other-flag c h n ∙ s) (rw e at (b .arc)) (rw e at (b .sum)) (rw e at (b .wants)))
-                | no z ↦
-                    inr
-                    (record {
-                      to = b .to;
-                      weight = b .weight;
-                      arc = b .arc;
-                      sum = b .sum;
-                      short = other-flag (b .to) (ok .leads-in (b .arc)) z ∙ b .short;
-                      wants = b .wants;
-                    })
+                | no z ↦ inr (still-behind b (other-flag (b .to) (ok .leads-in (b .arc)) z ∙ b .short))
               ])
               u
 

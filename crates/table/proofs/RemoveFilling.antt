@@ -12,22 +12,24 @@ use lib.ListN.{length, getD, set, drop, replicate, length-set, length-replicate}
 use lib.Seq.{drop-set-lt, getD-drop, getD-set-same, getD-set-other}
 use borrow.Author.Tests.{ne-eqb, eqb-true}
 use Rattle.network.specs.Network.{Network, nodeCount, arcCount, startOf, neighboursOf, weightsOf}
+use Rattle.network.specs.Distance.{LONGEST}
 use Rattle.network.specs.Accepted.{Accepted}
 use Rattle.network.proofs.Ranges.{arc-at, neighbours-length}
 use Rattle.network.proofs.NumberZero.{accepted-ranges}
 use Rattle.expansion.specs.Queue.{PoppedAt}
+use Rattle.expansion.specs.Room.{degree, arcsLeft}
 use Rattle.expansion.proofs.QueueLaws.{empty-queue}
 use Rattle.expansion.proofs.Settled.{zero-blank}
 use Rattle.expansion.proofs.TagLaws.{entry-same}
-use Rattle.expansion.proofs.Room.{degree, arcsLeft, left-same, left-less}
-use Rattle.table.specs.Flat.{Sized}
-use Rattle.table.specs.Update.{Added}
-use Rattle.table.specs.Candidate.{LONGEST}
-use Rattle.table.specs.Mend.{isShort, CanFree, Freed, offerOf, CanSeed, Seeded, CanTakeIn, TakenIn, CanOffer, Offered, OfferedBy, Entry, Waiting, CanFill, Mending, FillLeft}
+use Rattle.expansion.proofs.Room.{left-same, left-less}
+use Rattle.rows.specs.Flat.{Sized}
+use Rattle.rows.specs.Update.{Added}
+use Rattle.table.specs.Offer.{offerOf, CanOffer, OfferedBy}
+use Rattle.table.specs.Mend.{isShort, CanFree, Freed, CanSeed, Seeded, CanTakeIn, TakenIn, Offered, Entry, Waiting, CanFill, Mending, FillLeft}
 use Rattle.table.specs.Remove.{CanRemove}
 use Rattle.table.specs.Updated.{UpdateLeft}
-use Rattle.table.proofs.Laid.{rows-table}
-use Rattle.table.proofs.Update.{set-removed}
+use Rattle.rows.proofs.Laid.{rows-table}
+use Rattle.rows.proofs.Update.{set-removed}
 use Rattle.table.proofs.RemoveSteps.{bool-cases, freed-few, marked-inside, row-inside}
 use Rattle.table.proofs.Mending.{mending-start, changed-rows, mending-end, mending-skipped, mending-taken}
 
@@ -116,7 +118,7 @@ module _ {g : Network} (ok : Accepted g) {xs : List ℕ} {len : ℕ} (w : Waitin
           accepted = ok;
           inside = low;
           point = point;
-          fits = far;
+          fits = omega arith;
           queue = rw queue (w .queue);
           room = simp length-set (omega (arith, w .size, w .room, arcs-of, taken-left (set xs i 0) (λ c h. refl)));
         }

@@ -13,20 +13,21 @@ use lib.Seq.{getD-take, getD-drop, getD-set-same, getD-set-other}
 use borrow.Author.Tests.{eq-eqb, ne-eqb, eqb-true}
 use borrow.Rule.Slice.PartMut.{midOf, putMid, mid-len, put-same, set-mid-at}
 use Rattle.network.specs.Network.{Network, nodeCount, neighboursOf, weightsOf}
-use Rattle.network.specs.Distance.{NONE}
+use Rattle.network.specs.Distance.{NONE, LONGEST}
 use Rattle.network.specs.Count.{bit, count}
 use Rattle.network.specs.Nearest.{key}
 use Rattle.network.specs.Points.{marked}
 use Rattle.network.proofs.Counts.{count-mono, count-all}
 use Rattle.expansion.specs.Queue.{Queue, PushedAt}
-use Rattle.table.specs.Flat.{place, rowAt, Sized}
-use Rattle.table.specs.Take.{takeOut, hasPoint, PointAt, TakenOutOfRow}
-use Rattle.table.specs.Candidate.{LONGEST, Fits, Better, Gives, BestOfRow, Fit, GivesOver, BestOf}
-use Rattle.table.specs.Mend.{isShort, Freed, offerOf, SeedOf, Seeded, PutLast, CanTakeIn, TakenIn, arcOffer, OfferedBy, Offered}
-use Rattle.table.proofs.Flat.{place-in, in-place}
-use Rattle.table.proofs.Laid.{row-fits}
-use Rattle.table.proofs.Frame.{set-other, set-row}
-use Rattle.table.proofs.TakeLaws.{has-member, has-some}
+use Rattle.rows.specs.Flat.{place, rowAt, Sized}
+use Rattle.rows.specs.Take.{takeOut, hasPoint, PointAt, TakenOutOfRow}
+use Rattle.table.specs.Candidate.{Fits, Better, Gives, BestOfRow, Fit, GivesOver, BestOf}
+use Rattle.table.specs.Offer.{offerOf, arcOffer, OfferedBy}
+use Rattle.table.specs.Mend.{isShort, Freed, SeedOf, Seeded, PutLast, CanTakeIn, TakenIn, Offered}
+use Rattle.rows.proofs.Flat.{place-in, in-place}
+use Rattle.rows.proofs.Laid.{row-fits}
+use Rattle.rows.proofs.Frame.{row-width, row-long, set-other, set-row}
+use Rattle.rows.proofs.TakeLaws.{has-member, has-some}
 
 pub bool-cases : (b : Bool) → (b ≡ true) ⊎ (b ≡ false)
 bool-cases true = inl refl
@@ -223,7 +224,7 @@ pub chosen-none : (g : Network) (P ids dists : List ℕ) (K i : ℕ) → BestOf 
 chosen-none g P ids dists K i = record { least = λ j p e h. absurd (omega arith); from = inl refl }
 
 module _ {g : Network} {P ids dists : List ℕ} {K i : ℕ} (sized : Sized g K ids dists) (inside : i < nodeCount g) where
-  pub chosen-more : {j : ℕ} {r q : ℕ × ℕ} → BestOf g P ids dists K i j r
+  chosen-more : {j : ℕ} {r q : ℕ × ℕ} → BestOf g P ids dists K i j r
       → BestOfRow P (take K (drop (i * K) ids)) (take K (drop (getD (neighboursOf g i) j 0 * K) ids)) (take K (drop (getD (neighboursOf g i) j 0 * K) dists))
       (getD (weightsOf g i) j 0) K r q
       → BestOf g P ids dists K i (j + 1) q
@@ -281,10 +282,7 @@ module _ {g : Network} {P ids dists : List ℕ} {K i j : ℕ} (sized : Sized g K
       (length (midOf (c * K) ((c * K + K) - c * K) ids)) r q
       → BestOf g P ids dists K i (j + 1) q
   chosen-lent f b =
-      let own : (i * K + K) - i * K ≡ K = omega arith in
-      let other : (c * K + K) - c * K ≡ K = omega arith in
-      let long = mid-len (c * K) (c * K + K) ids (row-inside sized low .0) ∙ other in
-      chosen-more sized inside f (rw (long, own, other, to, weight) at b)
+      chosen-more sized inside f (rw (row-long c K ids (row-inside sized low .0), row-width i K, row-width c K, to, weight) at b)
 
 -- a candidate is a point
 pub best-point : {g : Network} {P ids dists : List ℕ} {K i end : ℕ} {r : ℕ × ℕ} → length P ≡ nodeCount g → BestOf g P ids dists K i end r → r .1 ≢ NONE → r .0 < nodeCount g
@@ -371,14 +369,11 @@ module _ {g : Network} {P xs ids dists : List ℕ} {K : ℕ} where
 
 -- ---- take_in: what `put_last` leaves of the lent parts, said of the whole arrays.
 module _ {xs ids dists : List ℕ} {K i : ℕ} (can : CanTakeIn xs ids dists K i) where
-  width : (i * K + K) - i * K ≡ K
-  width = omega arith
-
   ids-long : length (midOf (i * K) ((i * K + K) - i * K) ids) ≡ K
-  ids-long = mid-len (i * K) (i * K + K) ids (can .fits) ∙ width
+  ids-long = row-long i K ids (can .fits)
 
   dists-long : length (midOf (i * K) ((i * K + K) - i * K) dists) ≡ K
-  dists-long = mid-len (i * K) (i * K + K) dists (omega (arith, can .fits, can .same)) ∙ width
+  dists-long = row-long i K dists (omega (arith, can .fits, can .same))
 
   -- what `put_last` requires of the lent parts
   pub put-last-can : (length (midOf (i * K) ((i * K + K) - i * K) dists) ≡ length (midOf (i * K) ((i * K + K) - i * K) ids))
@@ -411,7 +406,7 @@ module _ {xs ids dists : List ℕ} {K i : ℕ} (can : CanTakeIn xs ids dists K i
               record {
                 short = eq-eqb (getD xs i 0) 1 short;
                 low = low;
-                lacks = part-lacks xs ids dists K i (can .fits) p (rw width at (t .taken took .0));
+                lacks = part-lacks xs ids dists K i (can .fits) p (rw (row-width i K) at (t .taken took .0));
                 words = refl;
                 row =
                     set-row K i (K - 1) p d ids dists (omega (arith, can .some)) (omega (arith, can .some, can .fits))
@@ -442,7 +437,7 @@ module _ {xs ids dists : List ℕ} {K i : ℕ} (can : CanTakeIn xs ids dists K i
         stands m =
             ⊎-elim
             (λ e. e)
-            (λ e. absurd (lacks-part xs ids dists K i (can .fits) p e (m .0) (rw width at (m .1)) (rw width at (m .2))))
+            (λ e. absurd (lacks-part xs ids dists K i (can .fits) p e (m .0) (rw (row-width i K) at (m .1)) (rw (row-width i K) at (m .2))))
             (bool-cases (hasPoint p (rowAt ids dists K i)))
 
 -- ---- offer: the arcs before place j have put in their entries.

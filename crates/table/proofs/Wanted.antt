@@ -1,11 +1,11 @@
--- The entry that a short row wants: the point with K - 1 before it. There is one where a reached point is lacking, it is only one, and with it the row
--- is whole; where there is none, the row is whole already.
+-- The entry that a short row wants: the point with K - 1 before it. There is one where a reached point is lacking, it is only one, and with it the
+-- row is whole; where there is none, the row is whole already.
 -- Assumes nothing.
 use Prim.Native.Nat.{ℕ, zero, suc, _-_, _≤_, _<_}
 use mathlib.Core.Path.{_≡_, refl, sym, ap, _∙_}
 use mathlib.Core.Bool.{false, false≢true}
 use mathlib.Core.Logic.{_≢_, ⊎-elim}
-use mathlib.Core.List.{List, [], _∷_, _++_, append-nil, List·Memᴰ, List·Memᴰ·head, List·Memᴰ·tail, List·Memᴰ·cases-cons, List·Memᴰ·not-nil, List·Memᴰ·append-cases, Memᴰ·append-left}
+use mathlib.Core.List.{List, [], _∷_, _++_, append-nil, List·Memᴰ, List·Memᴰ·head, List·Memᴰ·cases-cons, List·Memᴰ·not-nil, List·Memᴰ·append-cases, Memᴰ·append-left}
 use native.Mathlib.Nat.{not-suc-le-zero, le-of-suc-le-suc}
 use native.Mathlib.Decide.{ℕ-discrete, decLt}
 use native.Mathlib.Omega.{arith}
@@ -16,15 +16,15 @@ use borrow.Author.Tests.{lt-ltb, ltb-true}
 use Rattle.network.specs.Network.{Network, nodeCount}
 use Rattle.network.specs.Accepted.{Accepted}
 use Rattle.network.specs.Distance.{NONE, dist}
-use Rattle.network.specs.Nearest.{key, byDistance, nearest}
+use Rattle.network.specs.Nearest.{key, byDistance, nearest, Rising, before, Nearer}
 use Rattle.network.specs.Rows.{pad, row}
-use Rattle.network.proofs.Counts.{bit-mono, bit-most, bit-lt, bit-ge}
-use Rattle.network.proofs.Rising.{Rising, below, take-below}
-use Rattle.network.proofs.Rank.{before, Nearer, key-other, nearer-passes, passes-nearer}
-use Rattle.network.proofs.Rows.{by-below, by-all, by-only, all-rising, nearest-rising, nearest-unique, near-listed, listed-near, entry-listed}
-use Rattle.table.specs.Take.{hasPoint}
+use Rattle.network.proofs.Counts.{bit-mono, bit-most, bit-lt, bit-ge, member-at}
+use Rattle.network.proofs.Rising.{below, take-below}
+use Rattle.network.proofs.Rank.{key-other, nearer-passes, passes-nearer}
+use Rattle.network.proofs.Rows.{by-below, by-all, by-only, all-rising, nearest-rising, nearest-unique, near-listed, listed-near, entry-listed, padding}
+use Rattle.rows.specs.Take.{hasPoint}
 use Rattle.table.specs.Mend.{Wants}
-use Rattle.table.proofs.TakeLaws.{has-member, has-some}
+use Rattle.rows.proofs.TakeLaws.{has-member, has-some}
 use Rattle.table.proofs.RemoveSteps.{bool-cases}
 
 -- ---- Rising lists: how many are below.
@@ -53,16 +53,11 @@ below-most k (x ∷ xs) = omega (arith, below-most k xs, bit-most (ltb (key x) k
 below-length : (z : ℕ × ℕ) (xs : List (ℕ × ℕ)) → List·Memᴰ z xs → below (key z) xs < length xs
 below-length z xs m = omega (arith, below-strict z xs (suc (key z)) m (omega arith), below-most (suc (key z)) xs)
 
-member-at : (xs : List (ℕ × ℕ)) (j : ℕ) → j < length xs → List·Memᴰ (getD xs j (0, 0)) xs
-member-at [] j h = absurd (not-suc-le-zero h)
-member-at (x ∷ xs) zero h = List·Memᴰ·head refl
-member-at (x ∷ xs) (suc j) h = List·Memᴰ·tail (member-at xs j (le-of-suc-le-suc h))
-
 below-at : (xs : List (ℕ × ℕ)) (j : ℕ) → Rising xs → j < length xs → below (key (getD xs j (0, 0))) xs ≡ j
 below-at [] j r h = absurd (not-suc-le-zero h)
 below-at (x ∷ xs) zero r h = omega (arith, take-below (suc zero) (x ∷ xs) x r (List·Memᴰ·head refl))
 below-at (x ∷ xs) (suc j) r h =
-    omega (arith, below-at xs j (r .1) (le-of-suc-le-suc h), bit-lt (key x) (key (getD xs j (0, 0))) (r .0 (getD xs j (0, 0)) (member-at xs j (le-of-suc-le-suc h))))
+    omega (arith, below-at xs j (r .1) (le-of-suc-le-suc h), bit-lt (key x) (key (getD xs j (0, 0))) (r .0 (getD xs j (0, 0)) (member-at (0, 0) xs j (le-of-suc-le-suc h))))
 
 -- ---- The last place of a row.
 snoc-take : (k : ℕ) (xs : List (ℕ × ℕ)) → k < length xs → take (suc k) xs ≡ take k xs ++ getD xs k (0, 0) ∷ []
@@ -84,10 +79,6 @@ set-last k xs h =
     ∙ sym (ap (λ n. take (suc k) xs ++ replicate n (NONE, NONE)) b ∙ append-nil (take (suc k) xs) ∙ snoc-take k xs h)
 
 -- ---- A member of a padded list that is no padding.
-padding : (n : ℕ) (x z : ℕ × ℕ) → List·Memᴰ z (replicate n x) → z ≡ x
-padding zero x z m = absurd (List·Memᴰ·not-nil m)
-padding (suc n) x z m = ⊎-elim (λ q. q) (λ t. padding n x z t) (List·Memᴰ·cases-cons m)
-
 pub pad-member : (K p d : ℕ) (xs : List (ℕ × ℕ)) → p ≢ NONE → List·Memᴰ (p, d) (pad K xs) → List·Memᴰ (p, d) xs
 pad-member K p d xs n m =
     ⊎-elim
@@ -113,7 +104,7 @@ module _ {g : Network} (ok : Accepted g) (Q : List ℕ) (K i : ℕ) where
   at-rank : K - 1 < length (byDistance g Q i NONE (nodeCount g)) → (z : ℕ × ℕ) → getD (byDistance g Q i NONE (nodeCount g)) (K - 1) (0, 0) ≡ z
       → Wants g Q K i (z .0) × (z .1 ≡ dist g i (z .0))
   at-rank long z e =
-      let m = rw e at (member-at (byDistance g Q i NONE (nodeCount g)) (K - 1) long) in
+      let m = rw e at (member-at (0, 0) (byDistance g Q i NONE (nodeCount g)) (K - 1) long) in
       let b = by-only g Q i NONE (nodeCount g) z m in
       let k : key (z .0, dist g i (z .0)) ≡ key z = omega (arith, b .far) in
       let rank : below (key z) (byDistance g Q i NONE (nodeCount g)) ≡ K - 1 = rw e at (below-at (byDistance g Q i NONE (nodeCount g)) (K - 1) (all-rising ok Q i NONE) long) in

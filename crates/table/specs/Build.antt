@@ -7,14 +7,14 @@ use mathlib.Core.Logic.{_⊎_, _↔_}
 use mathlib.Core.Bool.{Bool, true, false}
 use mathlib.Core.List.{List}
 use lib.ListN.{length, getD, set, drop, replicate}
-use Rattle.network.specs.Network.{Network, nodeCount, arcCount, neighboursOf, weightsOf}
+use Rattle.network.specs.Network.{Network, nodeCount, arcCount, neighboursOf}
 use Rattle.network.specs.Accepted.{Accepted}
 use Rattle.network.specs.Distance.{NONE}
 use Rattle.network.specs.Points.{marked}
-use Rattle.expansion.specs.Queue.{Holds, Queue, keyOf}
-use Rattle.expansion.specs.Tags.{tagOf}
+use Rattle.expansion.specs.Queue.{Holds, Queue}
 use Rattle.expansion.specs.Area.{Kept, Blank, Wiped}
-use Rattle.table.specs.Flat.{Sized, IsTable}
+use Rattle.rows.specs.Flat.{Sized, IsTable}
+use Rattle.table.specs.Offer.{offerOf, OfferedBy}
 
 -- a point stands among the first `size` ids of a row
 pub record StandsIn (ids : List ℕ) (size p : ℕ) : Type 0 where
@@ -73,28 +73,6 @@ pub record AppendedAt (xs ys ids ids′ dists dists′ : List ℕ) (K i p d : �
   pub taken : r ≡ true → TakesAt xs ys ids ids′ dists dists′ K i p d
   pub refused : r ≡ false → RefusesAt xs ys ids ids′ dists dists′ K i p
 
--- the entry that offers point p at distance d to node i
-abbrev pub offerKey : ℕ → ℕ → ℕ → ℕ
-offerKey i p d = keyOf d (tagOf p i)
-
--- what offering (p, d), of the row of v, to the nodes that v's arcs lead to requires
-pub record CanOffer (g : Network) (xs : List ℕ) (len v p d : ℕ) : Type 0 where
-  pub accepted : Accepted g
-  pub inside : v < nodeCount g
-  pub point : p < nodeCount g
-  pub fits : d + 65535 < 4294967296
-  pub queue : Queue (drop (nodeCount g) xs) len
-  pub room : nodeCount g + 2 * (len + length (neighboursOf g v)) ≤ length xs
-
--- the entry of arc j of v; some arc of v before place `end` put in the key
-abbrev pub arcOffer : Network → ℕ → ℕ → ℕ → ℕ → ℕ
-arcOffer g v p d j = offerKey (getD (neighboursOf g v) j 0) p (d + getD (weightsOf g v) j 0)
-
-pub record OfferedBy (g : Network) (v p d end k : ℕ) : Type 0 where
-  pub place : ℕ
-  pub low : place < end
-  pub is : k ≡ arcOffer g v p d place
-
 -- the arcs of v before place `end` have each put in an entry
 pub record Offered (g : Network) (xs ys : List ℕ) (len v p d end : ℕ) : Type 0 where
   pub frame : Kept xs ys (nodeCount g)
@@ -111,7 +89,7 @@ pub record SeededBy (P : List ℕ) (end k : ℕ) : Type 0 where
   pub node : ℕ
   pub low : node < end
   pub point : marked P node ≡ true
-  pub is : k ≡ offerKey node node 0
+  pub is : k ≡ offerOf node node 0
 
 pub record CanSeed (P xs : List ℕ) : Type 0 where
   pub few : length P ≤ 65535

@@ -1,5 +1,5 @@
--- The best entry that a short row can take from its neighbours' rows: what the steps of `remove` that look for it require and leave. Any contents of the
--- table are allowed: an id is compared with the marks, and a distance with what one can be.
+-- The best entry that a short row can take from its neighbours' rows: what the steps of `remove` that look for it require and leave. Any contents of
+-- the table are allowed: an id is compared with the marks, and a distance with what one can be.
 -- Assumes nothing.
 use Prim.Native.Nat.{ℕ, _+_, _≤_, _<_}
 use mathlib.Core.Path.{_≡_}
@@ -9,15 +9,11 @@ use mathlib.Core.List.{List, List·Memᴰ}
 use lib.ListN.{length, getD}
 use Rattle.network.specs.Network.{Network, nodeCount, neighboursOf, weightsOf}
 use Rattle.network.specs.Accepted.{Accepted}
-use Rattle.network.specs.Distance.{NONE}
+use Rattle.network.specs.Distance.{NONE, LONGEST}
 use Rattle.network.specs.Points.{marked}
 use Rattle.network.specs.Nearest.{key}
-use Rattle.table.specs.Flat.{rowAt, Sized}
-use Rattle.table.specs.Take.{hasPoint}
-
--- 'Every distance is at most 4,294,770,690.'
-abbrev pub LONGEST : ℕ
-LONGEST = 4294770690
+use Rattle.rows.specs.Flat.{rowAt, Sized}
+use Rattle.rows.specs.Take.{hasPoint}
 
 -- (p, e) of a neighbour's row may go into a row: p is a point that the row lacks, and e can be a distance
 pub record Fits (P own : List ℕ) (p e : ℕ) : Type 0 where

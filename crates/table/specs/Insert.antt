@@ -1,5 +1,5 @@
--- What insert requires. Document 01, 'The table': 'Insert marks a node'. What it leaves is `UpdateLeft` of the marks with the node. The lent words are the
--- area of one expansion.
+-- What insert requires. Document 01, 'The table': 'Insert marks a node'. What it leaves is `UpdateLeft` of the marks with the node. The lent words
+-- are the area of one expansion.
 -- Assumes nothing.
 use Prim.Native.Nat.{ℕ}
 use mathlib.Core.Path.{_≡_}
@@ -9,7 +9,7 @@ use lib.ListN.{length}
 use Rattle.network.specs.Network.{Network, nodeCount}
 use Rattle.network.specs.Points.{marked}
 use Rattle.expansion.specs.Expand.{CanExpand}
-use Rattle.table.specs.Flat.{Sized}
+use Rattle.rows.specs.Flat.{Sized}
 
 -- an accepted network with a byte for each node, a node that is no point, words that are all 0 with room for an expansion, and two arrays of n rows of
 -- K places, of any contents

@@ -8,22 +8,21 @@ use mathlib.Core.Bool.{Bool, true, false}
 use mathlib.Core.List.{List}
 use lib.Dec.{eqb}
 use lib.ListN.{length, getD, set, drop}
-use Rattle.network.specs.Network.{Network, Arc, nodeCount, arcCount, neighboursOf, weightsOf}
+use Rattle.network.specs.Network.{Network, Arc, nodeCount, arcCount, neighboursOf}
 use Rattle.network.specs.Accepted.{Accepted}
 use Rattle.network.specs.Walk.{Walk}
-use Rattle.network.specs.Distance.{NONE, dist}
+use Rattle.network.specs.Distance.{NONE, LONGEST, dist}
 use Rattle.network.specs.Points.{marked}
 use Rattle.network.specs.Count.{count}
-use Rattle.network.specs.Nearest.{key, nearest}
+use Rattle.network.specs.Nearest.{key, nearest, Nearer, before}
 use Rattle.network.specs.Rows.{pad, row}
-use Rattle.network.proofs.Rank.{Nearer, before}
-use Rattle.expansion.specs.Queue.{Holds, Queue, keyOf}
-use Rattle.expansion.specs.Tags.{tagOf}
+use Rattle.expansion.specs.Queue.{Holds, Queue}
 use Rattle.expansion.specs.Area.{Kept}
-use Rattle.expansion.proofs.Room.{arcsLeft}
-use Rattle.table.specs.Flat.{rowAt, Sized}
-use Rattle.table.specs.Take.{takeOut, hasPoint}
-use Rattle.table.specs.Candidate.{LONGEST, GivesOver, BestOf}
+use Rattle.expansion.specs.Room.{arcsLeft}
+use Rattle.rows.specs.Flat.{rowAt, Sized}
+use Rattle.rows.specs.Take.{takeOut, hasPoint}
+use Rattle.table.specs.Candidate.{GivesOver, BestOf}
+use Rattle.table.specs.Offer.{offerOf, arcOffer, OfferedBy}
 
 -- row i lacks the entry that it lost
 abbrev pub isShort : List ℕ → ℕ → Bool
@@ -50,10 +49,6 @@ pub record Freed (xs ys ids dists ids′ dists′ : List ℕ) (K x end changed :
   pub counted : changed ≡ count (λ i. hasPoint x (rowAt ids dists K i)) end
 
 -- ---- The first offers.
--- the entry that offers point p at distance d to row i
-abbrev pub offerOf : ℕ → ℕ → ℕ → ℕ
-offerOf i p d = keyOf d (tagOf p i)
-
 -- an empty queue behind the flags, with room for an entry for each row
 pub record CanSeed (g : Network) (P xs ids dists : List ℕ) (K : ℕ) : Type 0 where
   pub accepted : Accepted g
@@ -121,24 +116,6 @@ pub record TakenIn (xs ys ids dists ids′ dists′ : List ℕ) (K i p d : ℕ) 
   pub refused : r ≡ false → Refuses xs ys ids dists ids′ dists′ K i p d
 
 -- ---- Offering it on.
--- what offering (p, d), of the row of v, to v's neighbours requires: the distance and the queue have room for them
-pub record CanOffer (g : Network) (xs : List ℕ) (len v p d : ℕ) : Type 0 where
-  pub accepted : Accepted g
-  pub inside : v < nodeCount g
-  pub point : p < nodeCount g
-  pub fits : d ≤ LONGEST
-  pub queue : Queue (drop (nodeCount g) xs) len
-  pub room : nodeCount g + 2 * (len + length (neighboursOf g v)) ≤ length xs
-
--- the entry of arc j of v; some arc of v before place `end` put in the key
-abbrev pub arcOffer : Network → ℕ → ℕ → ℕ → ℕ → ℕ
-arcOffer g v p d j = offerOf (getD (neighboursOf g v) j 0) p (d + getD (weightsOf g v) j 0)
-
-pub record OfferedBy (g : Network) (v p d end k : ℕ) : Type 0 where
-  pub place : ℕ
-  pub low : place < end
-  pub is : k ≡ arcOffer g v p d place
-
 -- the arcs of v before place `end` have each put in an entry, or lead to a row that is not short
 pub record Offered (g : Network) (xs ys : List ℕ) (len more v p d end : ℕ) : Type 0 where
   pub frame : Kept xs ys (nodeCount g)

@@ -1,5 +1,5 @@
--- What `remove` requires. Document 01, 'The table': 'remove clears one'. What it leaves is `UpdateLeft` of the marks without the node. Words of scratch:
--- short flags n | queue.
+-- What `remove` requires. Document 01, 'The table': 'remove clears one'. What it leaves is `UpdateLeft` of the marks without the node. Words of
+-- scratch: short flags n | queue.
 -- Assumes nothing.
 use Prim.Native.Nat.{ℕ, _+_, _*_, _≤_, _<_}
 use mathlib.Core.Path.{_≡_}
@@ -10,7 +10,7 @@ use Rattle.network.specs.Network.{Network, nodeCount, arcCount}
 use Rattle.network.specs.Accepted.{Accepted}
 use Rattle.network.specs.Points.{marked}
 use Rattle.expansion.specs.Area.{Blank}
-use Rattle.table.specs.Flat.{Sized}
+use Rattle.rows.specs.Flat.{Sized}
 
 -- an accepted network with a byte for each node, a node that is a point, words that are all 0, and two arrays of n rows of K places, of any contents
 pub record CanRemove (g : Network) (P xs ids dists : List ℕ) (x K : ℕ) : Type 0 where

@@ -1,5 +1,5 @@
--- What an update of the marks leaves. Document 01, 'The table': 'Insert marks a node, remove clears one; each brings the table up to date and returns the
--- number of rows whose contents differ before and after.'
+-- What an update of the marks leaves. Document 01, 'The table': 'Insert marks a node, remove clears one; each brings the table up to date and
+-- returns the number of rows whose contents differ before and after.'
 -- Assumes nothing.
 use Prim.Native.Nat.{ℕ, _≤_}
 use mathlib.Core.Path.{_≡_}
@@ -7,7 +7,7 @@ use mathlib.Core.List.{List}
 use Rattle.network.specs.Network.{Network, nodeCount}
 use Rattle.network.specs.Rows.{rowsChanged}
 use Rattle.expansion.specs.Area.{Wiped}
-use Rattle.table.specs.Flat.{Sized, IsTable}
+use Rattle.rows.specs.Flat.{Sized, IsTable}
 
 -- the marks P become Q, and the table of P becomes that of Q. 'On one that the check would deny, [..] the changed count (at most n) and the table are free;
 -- the marks still change by the rule.' All words are 0 again.

@@ -3,10 +3,10 @@ ghost use lib.ListN.{set};
 ghost use Rattle.network.specs.Network.{network};
 ghost use Rattle.table.specs.Insert.{CanInsert};
 ghost use Rattle.table.specs.Updated.{UpdateLeft};
-use crate::put;
 use expansion::step;
 use expansion::step::Taken;
 use network::arcs::wide;
+use rows::put;
 
 // Marks a node and brings the table up to date. Returns how many rows changed. All words are 0 before and after. The mark comes last: no row is read
 // from the marks.

@@ -7,26 +7,22 @@ ghost use lib.ListN.{length, set};
 ghost use Rattle.network.specs.Network.{network, nodeCount, neighboursOf};
 ghost use Rattle.network.specs.Points.{marked};
 ghost use Rattle.table.specs.Candidate.{Better, BestOfRow, CanChoose, BestOf};
-ghost use Rattle.table.specs.Mend.{CanFree, Freed, CanSeed, Seeded, PutLast, CanTakeIn, TakenIn, CanOffer, Offered, CanFill, FillLeft};
+ghost use Rattle.table.specs.Offer.{CanOffer};
+ghost use Rattle.table.specs.Mend.{CanFree, Freed, CanSeed, Seeded, PutLast, CanTakeIn, TakenIn, Offered, CanFill, FillLeft};
 ghost use Rattle.table.specs.Remove.{CanRemove};
 ghost use Rattle.table.specs.Updated.{UpdateLeft};
-use crate::take;
 use expansion::queue;
 use expansion::tags;
 use expansion::words;
 use network::arcs;
 use network::arcs::wide;
 use network::distance::Distance;
+use rows::take;
 
 // An entry that a short row may take. A distance of NONE stands for none.
 struct Candidate {
     point: u32,
     distance: u32,
-}
-
-impl Candidate {
-    // Document 01: 'Every distance is at most 4,294,770,690.'
-    pub const LONGEST: u32 = 4294770690;
 }
 
 // Takes a point out of every row, and flags the rows that had it. Returns how many.
@@ -65,7 +61,7 @@ fn better(points: &[u8], own: &[u32], best: Candidate, p: u32, e: u32, w: u32) -
     requires { ⌜ w ≤ 65535 ⌝ }
     ensures { λ r. ⌜ Better (now (points .entry)) (now (own .entry)) (best .point, best .distance) (r .point, r .distance) p e w ⌝ }
 {
-    if Candidate::LONGEST < e {
+    if Distance::LONGEST < e {
         return best;
     }
     let d = e + w;
@@ -220,7 +216,7 @@ fn take_in(
     if flag != 1 {
         return false;
     }
-    if Candidate::LONGEST < d {
+    if Distance::LONGEST < d {
         return false;
     }
     let a = i * k;

@@ -1,7 +1,6 @@
 -- `overlap::overlap_lazy_ep` meets its contract: the struct of the answer, and the arrays as the answer leaves them.
 -- Assumes nothing.
-use mathlib.Core.Path.{ap, _∙_}
-use Rattle.overlap.specs.Listed.{SearchOutcome, listedListing}
+use Rattle.overlap.proofs.Outcomes.{search-exported}
 use borrow.Author.Needs.{needs}
 use Rattle.overlap.proofs.overlap_lazy_ep.Statement.{statement}
 use Rattle.overlap.proofs.overlap_lazy_ep.Tie as tie
@@ -19,13 +18,7 @@ same-length-2 : tie.Need-same-length-2
 same-length-2 c = search needs
 
 returns : tie.Need-returns
-returns c =
-    let e = c .before .before .before .before .before .answer .ensures in
-    record {
-      answer = c .listing-of .ensures ∙ ap (λ (o : SearchOutcome). listedListing (o .answer)) e;
-      scratch-left = ap (λ (o : SearchOutcome). o .scratch) e;
-      answers-left = ap (λ (o : SearchOutcome). o .answers) e;
-    }
+returns c = search-exported (c .listing-of .ensures) (c .before .before .before .before .before .answer .ensures)
 
 pub overlap-lazy-ep-spec : {M : Type 1} → statement M
 overlap-lazy-ep-spec =

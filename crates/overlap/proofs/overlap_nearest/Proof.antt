@@ -1,14 +1,11 @@
 -- `overlap::overlap_nearest` meets its contract: the struct of the answer, case by case, and the arrays as the answer leaves them.
 -- Assumes nothing.
-use mathlib.Core.Path.{sym, ap, _∙_}
-use Rattle.overlap.specs.Nearest.{NearestOutcome, foundListing}
-use Rattle.network.specs.Network.{Network, network}
+use mathlib.Core.Path.{sym, ap}
+use Rattle.overlap.specs.Nearest.{foundListing}
+use Rattle.overlap.proofs.Outcomes.{nearest-exported}
 use borrow.Author.Needs.{needs}
 use Rattle.overlap.proofs.overlap_nearest.Statement.{statement}
 use Rattle.overlap.proofs.overlap_nearest.Tie as tie
-
-abbrev G : tie.Start → Network
-G s = network (s .args .starts .now) (s .args .neighbours .now) (s .args .weights .now)
 
 answer-requires : tie.Need-answer-requires
 answer-requires c κs = search needs
@@ -30,13 +27,8 @@ same-length-3 c = search needs
 
 returns : tie.Need-returns
 returns c =
-    let e = c .before .before .before .before .before .before .before .before .before .answer .ensures in
-    record {
-      answer = ap foundListing (sym (c .before .number .given .1)) ∙ ap (λ (o : NearestOutcome). foundListing (o .answer)) e;
-      scratch-left = ap (λ (o : NearestOutcome). o .scratch) e;
-      ids-left = ap (λ (o : NearestOutcome). o .ids) e;
-      distances-left = ap (λ (o : NearestOutcome). o .distances) e;
-    }
+    nearest-exported (ap foundListing (sym (c .before .number .given .1)))
+    (c .before .before .before .before .before .before .before .before .before .answer .ensures)
 
 same-length-4 : tie.Need-same-length-4
 same-length-4 c = search needs
@@ -49,13 +41,8 @@ same-length-6 c = search needs
 
 returns-2 : tie.Need-returns-2
 returns-2 c =
-    let e = c .before .before .before .before .before .before .before .before .before .answer .ensures in
-    record {
-      answer = ap foundListing (sym (c .before .length .given .1)) ∙ ap (λ (o : NearestOutcome). foundListing (o .answer)) e;
-      scratch-left = ap (λ (o : NearestOutcome). o .scratch) e;
-      ids-left = ap (λ (o : NearestOutcome). o .ids) e;
-      distances-left = ap (λ (o : NearestOutcome). o .distances) e;
-    }
+    nearest-exported (ap foundListing (sym (c .before .length .given .1)))
+    (c .before .before .before .before .before .before .before .before .before .answer .ensures)
 
 pub overlap-nearest-spec : {M : Type 1} → statement M
 overlap-nearest-spec =

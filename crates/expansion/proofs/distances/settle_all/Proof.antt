@@ -8,7 +8,7 @@ use Rattle.expansion.proofs.AreaLaws.{settledAs, room, kept-less, kept-
 use mathlib.Core.Path.{refl}
 use native.Mathlib.Omega.{arith}
 use lib.ListN.{length}
-use Rattle.expansion.proofs.Progress.{All, all-leads, Progress, progress-start, progress-nodes, took-area, took-place, took-small, took-follow, room-falls, frame-settled, progress-settled}
+use Rattle.expansion.proofs.Progress.{All, all-leads, Progress, progress-start, progress-nodes, took-fits, took-follow, room-falls, frame-settled, progress-settled}
 use Rattle.expansion.proofs.Settled.{emptied-settled}
 use borrow.Author.Needs.{needs}
 use Rattle.expansion.proofs.distances.settle_all.Statement.{statement}
@@ -89,9 +89,7 @@ settle-requires : tie.Need-settle-requires Inv-loop μ-loop
 settle-requires c κs =
     let t = took (c .before .before) in
     let l = c .before .before .before .before .before .before .before .before in
-    let ok = start-of l .pre .accepted in
-    let a = took-area ok (l .loop .inv .1) t in
-    (omega (arith, a .fits, took-place ok (l .loop .inv .1) t), omega (arith, a .fits, t .inside), omega (arith, took-small ok (l .loop .inv .1) t))
+    took-fits (start-of l .pre .accepted) (l .loop .inv .1) t
 
 add-settled : tie.Need-add-settled Inv-loop μ-loop
 add-settled c = search needs

@@ -19,11 +19,11 @@ abbrev μ-loop : tie.MeasureT-loop
 loop-holds : tie.Need-loop-holds Inv-loop μ-loop
 loop-holds c = (omega arith, stored-none _ _)
 
-mul-word : tie.Need-mul-word Inv-loop μ-loop
-mul-word c = search needs
+mul-distance-of : tie.Need-mul-distance-of Inv-loop μ-loop
+mul-distance-of c = search needs
 
-shared-slice-read-word : tie.Need-shared-slice-read-word Inv-loop μ-loop
-shared-slice-read-word c = search needs
+shared-slice-read-distance-of : tie.Need-shared-slice-read-distance-of Inv-loop μ-loop
+shared-slice-read-distance-of c = search needs
 
 distance-of-requires : tie.Need-distance-of-requires Inv-loop μ-loop
 distance-of-requires c κs = search needs
@@ -45,7 +45,7 @@ loop-less c = search needs
 loop-again : tie.Need-loop-again Inv-loop μ-loop
 loop-again c =
     let l = c .before .before .before in
-    (omega arith, stored-more (c .distance-of .result) (l .loop .inv .1) (omega arith) (c .distance-of .ensures))
+    (omega arith, stored-more (c .distance-of .result .value) (l .loop .inv .1) (omega arith) (c .distance-of .ensures))
 
 same-length : tie.Need-same-length Inv-loop μ-loop
 same-length c = c .before .loop .inv .1 .size
@@ -63,8 +63,8 @@ write-distances-spec =
     Inv-loop
     μ-loop
     loop-holds
-    mul-word
-    shared-slice-read-word
+    mul-distance-of
+    shared-slice-read-distance-of
     distance-of-requires
     mul-answers
     slice-write-answers

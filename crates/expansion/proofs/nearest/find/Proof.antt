@@ -12,7 +12,7 @@ use Rattle.network.specs.Network.{neighboursOf, Network, network, nodeCount}
 use Rattle.expansion.specs.Area.{Followed, Took}
 use native.Mathlib.Omega.{arith}
 use lib.ListN.{length}
-use Rattle.expansion.proofs.Progress.{All, all-leads, Progress, progress-start, progress-nodes, took-area, took-place, took-small, took-follow, room-falls, frame-settled, progress-settled}
+use Rattle.expansion.proofs.Progress.{All, all-leads, Progress, progress-start, progress-nodes, took-area, took-fits, took-follow, room-falls, frame-settled, progress-settled}
 use Rattle.expansion.proofs.Finding.{Finding, finding-start, found-when, found-emptied, found-far, noted-size, noted-beside, finding-noted}
 use Rattle.expansion.proofs.Beside.{Beside, room-beside, progress-beside}
 use borrow.Author.Needs.{needs}
@@ -142,9 +142,7 @@ settle-requires : tie.Need-settle-requires Inv-loop μ-loop
 settle-requires c κs =
     let t = c .before .before .before in
     let l = loop-of t in
-    let ok = start-of l .pre .expand .accepted in
-    let a = took-area ok (l .loop .inv .1) (took t) in
-    (omega (arith, a .fits, took-place ok (l .loop .inv .1) (took t)), omega (arith, a .fits, took t .inside), omega (arith, took-small ok (l .loop .inv .1) (took t)))
+    took-fits (start-of l .pre .expand .accepted) (l .loop .inv .1) (took t)
 
 add-settled : tie.Need-add-settled Inv-loop μ-loop
 add-settled c = search needs

@@ -3,10 +3,9 @@
 -- Assumes nothing.
 use Rattle.expansion.specs.Queue.{keyOf}
 use Rattle.expansion.specs.Area.{arcKey, Followed}
-use Rattle.network.specs.Network.{Network, Arc, neighboursOf, weightsOf, network}
-use Rattle.network.proofs.Ranges.{arc-at}
-use Rattle.network.proofs.NodeArcs.{parts-even}
-use Rattle.network.proofs.NumberZero.{accepted-ranges, accepted-searchable}
+use Rattle.network.specs.Network.{Network, neighboursOf, weightsOf, network}
+use Rattle.network.proofs.NumberZero.{accepted-searchable}
+use Rattle.network.proofs.ArcAt.{ArcAt, arc-handed}
 use Prim.Native.Nat.{_+_, _-_, _≤_, _<_}
 use mathlib.Core.Path.{_≡_, ap, _∙_}
 use native.Mathlib.Omega.{arith}
@@ -35,33 +34,20 @@ ahead c = rw (c .before .before .before .wide .ensures) at (c .before .before .n
 weighed : (c : tie.After-weights-of Inv-loop μ-loop) → c .weights-of .result .now ≡ weightsOf (G (start c)) (start c .args .node)
 weighed c = rw (c .before .wide2 .ensures) at (c .weights-of .ensures)
 
-low : (c : tie.In-loop Inv-loop μ-loop) → c .before .loop .j < length (neighboursOf (G (start (c .before .before))) (start (c .before .before) .args .node))
-low c = rw (ahead (c .before .before)) at (c .loop-test .taken)
-
-to-is : (c : tie.In-loop Inv-loop μ-loop)
-    → getD (c .before .before .before .before .neighbours-of .result .now) (c .before .loop .j) 0
-    ≡ getD (neighboursOf (G (start (c .before .before))) (start (c .before .before) .args .node)) (c .before .loop .j) 0
-to-is c = ap (λ l. getD l (c .before .loop .j) 0) (ahead (c .before .before))
-
-weight-is : (c : tie.In-loop Inv-loop μ-loop)
-    → getD (c .before .before .weights-of .result .now) (c .before .loop .j) 0
-    ≡ getD (weightsOf (G (start (c .before .before))) (start (c .before .before) .args .node)) (c .before .loop .j) 0
-weight-is c = ap (λ l. getD l (c .before .loop .j) 0) (weighed (c .before .before))
-
-arc : (c : tie.In-loop Inv-loop μ-loop)
-    → Arc (G (start (c .before .before))) (start (c .before .before) .args .node)
-    (getD (neighboursOf (G (start (c .before .before))) (start (c .before .before) .args .node)) (c .before .loop .j) 0)
-    (getD (weightsOf (G (start (c .before .before))) (start (c .before .before) .args .node)) (c .before .loop .j) 0)
-arc c =
-    let s = start (c .before .before) in
-    arc-at (accepted-ranges (s .pre .accepted)) (s .args .node) (s .pre .inside) (c .before .loop .j) (low c)
+place : (c : tie.In-loop Inv-loop μ-loop)
+    → let s = start (c .before .before) in
+    ArcAt (G s) (s .args .node) (c .before .loop .j) (c .before .before .before .before .neighbours-of .result .now) (c .before .before .weights-of .result .now)
+place c =
+    let w = c .before .before in
+    let s = start w in
+    arc-handed (s .pre .accepted) (s .pre .inside) (ahead w) (weighed w) (c .loop-test .taken)
 
 -- the label word of the node that the arc leads to
 word : (c : tie.After-wide3 Inv-loop μ-loop) → start (c .before .before .before .before .before) .args .b + c .wide3 .result < length (c .before .before .before .before .loop .s)
 word c =
     let i = c .before .before .before in
     let s = start (i .before .before) in
-    omega (arith, c .wide3 .ensures, to-is i, s .pre .accepted .leads-in (arc i), i .before .loop .inv .1 .frame .size, s .pre .room)
+    omega (arith, c .wide3 .ensures, place i .to, s .pre .accepted .leads-in (place i .arc), i .before .loop .inv .1 .frame .size, s .pre .room)
 
 sub-at : tie.Need-sub-at Inv-loop μ-loop
 sub-at c = search needs
@@ -101,19 +87,12 @@ mul-far : tie.Need-mul-far Inv-loop μ-loop
 mul-far c = search needs
 
 shared-slice-read-far : tie.Need-shared-slice-read-far Inv-loop μ-loop
-shared-slice-read-far c =
-    let w = c .before .before .before .before in
-    let s = start w in
-    let p = accepted-searchable (s .pre .accepted) in
-    let h : s .args .node + 1 < length (s .args .starts .now) = omega (arith, s .pre .inside) in
-    let q = ap length (ahead w) in
-    let r = ap length (weighed w) in
-    omega (arith, parts-even (p .neighbours .part _ h) (p .weights .part _ h), c .before .before .loop-test .taken)
+shared-slice-read-far c = place (c .before .before) .weighed
 
 add-far : tie.Need-add-far Inv-loop μ-loop
 add-far c =
     let s = start (c .before .before .before .before) in
-    omega (arith, s .pre .accepted .weight-high (arc (c .before .before)), weight-is (c .before .before), s .pre .fits)
+    omega (arith, s .pre .accepted .weight-high (place (c .before .before) .arc), place (c .before .before) .weight, s .pre .fits)
 
 add-j : tie.Need-add-j Inv-loop μ-loop
 add-j c = search needs
@@ -135,13 +114,13 @@ tag-of-requires c κs =
     let i = c .before .before .before .before .before in
     let s = start (i .before .before) in
     let f = s .pre .accepted .few in
-    (omega (arith, s .pre .accepted .leads-in (arc i), to-is i), omega (arith, s .pre .inside))
+    (omega (arith, s .pre .accepted .leads-in (place i .arc), place i .to), omega (arith, s .pre .inside))
 
 push-at-requires : tie.Need-push-at-requires Inv-loop μ-loop
 push-at-requires c κs =
     let i = c .before .before .before .before .before .before .before in
     let f = i .before .loop .inv .1 in
-    (f .queue, omega (arith, f .grown, f .frame .size, start (i .before .before) .pre .room, low i))
+    (f .queue, omega (arith, f .grown, f .frame .size, start (i .before .before) .pre .room, place i .low))
 
 add-more : tie.Need-add-more Inv-loop μ-loop
 add-more c = search needs
@@ -154,7 +133,7 @@ loop-again c =
     let i = c .before .before .before .before .before .before .before .before .before .before in
     let s = start (i .before .before) in
     let t = c .before .before .before .before in
-    let e : keyOf (s .args .label + getD (i .before .before .weights-of .result .now) (i .before .loop .j) 0) (t .tag-of .result) ≡ arcKey (G s) (s .args .node) (s .args .label) (i .before .loop .j) = omega (arith, t .tag-of .ensures, to-is i, weight-is i) in
+    let e : keyOf (s .args .label + getD (i .before .before .weights-of .result .now) (i .before .loop .j) 0) (t .tag-of .result) ≡ arcKey (G s) (s .args .node) (s .args .label) (i .before .loop .j) = omega (arith, t .tag-of .ensures, place i .to, place i .weight) in
     (omega arith, followed-push (i .before .loop .inv .1) (rw e at (c .before .before .push-at .ensures)))
 
 loop-less-2 : tie.Need-loop-less-2 Inv-loop μ-loop
@@ -166,8 +145,8 @@ loop-again-2 c =
     let f = i .before .loop .inv .1 in
     let s = start (i .before .before) in
     let d = c .before .before in
-    let same : d .wide3 .result ≡ getD (neighboursOf (G s) (s .args .node)) (i .before .loop .j) 0 = d .wide3 .ensures ∙ to-is i in
-    let word = f .frame .words (s .args .b + d .wide3 .result) (omega (arith, s .pre .accepted .leads-in (arc i))) in
+    let same : d .wide3 .result ≡ getD (neighboursOf (G s) (s .args .node)) (i .before .loop .j) 0 = d .wide3 .ensures ∙ place i .to in
+    let word = f .frame .words (s .args .b + d .wide3 .result) (omega (arith, s .pre .accepted .leads-in (place i .arc))) in
     (omega arith, followed-skip f (λ z. c .if1 .left (word ∙ ap (λ x. getD (s .args .s .now) (s .args .b + x) 0) same ∙ z)))
 
 same-length : tie.Need-same-length Inv-loop μ-loop

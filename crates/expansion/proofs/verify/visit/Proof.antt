@@ -15,7 +15,7 @@ use Rattle.expansion.specs.Area.{Kept, Took, Followed}
 use Rattle.expansion.specs.Visited.{isOther}
 use Rattle.expansion.proofs.AreaLaws.{room, settledAs, kept-less, kept-trans, area-left}
 use Rattle.expansion.proofs.AreaSearch.{label-back}
-use Rattle.expansion.proofs.Progress.{All, all-leads, Progress, progress-start, progress-nodes, took-area, took-place, took-small, took-follow, room-falls, frame-settled, progress-settled}
+use Rattle.expansion.proofs.Progress.{All, all-leads, Progress, progress-start, progress-nodes, took-area, took-place, took-fits, took-follow, room-falls, frame-settled, progress-settled}
 use Rattle.expansion.proofs.VisitLaws.{Counted, counted-few, counted-start, labels-exact, came, came-label, counted-next, answer-taken, answer-none}
 use Rattle.expansion.proofs.verify.visit.Statement.{statement}
 use Rattle.expansion.proofs.verify.visit.Tie as tie
@@ -167,9 +167,7 @@ settle-requires c κs =
     let d = c .before .before .before .before .before .before in
     let t = took (taken-of d) in
     let l = loop-of (taken-of d) in
-    let e = l .loop .inv .1 in
-    let a = took-area (accepted l) e t in
-    (omega (arith, a .fits, took-place (accepted l) e t), omega (arith, a .fits, t .inside), omega (arith, took-small (accepted l) e t))
+    took-fits (accepted l) (l .loop .inv .1) t
 
 add-settled : tie.Need-add-settled Inv-loop μ-loop
 add-settled c =

@@ -1,9 +1,13 @@
--- `overlap::distances::answer` meets its contract: refused with its number, or run where no condition is met.
+-- `overlap::distances::answer` meets its contract: refused with its number, or expanded over the cleared scratch where no condition is met.
 -- Assumes nothing.
 use mathlib.Core.Path.{sym, _∙_}
+use native.Mathlib.Omega.{arith}
+use lib.ListN.{length}
 use Rattle.network.specs.Network.{Network, network}
+use Rattle.expansion.proofs.Settled.{zero-blank}
+use Rattle.overlap.proofs.Ready.{DistancesReady, distances-ready}
+use Rattle.overlap.proofs.Scratch.{zero-length, all-zero}
 use Rattle.overlap.proofs.Outcomes.{distances-refused, distances-done}
-use Rattle.overlap.proofs.Ready.{distances-ready}
 use borrow.Author.Needs.{needs}
 use Rattle.overlap.proofs.distances.answer.Statement.{statement}
 use Rattle.overlap.proofs.distances.answer.Tie as tie
@@ -11,8 +15,18 @@ use Rattle.overlap.proofs.distances.answer.Tie as tie
 abbrev G : tie.Start → Network
 G s = network (s .args .starts .now) (s .args .neighbours .now) (s .args .weights .now)
 
-number-requires : tie.Need-number-requires
-number-requires c κs = search needs
+abbrev start : tie.After-distances-number → tie.Start
+start c = c .before .before .before .before .before .before .before .before
+
+-- behind the test no condition is met
+ready : (e : tie.Else1) → let s = start (e .before) in DistancesReady (G s) (s .args .node) (s .args .scratch .now) (s .args .answers .now)
+ready e =
+    let n = e .before in
+    let s = start n in
+    distances-ready (G s) (s .args .node) (s .args .scratch .now) (s .args .answers .now) (sym (n .distances-number .ensures) ∙ e .if1 .left)
+
+distances-number-requires : tie.Need-distances-number-requires
+distances-number-requires c κs = search needs
 
 same-length : tie.Need-same-length
 same-length c = search needs
@@ -22,14 +36,27 @@ same-length-2 c = search needs
 
 returns : tie.Need-returns
 returns c =
-    let s = c .before .before .before .before .before .before .before .before .before in
-    distances-refused (G s) (s .args .node) (s .args .scratch .now) (s .args .answers .now) (c .before .number .result) (c .before .number .ensures) (c .if1 .taken)
+    let n = c .before in
+    let s = start n in
+    distances-refused (G s) (s .args .node) (s .args .scratch .now) (s .args .answers .now) (n .distances-number .result) (n .distances-number .ensures) (c .if1 .taken)
 
-run-requires : tie.Need-run-requires
-run-requires c κs =
-    let n = c .before .before in
-    let s = n .before .before .before .before .before .before .before .before .before in
-    distances-ready (G s) (s .args .node) (s .args .scratch .now) (s .args .answers .now) (sym (n .before .number .ensures) ∙ n .if1 .left)
+zero-requires : tie.Need-zero-requires
+zero-requires c κs = search needs
+
+distances-requires : tie.Need-distances-requires
+distances-requires c κs =
+    let z = c .before .before .before .before in
+    let e = z .before .before in
+    let p = ready e in
+    let long = length (start (e .before) .args .scratch .now) in (
+      record {
+        accepted = p .accepted;
+        inside = p .inside;
+        blank = zero-blank long 0 (z .zero .ensures);
+        size = omega (arith, p .room, p .accepted .some, zero-length long (z .zero .ensures));
+      },
+      omega (arith, p .places),
+    )
 
 same-length-3 : tie.Need-same-length-3
 same-length-3 c = search needs
@@ -39,20 +66,26 @@ same-length-4 c = search needs
 
 returns-2 : tie.Need-returns-2
 returns-2 c =
-    let r = c .before .before .before .before in
-    let n = r .before .before .before in
-    let s = n .before .before .before .before .before .before .before .before .before in
-    distances-done (G s) (s .args .node) (s .args .scratch .now) (s .args .answers .now) (sym (n .before .number .ensures) ∙ n .if1 .left) (r .run .ensures .0) (r .run .ensures .1)
+    let d = c .before .before .before .before in
+    let z = d .before .before .before .before .before in
+    let e = z .before .before in
+    let n = e .before in
+    let s = start n in
+    let long = length (s .args .scratch .now) in
+    distances-done (G s) (s .args .node) (s .args .scratch .now) (s .args .answers .now) (sym (n .distances-number .ensures) ∙ e .if1 .left)
+    (all-zero long (zero-length long (z .zero .ensures)) (d .distances .ensures .area))
+    (d .distances .ensures .answers)
 
 pub answer-spec : {M : Type 1} → statement M
 answer-spec =
     tie.close
     (tie.spec
-    number-requires
+    distances-number-requires
     same-length
     same-length-2
     returns
-    run-requires
+    zero-requires
+    distances-requires
     same-length-3
     same-length-4
     returns-2)

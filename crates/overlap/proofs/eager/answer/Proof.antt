@@ -1,9 +1,14 @@
--- `overlap::eager::answer` meets its contract: refused with its number, or run where no condition is met, case by case.
+-- `overlap::eager::answer` meets its contract: refused with its number, or searched over the cleared scratch where no condition is met, case by case.
 -- Assumes nothing.
 use mathlib.Core.Path.{sym, _∙_}
-use Rattle.overlap.proofs.Ready.{search-ready}
-use Rattle.overlap.proofs.Outcomes.{eager-refused, eager-beyond, eager-done}
+use native.Mathlib.Omega.{arith}
+use lib.ListN.{length}
 use Rattle.network.specs.Network.{Network, network}
+use Rattle.expansion.proofs.Settled.{zero-blank}
+use Rattle.overlap.specs.Listed.{SearchReady}
+use Rattle.overlap.proofs.Ready.{search-ready}
+use Rattle.overlap.proofs.Scratch.{zero-length, all-zero, words-for-search}
+use Rattle.overlap.proofs.Outcomes.{eager-refused, eager-beyond, eager-done}
 use borrow.Author.Needs.{needs}
 use Rattle.overlap.proofs.eager.answer.Statement.{statement}
 use Rattle.overlap.proofs.eager.answer.Tie as tie
@@ -11,11 +16,18 @@ use Rattle.overlap.proofs.eager.answer.Tie as tie
 abbrev G : tie.Start → Network
 G s = network (s .args .starts .now) (s .args .neighbours .now) (s .args .weights .now)
 
-abbrev start : tie.After-number → tie.Start
+abbrev start : tie.After-search-number → tie.Start
 start c = c .before .before .before .before .before .before .before .before .before
 
-number-requires : tie.Need-number-requires
-number-requires c κs = search needs
+-- behind the test no condition is met
+ready : (e : tie.Else1) → let s = start (e .before) in SearchReady (G s) (s .args .points .now) (s .args .q) (s .args .k) (s .args .scratch .now) (s .args .answers .now)
+ready e =
+    let n = e .before in
+    let s = start n in
+    search-ready (G s) (s .args .points .now) (s .args .q) (s .args .k) (s .args .scratch .now) (s .args .answers .now) (sym (n .search-number .ensures) ∙ e .if1 .left)
+
+search-number-requires : tie.Need-search-number-requires
+search-number-requires c κs = search needs
 
 same-length : tie.Need-same-length
 same-length c = search needs
@@ -27,14 +39,37 @@ returns : tie.Need-returns
 returns c =
     let n = c .before in
     let s = start n in
-    eager-refused (G s) (s .args .points .now) (s .args .q) (s .args .k) (s .args .limit) (s .args .scratch .now) (s .args .answers .now) (n .number .result) (n .number .ensures) (c .if1 .taken)
+    eager-refused (G s) (s .args .points .now) (s .args .q) (s .args .k) (s .args .limit) (s .args .scratch .now) (s .args .answers .now) (n .search-number .result) (n .search-number .ensures) (c .if1 .taken)
 
-run-requires : tie.Need-run-requires
-run-requires c κs =
-    let e = c .before .before in
-    let n = e .before in
-    let s = start n in
-    search-ready (G s) (s .args .points .now) (s .args .q) (s .args .k) (s .args .scratch .now) (s .args .answers .now) (sym (n .number .ensures) ∙ e .if1 .left)
+zero-requires : tie.Need-zero-requires
+zero-requires c κs = search needs
+
+wide-requires : tie.Need-wide-requires
+wide-requires c κs = search needs
+
+eager-requires : tie.Need-eager-requires
+eager-requires c κs =
+    let z = c .before .before .before .before .before in
+    let e = z .before .before in
+    let s = start (e .before) in
+    let p = ready e .query in
+    let long = length (s .args .scratch .now) in
+    record {
+      accepted = p .accepted;
+      points = p .points;
+      site = p .inside;
+      some = omega (arith, p .some, c .wide .ensures);
+      blank = zero-blank long 0 (z .zero .ensures);
+      size =
+          omega (
+            arith,
+            words-for-search (G s) (s .args .k) (p .some) (p .few) (p .accepted .some),
+            p .room,
+            zero-length long (z .zero .ensures),
+            c .wide .ensures,
+          );
+      answers = ready e .places;
+    }
 
 enum-told : tie.Need-enum-told
 enum-told c = search needs
@@ -51,11 +86,15 @@ same-length-4 c = search needs
 returns-2 : tie.Need-returns-2
 returns-2 c =
     let r = c .before .before .before .before .before .before in
-    let e = r .before .before .before in
+    let w = r .before in
+    let z = w .before .before .before .before .before in
+    let e = z .before .before in
     let n = e .before in
     let s = start n in
-    let h = rw (c .enum-told .given .1) at (r .run .ensures .1) in
-    eager-beyond (G s) (s .args .points .now) (s .args .q) (s .args .k) (s .args .limit) (s .args .scratch .now) (s .args .answers .now) (sym (n .number .ensures) ∙ e .if1 .left) (r .run .ensures .0) (h .0) (h .1)
+    let long = length (s .args .scratch .now) in
+    let h = rw (c .enum-told .given .1, w .wide .ensures) at (r .eager .ensures) in
+    eager-beyond (G s) (s .args .points .now) (s .args .q) (s .args .k) (s .args .limit) (s .args .scratch .now) (s .args .answers .now) (sym (n .search-number .ensures) ∙ e .if1 .left)
+    (all-zero long (zero-length long (z .zero .ensures)) (h .area)) (h .beyond) (h .answers)
 
 same-length-5 : tie.Need-same-length-5
 same-length-5 c = search needs
@@ -66,21 +105,27 @@ same-length-6 c = search needs
 returns-3 : tie.Need-returns-3
 returns-3 c =
     let r = c .before .before .before .before .before .before .before in
-    let e = r .before .before .before in
+    let w = r .before in
+    let z = w .before .before .before .before .before in
+    let e = z .before .before in
     let n = e .before in
     let s = start n in
-    let h = rw (c .before .size .given .1) at (r .run .ensures .1) in
-    eager-done (G s) (s .args .points .now) (s .args .q) (s .args .k) (s .args .limit) (s .args .scratch .now) (s .args .answers .now) (sym (n .number .ensures) ∙ e .if1 .left) (r .run .ensures .0) (h .0) (h .1) (h .2) (h .3)
+    let long = length (s .args .scratch .now) in
+    let h = rw (c .before .size .given .1, w .wide .ensures) at (r .eager .ensures) in
+    eager-done (G s) (s .args .points .now) (s .args .q) (s .args .k) (s .args .limit) (s .args .scratch .now) (s .args .answers .now) (sym (n .search-number .ensures) ∙ e .if1 .left)
+    (all-zero long (zero-length long (z .zero .ensures)) (h .area)) (h .within) (h .sized) (h .counted) (h .answers)
 
 pub answer-spec : {M : Type 1} → statement M
 answer-spec =
     tie.close
     (tie.spec
-    number-requires
+    search-number-requires
     same-length
     same-length-2
     returns
-    run-requires
+    zero-requires
+    wide-requires
+    eager-requires
     enum-told
     enum-known-size
     same-length-3

@@ -1,8 +1,10 @@
 -- `overlap::lazy::answer` meets its contract: refused with its number, or run where no condition is met.
 -- Assumes nothing.
-use mathlib.Core.Path.{sym, _∙_}
+use mathlib.Core.Path.{refl, sym, _∙_}
+use lib.ListN.{length}
 use Rattle.network.specs.Network.{Network, network}
 use Rattle.overlap.proofs.Ready.{search-ready}
+use Rattle.overlap.proofs.Scratch.{all-zero}
 use Rattle.overlap.proofs.Outcomes.{lazy-refused, lazy-done}
 use borrow.Author.Needs.{needs}
 use Rattle.overlap.proofs.lazy.answer.Statement.{statement}
@@ -11,11 +13,11 @@ use Rattle.overlap.proofs.lazy.answer.Tie as tie
 abbrev G : tie.Start → Network
 G s = network (s .args .starts .now) (s .args .neighbours .now) (s .args .weights .now)
 
-abbrev start-of : tie.After-number → tie.Start
-start-of n = n .before .before .before .before .before .before .before .before .before
+abbrev start : tie.After-search-number → tie.Start
+start n = n .before .before .before .before .before .before .before .before .before
 
-number-requires : tie.Need-number-requires
-number-requires c κs = search needs
+search-number-requires : tie.Need-search-number-requires
+search-number-requires c κs = search needs
 
 same-length : tie.Need-same-length
 same-length c = search needs
@@ -26,15 +28,15 @@ same-length-2 c = search needs
 returns : tie.Need-returns
 returns c =
     let n = c .before in
-    let s = start-of n in
-    lazy-refused (G s) (s .args .points .now) (s .args .q) (s .args .k) (s .args .scratch .now) (s .args .answers .now) (n .number .result) (n .number .ensures) (c .if1 .taken)
+    let s = start n in
+    lazy-refused (G s) (s .args .points .now) (s .args .q) (s .args .k) (s .args .scratch .now) (s .args .answers .now) (n .search-number .result) (n .search-number .ensures) (c .if1 .taken)
 
 run-requires : tie.Need-run-requires
 run-requires c κs =
     let e = c .before .before in
     let n = e .before in
-    let s = start-of n in
-    search-ready (G s) (s .args .points .now) (s .args .q) (s .args .k) (s .args .scratch .now) (s .args .answers .now) (sym (n .number .ensures) ∙ e .if1 .left)
+    let s = start n in
+    search-ready (G s) (s .args .points .now) (s .args .q) (s .args .k) (s .args .scratch .now) (s .args .answers .now) (sym (n .search-number .ensures) ∙ e .if1 .left)
 
 same-length-3 : tie.Need-same-length-3
 same-length-3 c = search needs
@@ -47,14 +49,15 @@ returns-2 c =
     let r = c .before .before .before .before in
     let e = r .before .before .before in
     let n = e .before in
-    let s = start-of n in
-    lazy-done (G s) (s .args .points .now) (s .args .q) (s .args .k) (s .args .scratch .now) (s .args .answers .now) (sym (n .number .ensures) ∙ e .if1 .left) (r .run .ensures .0) (r .run .ensures .1)
+    let s = start n in
+    let h = r .run .ensures in
+    lazy-done (G s) (s .args .points .now) (s .args .q) (s .args .k) (s .args .scratch .now) (s .args .answers .now) (sym (n .search-number .ensures) ∙ e .if1 .left) (all-zero (length (s .args .scratch .now)) refl (h .area)) (h .sized) (h .answers)
 
 pub answer-spec : {M : Type 1} → statement M
 answer-spec =
     tie.close
     (tie.spec
-    number-requires
+    search-number-requires
     same-length
     same-length-2
     returns

@@ -1,13 +1,14 @@
--- `overlap::lazy::run` meets its contract: S is enough for the words that are used, and the whole scratch is cleared last.
+-- `overlap::lazy::run` meets its contract: S is enough for the words that either search uses, and all words are 0 behind it.
 -- Assumes nothing.
-use Prim.Native.Nat.{_≤_}
-use mathlib.Core.Path.{_≡_}
-use mathlib.Core.List.{_++_}
+use Prim.Native.Nat.{ℕ, _+_, _*_, _-_, _≤_}
+use mathlib.Core.Path.{_≡_, ap, _∙_}
+use native.Mathlib.Nat.{mul-le-mul-left, mul-le-mul-right}
 use native.Mathlib.Omega.{arith}
-use lib.ListN.{length, drop, length-take}
-use Rattle.network.specs.Network.{Network, network, nodeCount, arcCount}
-use Rattle.overlap.specs.Lazy.{methodWords}
-use Rattle.overlap.proofs.Ready.{all-zero, words-for-method}
+use lib.ListN.{length, length-take}
+use Rattle.network.specs.Network.{Network, network}
+use Rattle.network.specs.Points.{listed}
+use Rattle.network.specs.Answers.{answered}
+use Rattle.overlap.proofs.Scratch.{zero-length, part-blank, part-wiped, words-for-lazy}
 use borrow.Author.Needs.{needs}
 use Rattle.overlap.proofs.lazy.run.Statement.{statement}
 use Rattle.overlap.proofs.lazy.run.Tie as tie
@@ -15,57 +16,99 @@ use Rattle.overlap.proofs.lazy.run.Tie as tie
 abbrev G : tie.Start → Network
 G s = network (s .args .starts .now) (s .args .neighbours .now) (s .args .weights .now)
 
-abbrev start-of : tie.After-method-words → tie.Start
-start-of m = m .before .before .before .before .before .before .before .before
+abbrev start : tie.After-wide → tie.Start
+start c = c .before .before .before .before .before .before .before
 
--- the words that are used
-used : (m : tie.After-method-words) → let s = start-of m in m .method-words .result ≡ methodWords (s .args .method) (nodeCount (G s)) (arcCount (G s)) (s .args .k)
-used m = rw (m .before .wide .ensures) at (m .method-words .ensures)
+-- the words that are used: the product is small, and they are there
+abbrev used : tie.After-wide → ℕ
+used w =
+    let s = start w in
+    7 * (length (s .args .starts .now) - 1) + 4 * (length (s .args .neighbours .now) + 1) + 2 * w .wide .result * (length (s .args .starts .now) - 1 + length (s .args .neighbours .now))
 
-fits : (w : tie.After-wide2) → w .before .method-words .result ≤ length (start-of (w .before) .args .scratch .now)
+small : (w : tie.After-wide) → let s = start w in 2 * w .wide .result * (length (s .args .starts .now) - 1 + length (s .args .neighbours .now)) ≤ 32 * (length (s .args .starts .now) - 1 + length (s .args .neighbours .now))
+small w =
+    let s = start w in
+    mul-le-mul-right (length (s .args .starts .now) - 1 + length (s .args .neighbours .now)) (omega (arith, w .wide .ensures, s .pre .query .few))
+
+fits : (w : tie.After-wide) → used w ≤ length (start w .args .scratch .now)
 fits w =
-    let m = w .before in
-    let s = start-of m in
-    let p = s .pre in
-    omega (arith, used m, words-for-method (s .args .method) (G s) (s .args .k) (p .some) (p .few) (p .accepted .some), p .room)
+    let s = start w in
+    let p = s .pre .query in
+    omega (
+      arith,
+      ap (λ (k : ℕ). 2 * k * (length (s .args .starts .now) - 1 + length (s .args .neighbours .now))) (w .wide .ensures),
+      words-for-lazy (G s) (s .args .k) (p .some) (p .accepted .some),
+      p .room,
+    )
 
-sub-method-words : tie.Need-sub-method-words
-sub-method-words c = search needs
+-- the cleared words are as many
+long : (z : tie.After-zero) → length (z .zero .last .0) ≡ length (start (z .before .before) .args .scratch .now)
+long z = zero-length (length (start (z .before .before) .args .scratch .now)) (z .zero .ensures)
+
+sub-n : tie.Need-sub-n
+sub-n c = search needs
 
 wide-requires : tie.Need-wide-requires
 wide-requires c κs = search needs
 
-method-words-requires : tie.Need-method-words-requires
-method-words-requires c κs = search needs
+mul-used : tie.Need-mul-used
+mul-used c = search needs
 
-wide-requires-2 : tie.Need-wide-requires-2
-wide-requires-2 c κs = search needs
+add-used : tie.Need-add-used
+add-used c = search needs
 
-slice-relend-prefix-search : tie.Need-slice-relend-prefix-search
-slice-relend-prefix-search c = fits c
+mul-used-2 : tie.Need-mul-used-2
+mul-used-2 c = search needs
 
-slice-aggregate-search : tie.Need-slice-aggregate-search
-slice-aggregate-search c = simp length-take (omega (arith, fits (c .before)))
+add-used-2 : tie.Need-add-used-2
+add-used-2 c = search needs
 
-search-requires : tie.Need-search-requires
-search-requires c κs =
-    let w = c .before .before in
-    let m = w .before in
-    let s = start-of m in
-    let p = s .pre in
-    rw (w .wide2 .ensures)
-    (record {
-      accepted = p .accepted;
-      points = p .points;
-      site = p .site;
-      some = p .some;
-      few = p .few;
-      room = simp length-take (omega (arith, used m, fits w));
-      places = p .places;
-    })
+mul-used-3 : tie.Need-mul-used-3
+mul-used-3 c = search needs
+
+add-used-3 : tie.Need-add-used-3
+add-used-3 c = search needs
+
+mul-used-4 : tie.Need-mul-used-4
+mul-used-4 c = let p = start c .pre .query .accepted in record { fits = omega (arith, small c, p .few-arcs, p .few) }
+
+add-used-4 : tie.Need-add-used-4
+add-used-4 c = let p = start c .pre .query .accepted in record { fits = omega (arith, small c, p .few-arcs, p .few) }
 
 zero-requires : tie.Need-zero-requires
 zero-requires c κs = search needs
+
+slice-relend-prefix-search : tie.Need-slice-relend-prefix-search
+slice-relend-prefix-search c = let z = c .before .before in omega (arith, fits (z .before .before), long z)
+
+slice-aggregate-search : tie.Need-slice-aggregate-search
+slice-aggregate-search c = let z = c .before .before .before in simp length-take (omega (arith, fits (z .before .before), long z))
+
+search-requires : tie.Need-search-requires
+search-requires c κs =
+    let z = c .before .before .before .before in
+    let w = z .before .before in
+    let s = start w in
+    let p = s .pre .query in
+    let blank = part-blank (length (s .args .scratch .now)) (used w) (z .zero .ensures) in (
+      record {
+        accepted = p .accepted;
+        points = p .points;
+        site = p .inside;
+        some = omega (arith, p .some, w .wide .ensures);
+        blank = blank;
+        size = simp length-take (omega (arith, fits w, long z, mul-le-mul-left (w .wide .result) (p .accepted .some)));
+        answers = s .pre .places;
+      },
+      record {
+        accepted = p .accepted;
+        points = p .points;
+        site = p .inside;
+        blank = blank;
+        size = simp length-take (omega (arith, fits w, long z));
+        answers = s .pre .places;
+      },
+    )
 
 same-length : tie.Need-same-length
 same-length c = search needs
@@ -75,26 +118,35 @@ same-length-2 c = search needs
 
 returns : tie.Need-returns
 returns c =
-    let z = c .before .before in
-    let r = z .before .before .before .before .before .before in
-    let w = r .before .before .before in
-    let s = start-of (w .before) in (
-      all-zero (length (r .search .last .1 .1 .1 .1 .1 .1 .1 .0 ++ drop (w .before .method-words .result) (s .args .scratch .now))) _ (z .zero .ensures) (same-length c),
-      rw (w .wide2 .ensures) at (r .search .ensures),
-    )
+    let r = c .before .before .before .before in
+    let z = r .before .before .before .before .before in
+    let w = z .before .before in
+    let s = start w in
+    let h = r .search .ensures in
+    record {
+      sized = h .sized ∙ ap (λ (k : ℕ). length (listed (G s) (s .args .points .now) (s .args .q) k)) (w .wide .ensures);
+      answers = h .answers ∙ ap (λ (k : ℕ). answered (listed (G s) (s .args .points .now) (s .args .q) k) (s .args .answers .now)) (w .wide .ensures);
+      area = part-wiped (s .args .scratch .now) (used w) (z .zero .ensures) (fits w) (h .area);
+    }
 
 pub run-spec : {M : Type 1} → statement M
 run-spec =
     tie.close
     (tie.spec
-    sub-method-words
+    sub-n
     wide-requires
-    method-words-requires
-    wide-requires-2
+    mul-used
+    add-used
+    mul-used-2
+    add-used-2
+    mul-used-3
+    add-used-3
+    mul-used-4
+    add-used-4
+    zero-requires
     slice-relend-prefix-search
     slice-aggregate-search
     search-requires
-    zero-requires
     same-length
     same-length-2
     returns)

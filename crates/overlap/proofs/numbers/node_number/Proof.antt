@@ -1,7 +1,7 @@
 -- `overlap::numbers::node_number` meets its contract: each return is what its test says.
 -- Assumes nothing.
-use borrow.Author.Tests.{le-leb, lt-leb}
 use native.Mathlib.Omega.{arith}
+use borrow.Author.Tests.{le-leb, lt-leb}
 use Rattle.overlap.specs.Numbers.{nodeNumber}
 use borrow.Author.Needs.{needs}
 use Rattle.overlap.proofs.numbers.node_number.Statement.{statement}

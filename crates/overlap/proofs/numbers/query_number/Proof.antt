@@ -1,12 +1,11 @@
 -- `overlap::numbers::query_number` meets its contract: behind each test its number is 0, and the first that is not is returned.
 -- Assumes nothing.
-use mathlib.Core.Path.{sym, ap, _∙_}
+use mathlib.Core.Path.{sym, _∙_}
 use native.Mathlib.Omega.{arith}
 use Rattle.network.specs.Network.{Network, network}
 use Rattle.network.specs.Accepted.{Accepted}
-use Rattle.network.proofs.NumberZero.{number-zero}
-use Rattle.overlap.specs.Numbers.{shortNumber, queryNumber}
-use Rattle.overlap.proofs.Ready.{first-is, first-later, first-last, k-ready}
+use Rattle.overlap.specs.Numbers.{queryNumber}
+use Rattle.overlap.proofs.Ready.{first-is, first-later, first-last, k-ready, site-ready}
 use borrow.Author.Needs.{needs}
 use Rattle.overlap.proofs.numbers.query_number.Statement.{statement}
 use Rattle.overlap.proofs.numbers.query_number.Tie as tie
@@ -14,86 +13,52 @@ use Rattle.overlap.proofs.numbers.query_number.Tie as tie
 abbrev G : tie.Start → Network
 G s = network (s .args .starts .now) (s .args .neighbours .now) (s .args .weights .now)
 
-abbrev start : tie.After-network-number → tie.Start
+abbrev start : tie.After-site-number → tie.Start
 start c = c .before .before .before .before .before .before
 
 -- behind the first test the network is accepted
 accepted : (c : tie.Else1) → Accepted (G (start (c .before)))
-accepted c = number-zero (G (start (c .before))) .0 (sym (c .before .network-number .ensures) ∙ c .if1 .left)
+accepted c = let n = c .before in let s = start n in site-ready (G s) (s .args .points .now) (s .args .node) (sym (n .site-number .ensures) ∙ c .if1 .left) .0
 
-network-number-requires : tie.Need-network-number-requires
-network-number-requires c κs = search needs
+site-number-requires : tie.Need-site-number-requires
+site-number-requires c κs = search needs
 
 returns : tie.Need-returns
 unfolding queryNumber
-returns c =
-    first-is _ _ _ (c .before .network-number .ensures) (c .if1 .taken)
-
-sub-n : tie.Need-sub-n
-sub-n c = omega (arith, accepted c .some)
-
-points-number-requires : tie.Need-points-number-requires
-points-number-requires c κs = search needs
-
-returns-2 : tie.Need-returns-2
-unfolding queryNumber
-returns-2 c =
-    first-later _ _ _ _ (c .before .before .before .network-number .ensures) (c .before .before .if1 .left)
-    (first-is _ _ _ (c .before .points-number .ensures) (c .if2 .taken))
-
-node-number-requires : tie.Need-node-number-requires
-node-number-requires c κs = search needs
-
-returns-3 : tie.Need-returns-3
-unfolding queryNumber
-returns-3 c =
-    first-later _ _ _ _ (c .before .before .before .before .before .network-number .ensures) (c .before .before .before .before .if1 .left)
-    (first-later _ _ _ _ (c .before .before .before .points-number .ensures) (c .before .before .if2 .left)
-    (first-is _ _ _ (c .before .node-number .ensures) (c .if3 .taken)))
+returns c = first-is _ _ _ (c .before .site-number .ensures) (c .if1 .taken)
 
 k-number-requires : tie.Need-k-number-requires
 k-number-requires c κs = search needs
 
-returns-4 : tie.Need-returns-4
+returns-2 : tie.Need-returns-2
 unfolding queryNumber
-returns-4 c =
-    first-later _ _ _ _ (c .before .before .before .before .before .before .before .network-number .ensures) (c .before .before .before .before .before .before .if1 .left)
-    (first-later _ _ _ _ (c .before .before .before .before .before .points-number .ensures) (c .before .before .before .before .if2 .left)
-    (first-later _ _ _ _ (c .before .before .before .node-number .ensures) (c .before .before .if3 .left)
-    (first-is _ _ _ (c .before .k-number .ensures) (c .if4 .taken))))
+returns-2 c =
+    first-later _ _ _ _ (c .before .before .before .site-number .ensures) (c .before .before .if1 .left)
+    (first-is _ _ _ (c .before .k-number .ensures) (c .if2 .taken))
 
-scratch-words-requires : tie.Need-scratch-words-requires
-scratch-words-requires c κs =
-    let k = c .before in
-    let ok = accepted (k .before .before .before .before .before) in
-    let r = k-ready _ (sym (k .k-number .ensures) ∙ c .if4 .left) in
-    (ok .few, ok .few-arcs, omega (arith, r .1))
+sub-scratch-number : tie.Need-sub-scratch-number
+sub-scratch-number c = omega (arith, accepted (c .before .before) .some)
 
-short-number-requires : tie.Need-short-number-requires
-short-number-requires c κs = search needs
+scratch-number-requires : tie.Need-scratch-number-requires
+scratch-number-requires c κs =
+    let ok = accepted (c .before .before) in
+    (ok .few, ok .few-arcs, omega (arith, k-ready _ (sym (c .before .k-number .ensures) ∙ c .if2 .left) .1))
 
-returns-5 : tie.Need-returns-5
+returns-3 : tie.Need-returns-3
 unfolding queryNumber
-returns-5 c =
-    first-later _ _ _ _ (c .before .before .before .before .before .before .before .before .before .network-number .ensures) (c .before .before .before .before .before .before .before .before .if1 .left)
-    (first-later _ _ _ _ (c .before .before .before .before .before .before .before .points-number .ensures) (c .before .before .before .before .before .before .if2 .left)
-    (first-later _ _ _ _ (c .before .before .before .before .before .node-number .ensures) (c .before .before .before .before .if3 .left)
-    (first-later _ _ _ _ (c .before .before .before .k-number .ensures) (c .before .before .if4 .left)
-    (first-last _ _ (c .short-number .ensures ∙ ap (shortNumber _) (c .before .scratch-words .ensures))))))
+returns-3 c =
+    first-later _ _ _ _ (c .before .before .before .before .site-number .ensures) (c .before .before .before .if1 .left)
+    (first-later _ _ _ _ (c .before .before .k-number .ensures) (c .before .if2 .left)
+    (first-last _ _ (c .scratch-number .ensures)))
 
 pub query-number-spec : {M : Type 1} → statement M
 query-number-spec =
     tie.close
     (tie.spec
-    network-number-requires
+    site-number-requires
     returns
-    sub-n
-    points-number-requires
-    returns-2
-    node-number-requires
-    returns-3
     k-number-requires
-    returns-4
-    scratch-words-requires
-    short-number-requires
-    returns-5)
+    returns-2
+    sub-scratch-number
+    scratch-number-requires
+    returns-3)

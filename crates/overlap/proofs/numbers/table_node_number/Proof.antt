@@ -4,9 +4,8 @@ use mathlib.Core.Path.{sym, _∙_}
 use native.Mathlib.Omega.{arith}
 use Rattle.network.specs.Network.{Network, network}
 use Rattle.network.specs.Accepted.{Accepted}
-use Rattle.network.proofs.NumberZero.{number-zero}
 use Rattle.overlap.specs.Numbers.{tableNodeNumber}
-use Rattle.overlap.proofs.Ready.{first-is, first-later, first-last}
+use Rattle.overlap.proofs.Ready.{first-is, first-later, first-last, site-ready}
 use borrow.Author.Needs.{needs}
 use Rattle.overlap.proofs.numbers.table_node_number.Statement.{statement}
 use Rattle.overlap.proofs.numbers.table_node_number.Tie as tie
@@ -14,64 +13,38 @@ use Rattle.overlap.proofs.numbers.table_node_number.Tie as tie
 abbrev G : tie.Start → Network
 G s = network (s .args .starts .now) (s .args .neighbours .now) (s .args .weights .now)
 
-abbrev start : tie.After-network-number → tie.Start
+abbrev start : tie.After-site-number → tie.Start
 start c = c .before .before .before .before .before .before .before
 
 -- behind the first test the network is accepted
 accepted : (c : tie.Else1) → Accepted (G (start (c .before)))
-accepted c = number-zero (G (start (c .before))) .0 (sym (c .before .network-number .ensures) ∙ c .if1 .left)
+accepted c = let n = c .before in let s = start n in site-ready (G s) (s .args .points .now) (s .args .node) (sym (n .site-number .ensures) ∙ c .if1 .left) .0
 
-network-number-requires : tie.Need-network-number-requires
-network-number-requires c κs = search needs
+site-number-requires : tie.Need-site-number-requires
+site-number-requires c κs = search needs
 
 returns : tie.Need-returns
 unfolding tableNodeNumber
-returns c =
-    first-is _ _ _ (c .before .network-number .ensures) (c .if1 .taken)
+returns c = first-is _ _ _ (c .before .site-number .ensures) (c .if1 .taken)
 
-sub-n : tie.Need-sub-n
-sub-n c = omega (arith, accepted c .some)
+sub-table-number : tie.Need-sub-table-number
+sub-table-number c = omega (arith, accepted c .some)
 
-points-number-requires : tie.Need-points-number-requires
-points-number-requires c κs = search needs
+table-number-requires : tie.Need-table-number-requires
+table-number-requires c κs = accepted c .few
 
 returns-2 : tie.Need-returns-2
 unfolding tableNodeNumber
 returns-2 c =
-    first-later _ _ _ _ (c .before .before .before .network-number .ensures) (c .before .before .if1 .left)
-    (first-is _ _ _ (c .before .points-number .ensures) (c .if2 .taken))
-
-node-number-requires : tie.Need-node-number-requires
-node-number-requires c κs = search needs
-
-returns-3 : tie.Need-returns-3
-unfolding tableNodeNumber
-returns-3 c =
-    first-later _ _ _ _ (c .before .before .before .before .before .network-number .ensures) (c .before .before .before .before .if1 .left)
-    (first-later _ _ _ _ (c .before .before .before .points-number .ensures) (c .before .before .if2 .left)
-    (first-is _ _ _ (c .before .node-number .ensures) (c .if3 .taken)))
-
-table-number-requires : tie.Need-table-number-requires
-table-number-requires c κs = accepted (c .before .before .before .before) .few
-
-returns-4 : tie.Need-returns-4
-unfolding tableNodeNumber
-returns-4 c =
-    first-later _ _ _ _ (c .before .before .before .before .before .before .network-number .ensures) (c .before .before .before .before .before .if1 .left)
-    (first-later _ _ _ _ (c .before .before .before .before .points-number .ensures) (c .before .before .before .if2 .left)
-    (first-later _ _ _ _ (c .before .before .node-number .ensures) (c .before .if3 .left)
-    (first-last _ _ (c .table-number .ensures))))
+    first-later _ _ _ _ (c .before .before .site-number .ensures) (c .before .if1 .left)
+    (first-last _ _ (c .table-number .ensures))
 
 pub table-node-number-spec : {M : Type 1} → statement M
 table-node-number-spec =
     tie.close
     (tie.spec
-    network-number-requires
+    site-number-requires
     returns
-    sub-n
-    points-number-requires
-    returns-2
-    node-number-requires
-    returns-3
+    sub-table-number
     table-number-requires
-    returns-4)
+    returns-2)

@@ -2,9 +2,10 @@
 -- Assumes nothing.
 use Prim.Native.Nat.{ℕ}
 use mathlib.Core.Path.{refl, sym, ap, _∙_}
+use lib.ListN.{length}
 use Rattle.network.specs.Network.{Network, network}
-use Rattle.overlap.specs.declared.Listing.{Listing}
 use Rattle.overlap.proofs.Ready.{table-query-ready}
+use Rattle.overlap.proofs.Scratch.{all-zero}
 use borrow.Author.Needs.{needs}
 use Rattle.overlap.proofs.table_query.answer.Statement.{statement}
 use Rattle.overlap.proofs.table_query.answer.Tie as tie
@@ -12,11 +13,11 @@ use Rattle.overlap.proofs.table_query.answer.Tie as tie
 abbrev G : tie.Start → Network
 G s = network (s .args .starts .now) (s .args .neighbours .now) (s .args .weights .now)
 
-abbrev start-of : tie.After-number → tie.Start
-start-of n = n .before .before .before .before .before .before .before .before .before .before .before
+abbrev start : tie.After-table-query-number → tie.Start
+start n = n .before .before .before .before .before .before .before .before .before .before .before
 
-number-requires : tie.Need-number-requires
-number-requires c κs = search needs
+table-query-number-requires : tie.Need-table-query-number-requires
+table-query-number-requires c κs = search needs
 
 same-length : tie.Need-same-length
 same-length c = search needs
@@ -28,16 +29,16 @@ returns : tie.Need-returns
 returns c =
     let n = c .before in
     record {
-      refused = λ _. (ap (λ (m : ℕ). record { number = m; count = 0; length = 0 }) (n .number .ensures), refl, refl);
-      accepted = λ z. absurd (c .if1 .taken (n .number .ensures ∙ z));
+      refused = λ _. (ap (λ (m : ℕ). record { number = m; count = 0; length = 0 }) (n .table-query-number .ensures), refl, refl);
+      accepted = λ z. absurd (c .if1 .taken (n .table-query-number .ensures ∙ z));
     }
 
 run-requires : tie.Need-run-requires
 run-requires c κs =
     let e = c .before .before in
     let n = e .before in
-    let s = start-of n in
-    table-query-ready (G s) (s .args .points .now) (s .args .q) (s .args .k) (s .args .places) (s .args .ids .now) (s .args .distances .now) (s .args .scratch .now) (s .args .answers .now) (sym (n .number .ensures) ∙ e .if1 .left)
+    let s = start n in
+    table-query-ready (G s) (s .args .points .now) (s .args .q) (s .args .k) (s .args .places) (s .args .ids .now) (s .args .distances .now) (s .args .scratch .now) (s .args .answers .now) (sym (n .table-query-number .ensures) ∙ e .if1 .left)
 
 same-length-3 : tie.Need-same-length-3
 same-length-3 c = search needs
@@ -50,17 +51,17 @@ returns-2 c =
     let r = c .before .before .before .before in
     let e = r .before .before .before in
     let n = e .before in
-    let d = r .run .ensures .1 in
+    let d = r .run .ensures in
     record {
-      refused = λ z. absurd (z (sym (n .number .ensures) ∙ e .if1 .left));
-      accepted = λ _. record { number = refl; count = refl; zero = r .run .ensures .0; any = d .any; sized = d .sized; answers = d .answers };
+      refused = λ z. absurd (z (sym (n .table-query-number .ensures) ∙ e .if1 .left));
+      accepted = λ _. record { number = refl; count = refl; zero = all-zero (length (start n .args .scratch .now)) refl (d .area); any = d .some; sized = d .sized; answers = d .answers };
     }
 
 pub answer-spec : {M : Type 1} → statement M
 answer-spec =
     tie.close
     (tie.spec
-    number-requires
+    table-query-number-requires
     same-length
     same-length-2
     returns

@@ -2,9 +2,10 @@
 -- Assumes nothing.
 use Prim.Native.Nat.{ℕ}
 use mathlib.Core.Path.{refl, sym, ap, _∙_}
+use lib.ListN.{length}
 use Rattle.network.specs.Network.{Network, network}
-use Rattle.overlap.specs.declared.Update.{Update}
 use Rattle.overlap.proofs.Ready.{change-ready}
+use Rattle.overlap.proofs.Scratch.{all-zero}
 use borrow.Author.Needs.{needs}
 use Rattle.overlap.proofs.updated.answer.Statement.{statement}
 use Rattle.overlap.proofs.updated.answer.Tie as tie
@@ -12,11 +13,11 @@ use Rattle.overlap.proofs.updated.answer.Tie as tie
 abbrev G : tie.Start → Network
 G s = network (s .args .starts .now) (s .args .neighbours .now) (s .args .weights .now)
 
-abbrev start-of : tie.After-number → tie.Start
-start-of n = n .before .before .before .before .before .before .before .before .before .before .before .before
+abbrev start : tie.After-change-number → tie.Start
+start n = n .before .before .before .before .before .before .before .before .before .before .before .before
 
-number-requires : tie.Need-number-requires
-number-requires c κs = search needs
+change-number-requires : tie.Need-change-number-requires
+change-number-requires c κs = search needs
 
 same-length : tie.Need-same-length
 same-length c = search needs
@@ -34,16 +35,16 @@ returns : tie.Need-returns
 returns c =
     let n = c .before in
     record {
-      refused = λ _. (ap (λ (m : ℕ). record { number = m; changed = 0 }) (n .number .ensures), refl);
-      accepted = λ z. absurd (c .if1 .taken (n .number .ensures ∙ z));
+      refused = λ _. (ap (λ (m : ℕ). record { number = m; changed = 0 }) (n .change-number .ensures), refl);
+      accepted = λ z. absurd (c .if1 .taken (n .change-number .ensures ∙ z));
     }
 
 run-requires : tie.Need-run-requires
 run-requires c κs =
     let e = c .before .before .before .before in
     let n = e .before in
-    let s = start-of n in
-    change-ready (s .args .kind) (G s) (s .args .points .now) (s .args .node) (s .args .places) (s .args .scratch .now) (s .args .ids .now) (s .args .distances .now) (sym (n .number .ensures) ∙ e .if1 .left)
+    let s = start n in
+    change-ready (s .args .kind) (G s) (s .args .points .now) (s .args .node) (s .args .places) (s .args .scratch .now) (s .args .ids .now) (s .args .distances .now) (sym (n .change-number .ensures) ∙ e .if1 .left)
 
 same-length-5 : tie.Need-same-length-5
 same-length-5 c = search needs
@@ -62,16 +63,27 @@ returns-2 c =
     let r = c .before .before .before .before .before .before .before .before in
     let e = r .before .before .before .before .before in
     let n = e .before in
+    let d = r .run .ensures in
     record {
-      refused = λ z. absurd (z (sym (n .number .ensures) ∙ e .if1 .left));
-      accepted = λ _. (refl, r .run .ensures);
+      refused = λ z. absurd (z (sym (n .change-number .ensures) ∙ e .if1 .left));
+      accepted = λ _. (
+        refl,
+        record {
+          marks = d .marks;
+          zero = all-zero (length (start n .args .scratch .now)) refl (d .area);
+          sized = d .sized;
+          most = d .most;
+          table = d .table;
+          counted = d .counted;
+        },
+      );
     }
 
 pub answer-spec : {M : Type 1} → statement M
 answer-spec =
     tie.close
     (tie.spec
-    number-requires
+    change-number-requires
     same-length
     same-length-2
     same-length-3

@@ -1,26 +1,67 @@
--- `overlap::updated::run` meets its contract: S is enough for the words that are used, and the whole scratch is cleared last.
+-- `overlap::updated::run` meets its contract: S is enough for the words that are used, and all words are 0 behind it.
 -- Assumes nothing.
-use Prim.Native.Nat.{_+_, _*_, _-_, _≤_}
-use mathlib.Core.List.{_++_}
+use Prim.Native.Nat.{ℕ, _+_, _*_, _-_, _≤_, _<_}
+use mathlib.Core.Path.{_≡_}
+use mathlib.Core.List.{List}
 use native.Mathlib.Omega.{arith}
-use lib.ListN.{length, drop, length-take}
-use Rattle.network.specs.Network.{Network, network}
-use Rattle.overlap.proofs.Ready.{all-zero, words-enough, ready-same}
+use lib.ListN.{length, length-take}
+use Rattle.network.specs.Network.{Network, network, nodeCount, arcCount}
+use Rattle.network.specs.Points.{marked}
+use Rattle.expansion.specs.Area.{Blank}
+use Rattle.overlap.specs.declared.updated.Kind.{Kind}
+use Rattle.overlap.specs.declared.updated.Kind.the-variants.{Insert, Remove}
+use Rattle.overlap.specs.Build.{TableReady}
+use Rattle.overlap.specs.Updated.{kindMark, CanChange}
+use Rattle.overlap.proofs.Ready.{ready-same}
+use Rattle.overlap.proofs.Scratch.{zero-length, part-blank, part-wiped, words-enough}
 use borrow.Author.Needs.{needs}
 use Rattle.overlap.proofs.updated.run.Statement.{statement}
 use Rattle.overlap.proofs.updated.run.Tie as tie
 
+-- what the work asks, of either kind
+can-change : (kind : Kind) (g : Network) (P xs ids distances : List ℕ) (node K : ℕ) → node < nodeCount g → TableReady g P K ids distances → marked P node ≡ kindMark kind
+    → Blank xs 0 → 3 * nodeCount g + 2 * (arcCount g + 1) ≤ length xs → CanChange kind g P xs ids distances node K
+can-change Insert g P xs ids distances node K inside r mark blank room =
+    record {
+      expand = record { accepted = r .accepted; inside = inside; blank = blank; size = omega arith };
+      points = r .points;
+      unmarked = mark;
+      sized = r .sized;
+    }
+can-change Remove g P xs ids distances node K inside r mark blank room =
+    record {
+      accepted = r .accepted;
+      points = r .points;
+      inside = inside;
+      is-point = mark;
+      least = r .least;
+      most = r .most;
+      sized = r .sized;
+      blank = blank;
+      room = omega arith;
+    }
+
 abbrev G : tie.Start → Network
 G s = network (s .args .starts .now) (s .args .neighbours .now) (s .args .weights .now)
 
+abbrev start : tie.After-zero → tie.Start
+start c = c .before .before .before .before .before .before .before .before .before
+
 -- the words that are used are there
-fits : (s : tie.Start) → 3 * (length (s .args .starts .now) - 1) + 2 * (length (s .args .neighbours .now) + 1) ≤ length (s .args .scratch .now)
+abbrev used : tie.Start → ℕ
+used s = 3 * (length (s .args .starts .now) - 1) + 2 * (length (s .args .neighbours .now) + 1)
+
+fits : (s : tie.Start) → used s ≤ length (s .args .scratch .now)
 fits s =
-    let p = s .pre .update in
+    let p = s .pre in
     omega (arith, words-enough (G s) (s .args .places) (omega (arith, p .ready .least)), p .room, p .ready .accepted .some)
 
+-- the cleared words are as many
+long : (z : tie.After-zero) → length (z .zero .last .0) ≡ length (start z .args .scratch .now)
+long z = zero-length (length (start z .args .scratch .now)) (z .zero .ensures)
+
 sub-used : tie.Need-sub-used
-sub-used c = omega (arith, c .before .before .before .before .before .before .before .pre .update .ready .accepted .some)
+sub-used c = omega (arith, c .before .before .before .before .before .before .before .pre .ready .accepted .some)
 
 mul-used : tie.Need-mul-used
 mul-used c = search needs
@@ -34,28 +75,29 @@ mul-used-2 c = search needs
 add-used-2 : tie.Need-add-used-2
 add-used-2 c = search needs
 
+zero-requires : tie.Need-zero-requires
+zero-requires c κs = search needs
+
 slice-relend-prefix-change : tie.Need-slice-relend-prefix-change
-slice-relend-prefix-change c = fits (c .before .before .before .before .before .before .before .before)
+slice-relend-prefix-change c = let z = c .before .before .before in omega (arith, fits (start z), long z)
 
 slice-aggregate-change : tie.Need-slice-aggregate-change
-slice-aggregate-change c = simp length-take (omega (arith, fits (c .before .before .before .before .before .before .before .before .before)))
+slice-aggregate-change c = let z = c .before .before .before .before in simp length-take (omega (arith, fits (start z), long z))
 
 wide-requires : tie.Need-wide-requires
 wide-requires c κs = search needs
 
 change-requires : tie.Need-change-requires
 change-requires c κs =
-    let s = c .before .before .before .before .before .before .before .before .before .before .before .before in
-    let p = s .pre .update in
-    record {
-      inside = p .inside;
-      ready = ready-same (c .wide .ensures) (p .ready);
-      mark = s .pre .mark;
-      room = simp length-take (omega (arith, fits s));
-    }
-
-zero-requires : tie.Need-zero-requires
-zero-requires c κs = search needs
+    let z = c .before .before .before .before .before .before .before in
+    let s = start z in
+    let p = s .pre in
+    can-change (s .args .kind) (G s) (s .args .points .now) _ (s .args .ids .now) (s .args .distances .now) (s .args .node) (c .wide .result)
+    (p .inside)
+    (ready-same (c .wide .ensures) (p .ready))
+    (s .pre .mark)
+    (part-blank (length (s .args .scratch .now)) (used s) (z .zero .ensures))
+    (simp length-take (omega (arith, fits s, long z)))
 
 same-length : tie.Need-same-length
 same-length c = search needs
@@ -71,14 +113,14 @@ same-length-4 c = search needs
 
 returns : tie.Need-returns
 returns c =
-    let z = c .before .before in
-    let i = z .before .before .before .before .before .before .before .before .before .before in
-    let w = i .before in
-    let s = w .before .before .before .before .before .before .before .before .before .before .before .before in
-    let d = rw (w .wide .ensures) at (i .change .ensures) in
+    let r = c .before .before .before .before .before .before .before .before in
+    let w = r .before in
+    let z = w .before .before .before .before .before .before .before in
+    let s = start z in
+    let d = rw (w .wide .ensures) at (r .change .ensures) in
     record {
       marks = d .marks;
-      zero = all-zero (length (i .change .last .1 .1 .1 .1 .1 .0 ++ drop (3 * (length (s .args .starts .now) - 1) + 2 * (length (s .args .neighbours .now) + 1)) (s .args .scratch .now))) _ (z .zero .ensures) (same-length-2 c);
+      area = part-wiped (s .args .scratch .now) (used s) (z .zero .ensures) (fits s) (d .area);
       sized = d .sized;
       most = d .most;
       table = d .table;
@@ -94,11 +136,11 @@ run-spec =
     add-used
     mul-used-2
     add-used-2
+    zero-requires
     slice-relend-prefix-change
     slice-aggregate-change
     wide-requires
     change-requires
-    zero-requires
     same-length
     same-length-2
     same-length-3

@@ -17,10 +17,10 @@ use Rattle.network.specs.Points.{isListed}
 use Rattle.network.proofs.Rank.{Near}
 use Rattle.expansion.specs.Area.{Took, Followed}
 use Rattle.expansion.proofs.AreaLaws.{room, settledAs, area-left}
-use Rattle.expansion.proofs.Progress.{progress-nodes, took-area, took-place, took-small, took-follow, room-falls, frame-settled}
+use Rattle.expansion.proofs.Progress.{progress-nodes, took-area, took-place, took-fits, took-follow, room-falls, frame-settled}
 use Rattle.expansion.proofs.Beside.{Beside, room-beside}
 use Rattle.searches.proofs.Finds.{met-leads}
-use Rattle.searches.proofs.Stopping.{room-stopped}
+use Rattle.expansion.proofs.Stopping.{room-stopped}
 use Rattle.searches.proofs.Exploring.{Exploring, exploring-start, can-look, beside-old, looked-took, looked-exploring, looked-told, few-expanded, many-beaten, beyond, exploring-stopped, exploring-opened, count-all, found-all}
 use Rattle.searches.proofs.eager.explore.Statement.{statement}
 use Rattle.searches.proofs.eager.explore.Tie as tie
@@ -190,11 +190,7 @@ settle-requires : tie.Need-settle-requires Inv-loop μ-loop
 settle-requires c κs =
     let k = c .before .before .before .before in
     let l = loop-of (taken-of k) in
-    let e = exploring k .progress in
-    let t = took-after k in
-    let ok = start-of l .pre .accepted in
-    let a = took-area ok e t in
-    (omega (arith, a .fits, took-place ok e t), omega (arith, a .fits, t .inside), omega (arith, took-small ok e t))
+    took-fits (start-of l .pre .accepted) (exploring k .progress) (took-after k)
 
 add-settled : tie.Need-add-settled Inv-loop μ-loop
 add-settled c =

@@ -2,12 +2,12 @@
 -- left of the node's arcs. An entry fits: its distance by `CanOffer`, the queue by its room.
 -- Assumes nothing.
 use Rattle.expansion.specs.Queue.{keyOf}
-use Rattle.table.specs.Build.{arcOffer, Offered}
-use Rattle.network.specs.Network.{Network, Arc, neighboursOf, weightsOf, network}
-use Rattle.network.proofs.Ranges.{arc-at}
-use Rattle.network.proofs.NodeArcs.{parts-even}
-use Rattle.network.proofs.NumberZero.{accepted-ranges, accepted-searchable}
-use Prim.Native.Nat.{_+_, _-_, _≤_, _<_}
+use Rattle.table.specs.Offer.{arcOffer}
+use Rattle.table.specs.Build.{Offered}
+use Rattle.network.specs.Network.{Network, neighboursOf, weightsOf, network}
+use Rattle.network.proofs.NumberZero.{accepted-searchable}
+use Rattle.network.proofs.ArcAt.{ArcAt, arc-handed}
+use Prim.Native.Nat.{_+_, _-_, _≤_}
 use mathlib.Core.Path.{_≡_, ap}
 use native.Mathlib.Omega.{arith}
 use lib.ListN.{length, getD}
@@ -35,26 +35,13 @@ ahead c = rw (c .before .before .before .wide .ensures) at (c .before .before .n
 weighed : (c : tie.After-weights-of Inv-loop μ-loop) → c .weights-of .result .now ≡ weightsOf (G (start c)) (start c .args .node)
 weighed c = rw (c .before .wide2 .ensures) at (c .weights-of .ensures)
 
-low : (c : tie.In-loop Inv-loop μ-loop) → c .before .loop .j < length (neighboursOf (G (start (c .before .before))) (start (c .before .before) .args .node))
-low c = rw (ahead (c .before .before)) at (c .loop-test .taken)
-
-to-is : (c : tie.In-loop Inv-loop μ-loop)
-    → getD (c .before .before .before .before .neighbours-of .result .now) (c .before .loop .j) 0
-    ≡ getD (neighboursOf (G (start (c .before .before))) (start (c .before .before) .args .node)) (c .before .loop .j) 0
-to-is c = ap (λ l. getD l (c .before .loop .j) 0) (ahead (c .before .before))
-
-weight-is : (c : tie.In-loop Inv-loop μ-loop)
-    → getD (c .before .before .weights-of .result .now) (c .before .loop .j) 0
-    ≡ getD (weightsOf (G (start (c .before .before))) (start (c .before .before) .args .node)) (c .before .loop .j) 0
-weight-is c = ap (λ l. getD l (c .before .loop .j) 0) (weighed (c .before .before))
-
-arc : (c : tie.In-loop Inv-loop μ-loop)
-    → Arc (G (start (c .before .before))) (start (c .before .before) .args .node)
-    (getD (neighboursOf (G (start (c .before .before))) (start (c .before .before) .args .node)) (c .before .loop .j) 0)
-    (getD (weightsOf (G (start (c .before .before))) (start (c .before .before) .args .node)) (c .before .loop .j) 0)
-arc c =
-    let s = start (c .before .before) in
-    arc-at (accepted-ranges (s .pre .accepted)) (s .args .node) (s .pre .inside) (c .before .loop .j) (low c)
+place : (c : tie.In-loop Inv-loop μ-loop)
+    → let s = start (c .before .before) in
+    ArcAt (G s) (s .args .node) (c .before .loop .j) (c .before .before .before .before .neighbours-of .result .now) (c .before .before .weights-of .result .now)
+place c =
+    let w = c .before .before in
+    let s = start w in
+    arc-handed (s .pre .accepted) (s .pre .inside) (ahead w) (weighed w) (c .loop-test .taken)
 
 sub-at : tie.Need-sub-at Inv-loop μ-loop
 sub-at c = search needs
@@ -88,26 +75,19 @@ mul-far : tie.Need-mul-far Inv-loop μ-loop
 mul-far c = search needs
 
 shared-slice-read-far : tie.Need-shared-slice-read-far Inv-loop μ-loop
-shared-slice-read-far c =
-    let w = c .before .before .before .before in
-    let s = start w in
-    let p = accepted-searchable (s .pre .accepted) in
-    let h : s .args .node + 1 < length (s .args .starts .now) = omega (arith, s .pre .inside) in
-    let q = ap length (ahead w) in
-    let r = ap length (weighed w) in
-    omega (arith, parts-even (p .neighbours .part _ h) (p .weights .part _ h), c .before .before .loop-test .taken)
+shared-slice-read-far c = place (c .before .before) .weighed
 
 add-far : tie.Need-add-far Inv-loop μ-loop
 add-far c =
     let s = start (c .before .before .before .before) in
-    omega (arith, s .pre .accepted .weight-high (arc (c .before .before)), weight-is (c .before .before), s .pre .fits)
+    omega (arith, s .pre .accepted .weight-high (place (c .before .before) .arc), place (c .before .before) .weight, s .pre .fits)
 
 tag-of-requires : tie.Need-tag-of-requires Inv-loop μ-loop
 tag-of-requires c κs =
     let i = c .before .before in
     let s = start (i .before .before) in
     let f = s .pre .accepted .few in
-    (omega (arith, s .pre .point), omega (arith, s .pre .accepted .leads-in (arc i), to-is i))
+    (omega (arith, s .pre .point), omega (arith, s .pre .accepted .leads-in (place i .arc), place i .to))
 
 add-push-at : tie.Need-add-push-at Inv-loop μ-loop
 add-push-at c = search needs
@@ -116,7 +96,7 @@ push-at-requires : tie.Need-push-at-requires Inv-loop μ-loop
 push-at-requires c κs =
     let i = c .before .before .before .before in
     let f = i .before .loop .inv .1 in
-    (f .queue, omega (arith, f .frame .size, start (i .before .before) .pre .room, low i))
+    (f .queue, omega (arith, f .frame .size, start (i .before .before) .pre .room, place i .low))
 
 add-j : tie.Need-add-j Inv-loop μ-loop
 add-j c = search needs
@@ -129,7 +109,7 @@ loop-again c =
     let i = c .before .before .before .before .before .before .before in
     let s = start (i .before .before) in
     let t = c .before .before .before .before in
-    let e : keyOf (s .args .d + getD (i .before .before .weights-of .result .now) (i .before .loop .j) 0) (t .tag-of .result) ≡ arcOffer (G s) (s .args .node) (s .args .p) (s .args .d) (i .before .loop .j) = omega (arith, t .tag-of .ensures, to-is i, weight-is i) in
+    let e : keyOf (s .args .d + getD (i .before .before .weights-of .result .now) (i .before .loop .j) 0) (t .tag-of .result) ≡ arcOffer (G s) (s .args .node) (s .args .p) (s .args .d) (i .before .loop .j) = omega (arith, t .tag-of .ensures, place i .to, place i .weight) in
     (omega arith, offered-more (i .before .loop .inv .1) (rw e at (c .before .before .push-at .ensures)))
 
 add-result : tie.Need-add-result Inv-loop μ-loop

@@ -1,5 +1,6 @@
--- `table::build::spread` meets its contract. The invariant: the table is being filled (`Filling`). The measure is its room: the entries that wait, and
--- the arcs of each node once for each free place of its row. Each turn takes an entry out, and puts in the arcs of a node whose row has taken one.
+-- `table::build::spread` meets its contract. The invariant: the table is being filled (`Filling`). The measure is its room: the entries that wait,
+-- and the arcs of each node once for each free place of its row. Each turn takes an entry out, and puts in the arcs of a node whose row has taken
+-- one.
 -- Assumes nothing.
 use Prim.Native.Nat.{ℕ, _+_, _≤_, _<_}
 use mathlib.Core.Path.{_≡_, refl, sym, ap, _∙_}
@@ -7,7 +8,7 @@ use native.Mathlib.Omega.{arith}
 use lib.ListN.{length}
 use Rattle.network.specs.Network.{Network, network, nodeCount}
 use Rattle.expansion.specs.Queue.{PoppedAt, keyOf}
-use Rattle.table.specs.Build.{offerKey}
+use Rattle.table.specs.Offer.{offerOf}
 use Rattle.table.proofs.BuildRoom.{freeArcs}
 use Rattle.table.proofs.Filling.{Filling, filling-start, filling-table, can-append, filling-refused, refused-less, can-offer, taken-size, filling-taken, taken-less}
 use borrow.Author.Needs.{needs}
@@ -51,10 +52,10 @@ point-fits : (c : tie.After-tag-parent Inv-loop μ-loop) → point c < 65536
 point-fits c = omega (arith, c .before .tag-node .ensures, tag-fits (c .before .before .before .before))
 
 popped : (c : tie.After-tag-parent Inv-loop μ-loop)
-    → PoppedAt (turn c .loop .s) (c .before .before .before .before .pop-at .last .0) (nodeCount (G (start-of (turn c)))) (turn c .loop .left) (offerKey (node c) (point c) (far c))
+    → PoppedAt (turn c .loop .s) (c .before .before .before .before .pop-at .last .0) (nodeCount (G (start-of (turn c)))) (turn c .loop .left) (offerOf (node c) (point c) (far c))
 popped c =
     let r = c .before .before .before .before .pop-at in
-    let e : keyOf (r .result .distance) (r .result .tag) ≡ offerKey (node c) (point c) (far c) = omega (arith, c .tag-parent .ensures, c .before .tag-node .ensures) in
+    let e : keyOf (r .result .distance) (r .result .tag) ≡ offerOf (node c) (point c) (far c) = omega (arith, c .tag-parent .ensures, c .before .tag-node .ensures) in
     rw e at (r .ensures)
 
 more : (c : tie.After-tag-parent Inv-loop μ-loop) → 0 < turn c .loop .left

@@ -1,6 +1,6 @@
--- `table::insert::insert` meets its contract. The loop's invariant is that insert is under way (`Inserting`). A turn takes an entry, puts the new point
--- into its node's row at the entry's label, and settles the node; where the row took the point it is counted, and the node's arcs are followed; else
--- the search stops behind it. The measure is the expansion's room.
+-- `table::insert::insert` meets its contract. The loop's invariant is that insert is under way (`Inserting`). A turn takes an entry, puts the new
+-- point into its node's row at the entry's label, and settles the node; where the row took the point it is counted, and the node's arcs are
+-- followed; else the search stops behind it. The measure is the expansion's room.
 -- Assumes nothing.
 use mathlib.Core.Path.{_≡_, refl, ap, _∙_}
 use native.Mathlib.Omega.{arith}
@@ -10,10 +10,10 @@ use borrow.Author.Tests.{not-true, not-false}
 use Rattle.network.specs.Network.{Network, network, nodeCount, neighboursOf}
 use Rattle.expansion.specs.Area.{Took, Followed}
 use Rattle.expansion.proofs.AreaLaws.{room, settledAs, area-left}
-use Rattle.expansion.proofs.Progress.{progress-nodes, took-area, took-place, took-small, took-follow, room-falls, frame-settled}
+use Rattle.expansion.proofs.Progress.{progress-nodes, took-place, took-fits, took-follow, room-falls, frame-settled}
 use Rattle.expansion.proofs.Settled.{wiped-after}
-use Rattle.searches.proofs.Stopping.{room-stopped}
-use Rattle.table.specs.Put.{PutInRow}
+use Rattle.expansion.proofs.Stopping.{room-stopped}
+use Rattle.rows.specs.Put.{PutInRow}
 use Rattle.table.proofs.Inserting.{Inserting, enters-leads, inserting-start, has-row, inserting-stopped, inserting-entered, most, table-now, count-all}
 use Rattle.table.proofs.insert.insert.Statement.{statement}
 use Rattle.table.proofs.insert.insert.Tie as tie
@@ -155,10 +155,7 @@ settle-requires : tie.Need-settle-requires Inv-loop μ-loop
 settle-requires c κs =
     let t = taken-of (c .before .before .before .before .before) in
     let l = loop-of t in
-    let e = l .loop .inv .2 .progress in
-    let ok = start-of l .pre .expand .accepted in
-    let a = took-area ok e (took t) in
-    (omega (arith, a .fits, took-place ok e (took t)), omega (arith, a .fits, took t .inside), omega (arith, took-small ok e (took t)))
+    took-fits (start-of l .pre .expand .accepted) (l .loop .inv .2 .progress) (took t)
 
 add-settled : tie.Need-add-settled Inv-loop μ-loop
 add-settled c =

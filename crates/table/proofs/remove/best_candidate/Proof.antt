@@ -1,14 +1,13 @@
--- `table::remove::best_candidate` meets its contract. The invariant: the rows of the neighbours by the arcs before place j are tried (`BestOf`). The measure
--- is what is left of the arcs.
+-- `table::remove::best_candidate` meets its contract. The invariant: the rows of the neighbours by the arcs before place j are tried (`BestOf`). The
+-- measure is what is left of the arcs.
 -- Assumes nothing.
 use Prim.Native.Nat.{_+_, _-_, _*_, _≤_, _<_}
 use mathlib.Core.Path.{_≡_, ap, _∙_}
 use native.Mathlib.Omega.{arith}
 use lib.ListN.{length, getD}
-use Rattle.network.specs.Network.{Network, Arc, nodeCount, neighboursOf, weightsOf, network}
-use Rattle.network.proofs.Ranges.{arc-at}
-use Rattle.network.proofs.NodeArcs.{parts-even}
-use Rattle.network.proofs.NumberZero.{accepted-ranges, accepted-searchable}
+use Rattle.network.specs.Network.{Network, nodeCount, neighboursOf, weightsOf, network}
+use Rattle.network.proofs.NumberZero.{accepted-searchable}
+use Rattle.network.proofs.ArcAt.{ArcAt, arc-handed}
 use Rattle.table.specs.Candidate.{BestOf}
 use Rattle.table.proofs.RemoveSteps.{row-inside, lent-even, chosen-none, chosen-lent}
 use borrow.Author.Needs.{needs}
@@ -34,33 +33,20 @@ ahead c = c .before .neighbours-of .ensures
 weighed : (c : tie.After-weights-of Inv-loop μ-loop) → c .weights-of .result .now ≡ weightsOf (G (start c)) (start c .args .i)
 weighed c = c .weights-of .ensures
 
-low : (c : tie.In-loop Inv-loop μ-loop) → c .before .loop .j < length (neighboursOf (G (start (c .before .before))) (start (c .before .before) .args .i))
-low c = rw (ahead (c .before .before)) at (c .loop-test .taken)
-
-to-is : (c : tie.In-loop Inv-loop μ-loop)
-    → getD (c .before .before .before .neighbours-of .result .now) (c .before .loop .j) 0
-    ≡ getD (neighboursOf (G (start (c .before .before))) (start (c .before .before) .args .i)) (c .before .loop .j) 0
-to-is c = ap (λ l. getD l (c .before .loop .j) 0) (ahead (c .before .before))
-
-weight-is : (c : tie.In-loop Inv-loop μ-loop)
-    → getD (c .before .before .weights-of .result .now) (c .before .loop .j) 0
-    ≡ getD (weightsOf (G (start (c .before .before))) (start (c .before .before) .args .i)) (c .before .loop .j) 0
-weight-is c = ap (λ l. getD l (c .before .loop .j) 0) (weighed (c .before .before))
-
-arc : (c : tie.In-loop Inv-loop μ-loop)
-    → Arc (G (start (c .before .before))) (start (c .before .before) .args .i)
-    (getD (neighboursOf (G (start (c .before .before))) (start (c .before .before) .args .i)) (c .before .loop .j) 0)
-    (getD (weightsOf (G (start (c .before .before))) (start (c .before .before) .args .i)) (c .before .loop .j) 0)
-arc c =
-    let s = start (c .before .before) in
-    arc-at (accepted-ranges (s .pre .accepted)) (s .args .i) (s .pre .inside) (c .before .loop .j) (low c)
+place : (c : tie.In-loop Inv-loop μ-loop)
+    → let s = start (c .before .before) in
+    ArcAt (G s) (s .args .i) (c .before .loop .j) (c .before .before .before .neighbours-of .result .now) (c .before .before .weights-of .result .now)
+place c =
+    let w = c .before .before in
+    let s = start w in
+    arc-handed (s .pre .accepted) (s .pre .inside) (ahead w) (weighed w) (c .loop-test .taken)
 
 -- row i, and the row of the node that the arc leads to
 own-fits : (s : tie.Start Inv-loop μ-loop) → s .args .i * s .args .k + s .args .k ≤ length (s .args .ids .now)
 own-fits s = row-inside (s .pre .sized) (s .pre .inside) .0
 
 to-low : (c : tie.In-loop Inv-loop μ-loop) → getD (c .before .before .before .neighbours-of .result .now) (c .before .loop .j) 0 < nodeCount (G (start (c .before .before)))
-to-low c = omega (arith, to-is c, start (c .before .before) .pre .accepted .leads-in (arc c))
+to-low c = omega (arith, place c .to, start (c .before .before) .pre .accepted .leads-in (place c .arc))
 
 row-low : (c : tie.After-wide Inv-loop μ-loop) → c .wide .result < nodeCount (G (start (c .before .before .before .before)))
 row-low c = omega (arith, c .wide .ensures, to-low (c .before .before))
@@ -105,14 +91,7 @@ mul-w : tie.Need-mul-w Inv-loop μ-loop
 mul-w c = search needs
 
 shared-slice-read-w : tie.Need-shared-slice-read-w Inv-loop μ-loop
-shared-slice-read-w c =
-    let w = c .before .before .before .before .before in
-    let s = start w in
-    let p = accepted-searchable (s .pre .accepted) in
-    let h : s .args .i + 1 < length (s .args .starts .now) = omega (arith, s .pre .inside) in
-    let q = ap length (ahead w) in
-    let r = ap length (weighed w) in
-    omega (arith, parts-even (p .neighbours .part _ h) (p .weights .part _ h), c .before .before .before .loop-test .taken)
+shared-slice-read-w c = place (c .before .before .before) .weighed
 
 mul-best-of-row : tie.Need-mul-best-of-row Inv-loop μ-loop
 mul-best-of-row c = omega (arith, own-fits (start (c .before .before .before .before .before)))
@@ -155,7 +134,7 @@ best-of-row-requires c κs =
     let w = c .before .before .before .before in
     let i = w .before .before in
     let s = start (i .before .before) in
-    (omega (arith, weight-is i, s .pre .accepted .weight-high (arc i)), lent-even (s .pre .sized) (row-low w))
+    (omega (arith, place i .weight, s .pre .accepted .weight-high (place i .arc)), lent-even (s .pre .sized) (row-low w))
 
 add-j : tie.Need-add-j Inv-loop μ-loop
 add-j c = search needs
@@ -169,7 +148,7 @@ loop-again c =
     let i = w .before .before in
     let s = start (i .before .before) in (
       omega (arith, i .loop-test .taken),
-      chosen-lent (s .pre .sized) (s .pre .inside) (w .wide .result) (getD (i .before .before .weights-of .result .now) (i .before .loop .j) 0) (w .wide .ensures ∙ to-is i) (weight-is i)
+      chosen-lent (s .pre .sized) (s .pre .inside) (w .wide .result) (getD (i .before .before .weights-of .result .now) (i .before .loop .j) 0) (w .wide .ensures ∙ place i .to) (place i .weight)
           (row-low w) (i .before .loop .inv .1) (c .best-of-row .ensures),
     )
 

@@ -1,12 +1,12 @@
--- `table::remove::fill` meets its contract. The invariant: what waits has room, and a table that is being mended stays so (`Filling`). The measure is what
--- waits and the arcs of the short rows: each entry that leaves takes one away, and a row that takes it is short no more.
+-- `table::remove::fill` meets its contract. The invariant: what waits has room, and a table that is being mended stays so (`Filling`). The measure
+-- is what waits and the arcs of the short rows: each entry that leaves takes one away, and a row that takes it is short no more.
 -- Assumes nothing.
 use Prim.Native.Nat.{_<_}
 use mathlib.Core.Path.{_≡_, sym, _∙_}
 use native.Mathlib.Omega.{arith}
 use Rattle.network.specs.Network.{network}
 use Rattle.expansion.specs.Queue.{keyOf}
-use Rattle.table.specs.Mend.{offerOf}
+use Rattle.table.specs.Offer.{offerOf}
 use Rattle.table.proofs.RemoveFilling.{Filling, work, filling-start, filling-end, filling-can, filling-offer, filling-taken, taken-work, filling-skipped, skipped-falls}
 use borrow.Author.Needs.{needs}
 use Rattle.table.proofs.remove.fill.Statement.{statement}

@@ -1,16 +1,16 @@
--- `table::remove::offer` meets its contract. The invariant: the arcs before place j have put in their entries (`Offered`). The measure is what is left of
--- the arcs. An entry fits: its distance by `CanOffer`, the queue by its room.
+-- `table::remove::offer` meets its contract. The invariant: the arcs before place j have put in their entries (`Offered`). The measure is what is
+-- left of the arcs. An entry fits: its distance by `CanOffer`, the queue by its room.
 -- Assumes nothing.
 use Prim.Native.Nat.{ℕ, _+_, _-_, _≤_, _<_}
 use mathlib.Core.Path.{_≡_, ap, _∙_}
 use native.Mathlib.Omega.{arith}
 use lib.ListN.{length, getD}
-use Rattle.network.specs.Network.{Network, Arc, neighboursOf, weightsOf, network}
-use Rattle.network.proofs.Ranges.{arc-at}
-use Rattle.network.proofs.NodeArcs.{parts-even}
-use Rattle.network.proofs.NumberZero.{accepted-ranges, accepted-searchable}
+use Rattle.network.specs.Network.{Network, neighboursOf, weightsOf, network}
+use Rattle.network.proofs.NumberZero.{accepted-searchable}
+use Rattle.network.proofs.ArcAt.{ArcAt, arc-handed}
 use Rattle.expansion.specs.Queue.{keyOf}
-use Rattle.table.specs.Mend.{arcOffer, Offered}
+use Rattle.table.specs.Offer.{arcOffer}
+use Rattle.table.specs.Mend.{Offered}
 use Rattle.table.proofs.RemoveSteps.{offered-none, offered-skip, offered-push}
 use borrow.Author.Needs.{needs}
 use Rattle.table.proofs.remove.offer.Statement.{statement}
@@ -35,33 +35,20 @@ ahead c = c .before .neighbours-of .ensures
 weighed : (c : tie.After-weights-of Inv-loop μ-loop) → c .weights-of .result .now ≡ weightsOf (G (start c)) (start c .args .node)
 weighed c = c .weights-of .ensures
 
-low : (c : tie.In-loop Inv-loop μ-loop) → c .before .loop .j < length (neighboursOf (G (start (c .before .before))) (start (c .before .before) .args .node))
-low c = rw (ahead (c .before .before)) at (c .loop-test .taken)
-
-to-is : (c : tie.In-loop Inv-loop μ-loop)
-    → getD (c .before .before .before .neighbours-of .result .now) (c .before .loop .j) 0
-    ≡ getD (neighboursOf (G (start (c .before .before))) (start (c .before .before) .args .node)) (c .before .loop .j) 0
-to-is c = ap (λ l. getD l (c .before .loop .j) 0) (ahead (c .before .before))
-
-weight-is : (c : tie.In-loop Inv-loop μ-loop)
-    → getD (c .before .before .weights-of .result .now) (c .before .loop .j) 0
-    ≡ getD (weightsOf (G (start (c .before .before))) (start (c .before .before) .args .node)) (c .before .loop .j) 0
-weight-is c = ap (λ l. getD l (c .before .loop .j) 0) (weighed (c .before .before))
-
-arc : (c : tie.In-loop Inv-loop μ-loop)
-    → Arc (G (start (c .before .before))) (start (c .before .before) .args .node)
-    (getD (neighboursOf (G (start (c .before .before))) (start (c .before .before) .args .node)) (c .before .loop .j) 0)
-    (getD (weightsOf (G (start (c .before .before))) (start (c .before .before) .args .node)) (c .before .loop .j) 0)
-arc c =
-    let s = start (c .before .before) in
-    arc-at (accepted-ranges (s .pre .accepted)) (s .args .node) (s .pre .inside) (c .before .loop .j) (low c)
+place : (c : tie.In-loop Inv-loop μ-loop)
+    → let s = start (c .before .before) in
+    ArcAt (G s) (s .args .node) (c .before .loop .j) (c .before .before .before .neighbours-of .result .now) (c .before .before .weights-of .result .now)
+place c =
+    let w = c .before .before in
+    let s = start w in
+    arc-handed (s .pre .accepted) (s .pre .inside) (ahead w) (weighed w) (c .loop-test .taken)
 
 -- the flag of the row that the arc leads to
 word : (c : tie.After-wide Inv-loop μ-loop) → c .wide .result < length (c .before .before .before .before .loop .s)
 word c =
     let i = c .before .before .before in
     let s = start (i .before .before) in
-    omega (arith, c .wide .ensures, to-is i, s .pre .accepted .leads-in (arc i), i .before .loop .inv .1 .frame .size, s .pre .room)
+    omega (arith, c .wide .ensures, place i .to, s .pre .accepted .leads-in (place i .arc), i .before .loop .inv .1 .frame .size, s .pre .room)
 
 sub-n : tie.Need-sub-n Inv-loop μ-loop
 sub-n c = search needs
@@ -85,20 +72,13 @@ mul-far : tie.Need-mul-far Inv-loop μ-loop
 mul-far c = search needs
 
 shared-slice-read-far : tie.Need-shared-slice-read-far Inv-loop μ-loop
-shared-slice-read-far c =
-    let w = c .before .before .before .before in
-    let s = start w in
-    let p = accepted-searchable (s .pre .accepted) in
-    let h : s .args .node + 1 < length (s .args .starts .now) = omega (arith, s .pre .inside) in
-    let q = ap length (ahead w) in
-    let r = ap length (weighed w) in
-    omega (arith, parts-even (p .neighbours .part _ h) (p .weights .part _ h), c .before .before .loop-test .taken)
+shared-slice-read-far c = place (c .before .before) .weighed
 
 add-far : tie.Need-add-far Inv-loop μ-loop
 add-far c =
     let i = c .before .before in
     let s = start (i .before .before) in
-    omega (arith, s .pre .accepted .weight-high (arc i), weight-is i, s .pre .fits)
+    omega (arith, s .pre .accepted .weight-high (place i .arc), place i .weight, s .pre .fits)
 
 add-j : tie.Need-add-j Inv-loop μ-loop
 add-j c = search needs
@@ -117,19 +97,19 @@ tag-of-requires c κs =
     let i = c .before .before .before .before .before in
     let s = start (i .before .before) in
     let f = s .pre .accepted .few in
-    (omega (arith, s .pre .point), omega (arith, s .pre .accepted .leads-in (arc i), to-is i))
+    (omega (arith, s .pre .point), omega (arith, s .pre .accepted .leads-in (place i .arc), place i .to))
 
 push-at-requires : tie.Need-push-at-requires Inv-loop μ-loop
 push-at-requires c κs =
     let i = c .before .before .before .before .before .before .before in
     let f = i .before .loop .inv .1 in
-    (f .queue, omega (arith, f .frame .size, f .grown, start (i .before .before) .pre .room, low i))
+    (f .queue, omega (arith, f .frame .size, f .grown, start (i .before .before) .pre .room, place i .low))
 
 add-more : tie.Need-add-more Inv-loop μ-loop
 add-more c =
     let i = c .before .before .before .before .before .before .before .before .before .before in
     let f = i .before .loop .inv .1 in
-    omega (arith, f .frame .size, f .grown, start (i .before .before) .pre .room, low i)
+    omega (arith, f .frame .size, f .grown, start (i .before .before) .pre .room, place i .low)
 
 loop-less : tie.Need-loop-less Inv-loop μ-loop
 loop-less c = search needs
@@ -139,7 +119,7 @@ loop-again c =
     let i = c .before .before .before .before .before .before .before .before .before .before in
     let s = start (i .before .before) in
     let t = c .before .before .before .before in
-    let e : keyOf (s .args .d + getD (i .before .before .weights-of .result .now) (i .before .loop .j) 0) (t .tag-of .result) ≡ arcOffer (G s) (s .args .node) (s .args .p) (s .args .d) (i .before .loop .j) = omega (arith, t .tag-of .ensures, to-is i, weight-is i) in
+    let e : keyOf (s .args .d + getD (i .before .before .weights-of .result .now) (i .before .loop .j) 0) (t .tag-of .result) ≡ arcOffer (G s) (s .args .node) (s .args .p) (s .args .d) (i .before .loop .j) = omega (arith, t .tag-of .ensures, place i .to, place i .weight) in
     (omega (arith, i .loop-test .taken), offered-push (i .before .loop .inv .1) (rw e at (c .before .before .push-at .ensures)))
 
 loop-less-2 : tie.Need-loop-less-2 Inv-loop μ-loop
@@ -152,7 +132,7 @@ loop-again-2 c =
     let f = i .before .loop .inv .1 in (
       omega (arith, i .loop-test .taken),
       offered-skip f
-          (λ e. c .if1 .left (ap (λ (x : ℕ). getD (i .before .loop .s) x 0) (c .before .before .wide .ensures ∙ to-is i) ∙ f .frame .words _ (s .pre .accepted .leads-in (arc i)) ∙ e)),
+          (λ e. c .if1 .left (ap (λ (x : ℕ). getD (i .before .loop .s) x 0) (c .before .before .wide .ensures ∙ place i .to) ∙ f .frame .words _ (s .pre .accepted .leads-in (place i .arc)) ∙ e)),
     )
 
 same-length : tie.Need-same-length Inv-loop μ-loop

@@ -1,5 +1,5 @@
--- `table::remove::seed` meets its contract. The invariant: the short rows below `next` have their best candidates in the queue (`Seeded`). The measure is what
--- is left of the rows.
+-- `table::remove::seed` meets its contract. The invariant: the short rows below `next` have their best candidates in the queue (`Seeded`). The
+-- measure is what is left of the rows.
 -- Assumes nothing.
 use Prim.Native.Nat.{_-_, _≤_}
 use mathlib.Core.Path.{_≡_, sym, _∙_}

@@ -1,0 +1,344 @@
+-- Lazy under way, with or without extended pruning. The search verifies each point that it settles; M are the points verified so far. It follows the
+-- arcs of the nodes that M leaves unbeaten, and answers for these; more nodes are beaten when M grows. How a search tells that a node is beaten is its
+-- own affair. The found flags start at word f, before the area.
+-- Assumes nothing.
+use Prim.Native.Nat.{ℕ, _+_, _*_, _≤_, _<_}
+use mathlib.Core.Path.{_≡_, refl, sym, ap, _∙_}
+use mathlib.Core.Bool.{Bool, true, false, not, false≢true}
+use mathlib.Core.Logic.{_≢_, _⊎_, inl, inr, ⊎-elim}
+use mathlib.Core.List.{List, _++_}
+use native.Mathlib.Decide.{ℕ-discrete}
+use native.Mathlib.Omega.{arith}
+use lib.Dec.{eqb}
+use lib.ListN.{length, getD, set, take, drop, replicate, length-set, length-replicate}
+use lib.Seq.{getD-set-same, getD-set-other, getD-take, length-take-le}
+use borrow.Author.Tests.{eq-eqb, eqb-true}
+use Rattle.network.specs.Network.{Network, nodeCount, arcCount, neighboursOf}
+use Rattle.network.specs.Accepted.{Accepted}
+use Rattle.network.specs.Distance.{NONE, dist}
+use Rattle.network.specs.Count.{select}
+use Rattle.network.proofs.Distances.{dist-symmetric}
+use Rattle.network.specs.Points.{marked, isListed, listed}
+use Rattle.expansion.specs.Area.{queueBase, LabelAt, HeldAt, Kept, Blank, Started, Took, Emptied, CanFollow, Followed}
+use Rattle.expansion.proofs.Search.{Leads, monotone, closed-leads, frontier}
+use Rattle.expansion.proofs.Steps.{Outcome, waits, not-seen, not-open, requeue}
+use Rattle.expansion.proofs.Settled.{zero-blank}
+use Rattle.expansion.proofs.AreaLaws.{room, settledAs, frame-settle, label-same, label-settle, others-settle, room-same}
+use Rattle.expansion.proofs.AreaSearch.{AndOne, search-took, took-least, took-exact, search-finished}
+use Rattle.expansion.proofs.Progress.{Progress, progress-start, progress-settled, took-area, took-word, took-place, took-small, took-follow, room-falls, took-fits}
+use Rattle.expansion.proofs.Beside.{Beside, label-beside, progress-beside, room-beside}
+use Rattle.searches.specs.Eager.{isFound}
+use Rattle.searches.proofs.Beaten.{Unbeaten, Part, unbeaten-part, unbeaten-closed}
+use Rattle.searches.proofs.Listed.{listed-parts, lazy-open}
+use Rattle.searches.proofs.FlagLaws.{flag-right}
+use Rattle.network.proofs.Lends.{first-size, first-part, first-after}
+use Rattle.expansion.proofs.Stopping.{kept-same, room-stopped, progress-stopped, took-beside}
+use Rattle.searches.proofs.Selected.{select-same}
+
+-- a flagged node is listed, and a listed one of M is flagged
+pub record Tells (g : Network) (P M : List ℕ) (q k : ℕ) (xs : List ℕ) (f : ℕ) : Type 0 where
+  pub sound : (p : ℕ) → p < nodeCount g → getD xs (f + p) 0 ≢ 0 → isListed g P q k p ≡ true
+  pub told : (p : ℕ) → p < nodeCount g → marked M p ≡ true → isListed g P q k p ≡ true → getD xs (f + p) 0 ≢ 0
+
+-- the search between two entries: M are the points settled
+pub record Discovering (g : Network) (P M : List ℕ) (q k : ℕ) (xs : List ℕ) (b f settled len : ℕ) : Type 0 where
+  pub progress : Progress g q (Unbeaten g M q k) (Unbeaten g M q k) xs b settled len
+  pub tells : Tells g P M q k xs f
+  pub size : length M ≡ nodeCount g
+  pub part : Part M P
+  pub come : (p : ℕ) → p < nodeCount g → marked M p ≡ true → getD xs (b + p) 0 ≢ 0
+  pub met : (p : ℕ) → p < nodeCount g → marked P p ≡ true → getD xs (b + p) 0 ≢ 0 → marked M p ≡ true
+
+-- the search when an entry of v at label l is taken, and v, where it is a point, is verified and among M, but not yet settled; before it took the entry
+-- it had no more room than `most`
+pub record Arrived (g : Network) (P M : List ℕ) (q k most : ℕ) (ys : List ℕ) (b f settled left l v : ℕ) : Type 0 where
+  pub before : List ℕ
+  pub len : ℕ
+  pub parent : ℕ
+  pub progress : Progress g q (Unbeaten g M q k) (Unbeaten g M q k) before b settled len
+  pub took : Took (nodeCount g) before ys b len left l v parent
+  pub had : room g before b len ≤ most
+  pub tells : Tells g P M q k ys f
+  pub size : length M ≡ nodeCount g
+  pub part : Part M P
+  pub here : marked P v ≡ true → marked M v ≡ true
+  pub come : (p : ℕ) → p < nodeCount g → p ≢ v → marked M p ≡ true → getD ys (b + p) 0 ≢ 0
+  pub met : (p : ℕ) → p < nodeCount g → p ≢ v → marked P p ≡ true → getD ys (b + p) 0 ≢ 0 → marked M p ≡ true
+
+-- M′ is M, with v where v is a point of P
+pub record Joins (P M M′ : List ℕ) (v : ℕ) : Type 0 where
+  pub size : length M′ ≡ length M
+  pub other : (x : ℕ) → x ≢ v → marked M′ x ≡ marked M x
+  pub here : marked M′ v ≡ marked P v
+
+pub leads : {g : Network} → Accepted g → (M : List ℕ) (q k : ℕ) → Leads g q (Unbeaten g M q k) (Unbeaten g M q k)
+leads ok M q k = closed-leads ok (unbeaten-closed ok M q k)
+
+-- flags that are the same words
+pub tells-same : {g : Network} {P M : List ℕ} {q k f : ℕ} {xs ys : List ℕ} → ((i : ℕ) → i < f + nodeCount g → getD ys i 0 ≡ getD xs i 0) → Tells g P M q k xs f → Tells g P M q k ys f
+tells-same {f} same t =
+    record {
+      sound = λ p h n. t .sound p h (rw (same (f + p) (omega arith)) at n);
+      told = λ p h m a. rw (same (f + p) (omega arith)) (t .told p h m a);
+    }
+
+module _ {g : Network} (ok : Accepted g) {P : List ℕ} {q k b f : ℕ} (low : f + nodeCount g ≤ b) where
+  -- ---- The search begins: no point is verified.
+  pub discovering-start : {xs ys : List ℕ} → Blank xs f → queueBase (nodeCount g) b + 2 * (arcCount g + 1) ≤ length xs → q < nodeCount g
+      → Started (nodeCount g) xs ys b q → Discovering g P (replicate (nodeCount g) 0) q k ys b f 0 1
+  discovering-start {xs} {ys} blank size site t =
+      record {
+        progress = progress-start ok (record { zero = λ j h. blank .zero j (omega arith) }) size site t;
+        tells =
+            record {
+              sound = λ p h n. absurd (n (t .frame .words (f + p) (omega arith) ∙ blank .zero (f + p) (omega arith)));
+              told = λ p h m a. absurd (none p m);
+            };
+        size = length-replicate (nodeCount g) 0;
+        part = λ x m. absurd (none x m);
+        come = λ p h m. absurd (none p m);
+        met = λ p h m n. absurd (n (t .frame .words (b + p) (omega arith) ∙ blank .zero (b + p) (omega arith)));
+      }
+    where
+      none : (x : ℕ) → marked (replicate (nodeCount g) 0) x ≡ true → ⊥
+      none x m =
+          omega (
+            arith,
+            eqb-true (getD (replicate (nodeCount g) 0) x 0) 1 m,
+            zero-blank {xs = replicate (nodeCount g) 0} (nodeCount g) 0 refl .zero x (omega arith),
+          )
+
+  module _ {M : List ℕ} {xs : List ℕ} {settled len : ℕ} (d : Discovering g P M q k xs b f settled len)
+      {ys : List ℕ} {left l v u : ℕ} (t : Took (nodeCount g) xs ys b len left l v u) where
+    -- ---- What an entry tells that is taken. Its node was not verified; its label is the distance where its node is unbeaten, and no more than the
+    -- distance of any unbeaten node that is not settled.
+    pub took-unverified : marked M v ≡ false
+    took-unverified = by (marked M v) refl
+      where
+        by : (x : Bool) → marked M v ≡ x → x ≡ false
+        by true m = absurd (d .come v (t .inside) m (t .new))
+        by false m = refl
+
+    pub label-exact : Unbeaten g M q k v → l ≡ dist g q v
+    label-exact o = took-exact ok (d .progress .area) (d .progress .searched) t (leads ok M q k) o
+
+    pub label-least : (x : ℕ) → x < nodeCount g → getD xs (b + x) 0 ≡ 0 → Unbeaten g M q k x → l ≤ dist g q x
+    label-least x h z o =
+        elim (ℕ-discrete (dist g q x) NONE) [
+          | yes e ↦ omega (arith, took-small ok (d .progress) t)
+          | no n ↦
+              ⊎-elim
+              (λ a. absurd (omega (arith, a .is, label-same b (t .leaves .frame) x h)))
+              (λ w. omega (arith, w .low, took-least ok (d .progress .area) (d .progress .searched) t (w .node) (w .label) (w .parent) (w .held)))
+              (frontier ok (leads ok M q k) (search-took ok (d .progress .area) (d .progress .searched) t) x o n)
+        ]
+
+    -- ---- The entry is dropped: its node is beaten, or the node that put it in is.
+    pub room-dropped : room g ys b left < room g xs b len
+    room-dropped = omega (arith, room-same g b left (t .leaves .frame), t .fewer)
+
+    dropped-tells : Tells g P M q k ys f
+    dropped-tells = tells-same (λ i h. t .leaves .frame .words i (omega (arith, low))) (d .tells)
+
+    pub discovering-dropped : (Unbeaten g M q k v → ⊥) ⊎ (Unbeaten g M q k u → ⊥) → Discovering g P M q k ys b f settled left
+    discovering-dropped closed =
+        record {
+          progress =
+              record {
+                area = took-area ok (d .progress) t;
+                searched =
+                    requeue ok (search-took ok (d .progress .area) (d .progress .searched) t) becomes
+                    (λ x m w h. search-took ok (d .progress .area) (d .progress .searched) t .held-walk x m w (inl h));
+                left = omega (arith, room-dropped, d .progress .left);
+                size = omega (arith, d .progress .size, t .leaves .frame .size);
+              };
+          tells = dropped-tells;
+          size = d .size;
+          part = d .part;
+          come = λ p h m. rw (label-same b (t .leaves .frame) p h) (d .come p h m);
+          met = λ p h m n. d .met p h m (rw (label-same b (t .leaves .frame) p h) at n);
+        }
+      where
+        becomes : (x m w : ℕ) → AndOne (nodeCount g) ys b left v l u x m w → Outcome (Unbeaten g M q k) (Unbeaten g M q k) (LabelAt (nodeCount g) ys b) (HeldAt (nodeCount g) ys b left) x m w
+        becomes x m w (inl h) = waits h
+        becomes x m w (inr e) = ⊎-elim (λ n. not-seen (rw (e .0) n)) (λ n. not-open (rw (e .2) n)) closed
+
+    -- ---- Its node is verified, where it is a point.
+    -- the points verified then
+    pub joined : (M′ : List ℕ) × Joins P M M′ v
+    joined = by (marked P v) refl
+      where
+        by : (x : Bool) → marked P v ≡ x → (M′ : List ℕ) × Joins P M M′ v
+        by true e = (
+          set M v 1,
+          record {
+            size = length-set M v 1;
+            other = λ x n. ap (λ (w : ℕ). eqb w 1) (getD-set-other M v x 1 0 n);
+            here = eq-eqb (getD (set M v 1) v 0) 1 (getD-set-same M v 1 0 (omega (arith, d .size, t .inside))) ∙ sym e;
+          },
+        )
+        by false e = (M, record { size = refl; other = λ x n. refl; here = took-unverified ∙ sym e })
+
+    module _ {M′ : List ℕ} (j : Joins P M M′ v) where
+      pub joins-grow : Part M M′
+      joins-grow x m =
+          elim (ℕ-discrete x v) [
+            | yes e ↦ rw e (j .here ∙ d .part v (rw e at m))
+            | no n ↦ j .other x n ∙ m
+          ]
+
+      pub joins-part : Part M′ P
+      joins-part x m =
+          elim (ℕ-discrete x v) [
+            | yes e ↦ rw e (sym (j .here) ∙ rw e at m)
+            | no n ↦ d .part x (sym (j .other x n) ∙ m)
+          ]
+
+      pub shrinks : (x : ℕ) → Unbeaten g M′ q k x → Unbeaten g M q k x
+      shrinks x = unbeaten-part g M M′ q k x joins-grow
+
+      -- the flags then: only v's own changes, and is right
+      pub tells-joined : {zs : List ℕ} → ((p : ℕ) → p < nodeCount g → p ≢ v → getD zs (f + p) 0 ≡ getD xs (f + p) 0)
+          → (getD zs (f + v) 0 ≢ 0 → isListed g P q k v ≡ true) → (isListed g P q k v ≡ true → getD zs (f + v) 0 ≢ 0) → Tells g P M′ q k zs f
+      tells-joined {zs} other sound told =
+          record {
+            sound =
+                λ p h n.
+                elim (ℕ-discrete p v) [
+                  | yes e ↦ rw e (sound (rw e at n))
+                  | no ne ↦ d .tells .sound p h (rw (other p h ne) at n)
+                ];
+            told =
+                λ p h m a.
+                elim (ℕ-discrete p v) [
+                  | yes e ↦ rw e (told (rw e at a))
+                  | no ne ↦ rw (other p h ne) (d .tells .told p h (sym (j .other p ne) ∙ m) a)
+                ];
+          }
+
+      -- words before the area changed, and the flags are right
+      module _ {zs : List ℕ} (new : Beside ys zs b) (tells : Tells g P M′ q k zs f) where
+        fits : b ≤ length xs
+        fits = omega (arith, d .progress .size)
+
+        same : length (take b zs) ≡ length (take b xs)
+        same = omega (arith, length-take-le b xs fits, length-take-le b zs (omega (arith, fits, new .size, t .leaves .frame .size)))
+
+        old : Beside xs (take b zs ++ drop b xs) b
+        old = record { size = first-size b xs (take b zs) fits same; words = first-after b xs (take b zs) fits same }
+
+        word : (p : ℕ) → p < nodeCount g → getD zs (b + p) 0 ≡ getD xs (b + p) 0
+        word p h = label-beside new p ∙ label-same b (t .leaves .frame) p h
+
+        pub arrive : Arrived g P M′ q k (room g xs b len) zs b f settled left l v
+        arrive =
+            record {
+              before = take b zs ++ drop b xs;
+              len = len;
+              parent = u;
+              progress = shrunk (progress-beside old ok (d .progress));
+              took =
+                  took-beside (nodeCount g) old new
+                  (λ i h. sym (first-part b xs (take b zs) fits same i h ∙ getD-take b zs i 0 h)) t;
+              had = omega (arith, room-beside old g len);
+              tells = tells;
+              size = j .size ∙ d .size;
+              part = joins-part;
+              here = λ m. j .here ∙ m;
+              come = λ p h n m. rw (word p h) (d .come p h (sym (j .other p n) ∙ m));
+              met = λ p h n m w. j .other p n ∙ d .met p h m (rw (word p h) at w);
+            }
+          where
+            shrunk : {ws : List ℕ} → Progress g q (Unbeaten g M q k) (Unbeaten g M q k) ws b settled len → Progress g q (Unbeaten g M′ q k) (Unbeaten g M′ q k) ws b settled len
+            shrunk p = record { area = p .area; searched = monotone shrinks shrinks (p .searched); left = p .left; size = p .size }
+
+  -- ---- The node is settled; the search stops behind it or follows its arcs.
+  module _ {M : List ℕ} {most : ℕ} {ys : List ℕ} {settled left l v : ℕ} (a : Arrived g P M q k most ys b f settled left l v) where
+    -- what `settle` and `open` require
+    pub settle-fits : (b + nodeCount g + settled < length ys) × (b + v < length ys) × (l < 4294967295)
+    settle-fits = took-fits ok (a .progress) (a .took)
+
+    pub settled-few : settled < nodeCount g
+    settled-few = took-place ok (a .progress) (a .took)
+
+    pub can-follow : CanFollow g (settledAs (nodeCount g) ys b settled v l) b left v l
+    can-follow = took-follow ok (a .progress) (a .took)
+
+    module _ {ws : List ℕ} (same : Kept (settledAs (nodeCount g) ys b settled v l) ws (queueBase (nodeCount g) b)) where
+      pub front : (i : ℕ) → i < b → getD ws i 0 ≡ getD ys i 0
+      front i h = same .words i (omega arith) ∙ frame-settle (nodeCount g) ys b settled v l .words i h
+
+      other : (p : ℕ) → p < nodeCount g → p ≢ v → getD ws (b + p) 0 ≡ getD ys (b + p) 0
+      other p h n =
+          label-same b same p h ∙ others-settle (took-area ok (a .progress) (a .took)) v l (a .took .inside) (took-word ok (a .progress) (a .took)) p h n
+
+      next : {more : ℕ} → Progress g q (Unbeaten g M q k) (Unbeaten g M q k) ws b (settled + 1) more → Discovering g P M q k ws b f (settled + 1) more
+      next p =
+          record {
+            progress = p;
+            tells = tells-same (λ i h. front i (omega (arith, low))) (a .tells);
+            size = a .size;
+            part = a .part;
+            come = come;
+            met = met;
+          }
+        where
+          come : (x : ℕ) → x < nodeCount g → marked M x ≡ true → getD ws (b + x) 0 ≢ 0
+          come x h m =
+              elim (ℕ-discrete x v) [
+                | yes e ↦
+                    rw e
+                    (λ z.
+                    omega (
+                      arith,
+                      label-same b same v (a .took .inside),
+                      label-settle (took-area ok (a .progress) (a .took)) v l (a .took .inside) (took-word ok (a .progress) (a .took)),
+                    ))
+                | no n ↦ rw (other x h n) (a .come x h n m)
+              ]
+
+          met : (x : ℕ) → x < nodeCount g → marked P x ≡ true → getD ws (b + x) 0 ≢ 0 → marked M x ≡ true
+          met x h m w =
+              elim (ℕ-discrete x v) [
+                | yes e ↦ rw e (a .here (rw e at m))
+                | no n ↦ a .met x h n m (rw (other x h n) at w)
+              ]
+
+    -- the search stops behind the node
+    pub room-left : room g (settledAs (nodeCount g) ys b settled v l) b left < most
+    room-left = omega (arith, room-stopped ok (a .progress) (a .took), a .had)
+
+    pub discovering-stopped : (Unbeaten g M q k v → ⊥) → Discovering g P M q k (settledAs (nodeCount g) ys b settled v l) b f (settled + 1) left
+    discovering-stopped closed = next kept-same (progress-stopped ok (a .progress) (a .took) (leads ok M q k) closed)
+
+    -- or follows its arcs
+    module _ {ws : List ℕ} {more : ℕ} (w : Followed g (settledAs (nodeCount g) ys b settled v l) ws b left more v l (length (neighboursOf g v))) where
+      pub room-followed : room g ws b more < most
+      room-followed = omega (arith, room-falls ok (a .progress) (a .took) (leads ok M q k) w, a .had)
+
+      pub discovering-opened : Discovering g P M q k ws b f (settled + 1) more
+      discovering-opened = next (w .frame) (progress-settled ok (a .progress) (a .took) (leads ok M q k) w)
+
+  -- ---- No entry waits: the found flags are those of the listed points.
+  module _ {M : List ℕ} {xs : List ℕ} {settled len : ℕ} (d : Discovering g P M q k xs b f settled len)
+      {ys : List ℕ} (t : Emptied (nodeCount g) xs ys b len) where
+    listed-verified : (p : ℕ) → p < nodeCount g → isListed g P q k p ≡ true → marked M p ≡ true
+    listed-verified p h a = by (marked M p) refl
+      where
+        by : (x : Bool) → marked M p ≡ x → x ≡ true
+        by true e = refl
+        by false e =
+            let s = listed-parts g P q k p .0 a in
+            let w =
+            search-finished ok (d .progress .area) (d .progress .searched) t (leads ok M q k) p (lazy-open g P M q k p a (d .part) e)
+            (omega (arith, s .reach, dist-symmetric ok q p))
+            in absurd (false≢true (sym e ∙ d .met p h (s .mark) (omega (arith, w .is))))
+
+    pub discovered-all : (p : ℕ) → p < nodeCount g → isFound f ys p ≡ isListed g P q k p
+    discovered-all p h =
+        ap (λ (w : ℕ). not (eqb w 0)) (t .leaves .frame .words (f + p) (omega (arith, low)))
+        ∙ flag-right (getD xs (f + p) 0) (isListed g P q k p) (λ a. d .tells .told p h (listed-verified p h a) a) (d .tells .sound p h)
+
+    pub discovered-listed : select (isFound f ys) (nodeCount g) ≡ listed g P q k
+    unfolding listed
+    discovered-listed = select-same (isFound f ys) (isListed g P q k) (nodeCount g) discovered-all

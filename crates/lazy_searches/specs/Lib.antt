@@ -1,0 +1,4 @@
+-- What the contracts of this crate cite. The theorems stand in proofs/.
+pub mod Lazy
+pub mod Second
+pub mod LazyEp

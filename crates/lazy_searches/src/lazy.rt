@@ -1,0 +1,175 @@
+// Lazy: source 000, Fig. 7. An expansion from the site that verifies each point that it comes to. A verification counts the nodes to which its point is
+// strictly nearer than the site; the expansion stops behind a node that was counted k times. Document 01, 'What a site receives'.
+ghost use mathlib.Core.Path.{_≡_};
+ghost use Prim.Native.Nat.{_+_, _≤_, _<_};
+ghost use lib.Dec.{leb};
+ghost use lib.ListN.{length, getD};
+ghost use Rattle.network.specs.Network.{network};
+ghost use Rattle.expansion.specs.Area.{queueBase};
+ghost use Rattle.searches.specs.Eager.{CanSearch};
+ghost use Rattle.lazy_searches.specs.Lazy.{visitBase, isLess, CanCount, CountedNode, CountedAll, CanDiscover, Discovered, CanExplore, ExploreLeft, SearchLeft};
+use expansion::step;
+use expansion::step::Taken;
+use expansion::verify;
+use expansion::words;
+use network::arcs::wide;
+use searches::flags;
+
+// Whether a node was counted k times.
+fn is_closed(s: &[u32], node: u32, k: usize) -> bool
+    requires { ⌜ node < length (now s) ⌝ }
+    ensures { λ r. ⌜ r ≡ leb k (getD (now (s .entry)) node 0) ⌝ }
+{
+    let at = wide(node);
+    let count = wide(s[at]);
+    k <= count
+}
+
+// Whether a verified point is strictly nearer to a node than the site, by the words of the node: `near` in the verification, `word` in the search, which
+// has come to the label.
+fn is_nearer(near: u32, word: u32, label: u32) -> bool
+    ensures { λ r. ⌜ r ≡ isLess near word label ⌝ }
+{
+    if word == 0 {
+        return near <= label;
+    }
+    near < word
+}
+
+// Counts a node that a verification has settled, where its point is strictly nearer to the node than the site.
+fn count_node(s: &mut [u32], n: usize, b: usize, node: u32, label: u32)
+    requires { ⌜ (queueBase n (visitBase n) ≤ b) × (b + n ≤ length (now s)) × (node < n) × (getD (now s) node 0 < 4294967295) ⌝ }
+    ensures { λ _. ⌜ CountedNode n (now (s .entry)) (now (s .exit)) b label node ⌝ }
+{
+    let at = wide(node);
+    let near = s[2 * n + at];
+    let word = s[b + at];
+    if is_nearer(near, word, label) {
+        s[at] += 1;
+    }
+}
+
+// Counts the nodes that a verification has settled.
+fn count_visited(s: &mut [u32], n: usize, b: usize, settled: usize, label: u32)
+    requires { ⌜ CanCount n (now s) b settled ⌝ }
+    ensures { λ _. ⌜ CountedAll n (now (s .entry)) (now (s .exit)) b settled label ⌝ }
+{
+    let mut i = 0;
+    while i < settled {
+        let node = s[3 * n + i];
+        count_node(s, n, b, node, label);
+        i += 1;
+    }
+}
+
+// Verifies a node that is a point: flags it where it is listed, and counts the nodes that the verification has settled.
+fn discover(
+    starts: &[u32],
+    neighbours: &[u32],
+    weights: &[u32],
+    points: &[u8],
+    s: &mut [u32],
+    b: usize,
+    node: u32,
+    label: u32,
+    q: u32,
+    k: usize,
+)
+    requires { ⌜ CanDiscover (network (now starts) (now neighbours) (now weights)) (now points) q k (now s) b node ⌝ }
+    ensures { λ _. ⌜ Discovered (network (now (starts .entry)) (now (neighbours .entry)) (now (weights .entry))) (now (points .entry)) q k (now (s .entry)) (now (s .exit)) b node label ⌝ }
+{
+    let n = starts.len() - 1;
+    let at = wide(node);
+    let mark = points[at];
+    if mark != 1 {
+        return;
+    }
+    let a = 2 * n;
+    let v = verify::visit(
+        starts,
+        neighbours,
+        weights,
+        points,
+        &mut s[..b],
+        a,
+        node,
+        q,
+        k,
+    );
+    let settled = v.settled;
+    let len = v.len;
+    count_visited(s, n, b, settled, label);
+    step::clear(&mut s[..b], a, n, settled, len);
+    if v.yes {
+        s[n + at] = 1;
+    }
+}
+
+// Settles nodes by rising distance from the site, and verifies the points among them. An entry is dropped where its node is closed, or the node that put
+// it in; the arcs of a node that is not closed are followed.
+fn explore(
+    starts: &[u32],
+    neighbours: &[u32],
+    weights: &[u32],
+    points: &[u8],
+    s: &mut [u32],
+    b: usize,
+    q: u32,
+    k: usize,
+)
+    requires { ⌜ CanExplore (network (now starts) (now neighbours) (now weights)) (now points) (now s) b q ⌝ }
+    ensures { λ _. ⌜ ExploreLeft (network (now (starts .entry)) (now (neighbours .entry)) (now (weights .entry))) (now (points .entry)) q k (now (s .entry)) (now (s .exit)) ⌝ }
+{
+    let n = starts.len() - 1;
+    step::start(s, b, n, q);
+    let mut settled = 0;
+    let mut len = 1;
+    loop {
+        let taken = step::next(s, b, n, len);
+        let Taken::Node {
+            label,
+            node,
+            parent,
+            left,
+        } = taken
+        else {
+            return;
+        };
+        len = left;
+        if is_closed(s, node, k) {
+            continue;
+        }
+        if is_closed(s, parent, k) {
+            continue;
+        }
+        discover(starts, neighbours, weights, points, s, b, node, label, q, k);
+        step::settle(s, b, n, settled, node, label);
+        settled += 1;
+        if is_closed(s, node, k) {
+            continue;
+        }
+        len = step::open(starts, neighbours, weights, s, b, left, node, label);
+    }
+}
+
+// The points that list a site. All words are 0 before and after. Returns how many.
+pub fn lazy(
+    starts: &[u32],
+    neighbours: &[u32],
+    weights: &[u32],
+    points: &[u8],
+    s: &mut [u32],
+    answers: &mut [u32],
+    q: u32,
+    k: usize,
+) -> usize
+    requires { ⌜ CanSearch (network (now starts) (now neighbours) (now weights)) (now points) (now s) (now answers) q k ⌝ }
+    ensures { λ r. ⌜ SearchLeft (network (now (starts .entry)) (now (neighbours .entry)) (now (weights .entry))) (now (points .entry)) q k (now (s .entry)) (now (s .exit)) (now (answers .entry)) (now (answers .exit)) r ⌝ }
+{
+    let n = starts.len() - 1;
+    let b = 4 * n + 2 * (neighbours.len() + 1);
+    explore(starts, neighbours, weights, points, s, b, q, k);
+    let size = flags::write_found(s, answers, n, n);
+    words::zero(s);
+    size
+}

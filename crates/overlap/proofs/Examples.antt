@@ -1,0 +1,51 @@
+-- The examples of document 01's numbers of refusal, by computation.
+-- Assumes nothing.
+use mathlib.Core.Path.{refl}
+use Rattle.network.specs.Count.{any, count, select, tabulate}
+use Rattle.network.specs.Network.{arcsFrom, arcsOf, partOf}
+use Rattle.network.specs.Check.{badSize, fallsAt, badStarts, badNeighbourAt, badPart, badNeighboursOf, badNeighbours, badWeightAt, badWeights, isArcAt, hasArc, lacksReturnAt, lacksReturnOf, lacksReturn, networkNumber}
+use Rattle.network.specs.Distance.{plus, least, within, dist, distancesFrom}
+use Rattle.network.specs.Points.{isNearer, countNearer, isOtherNearer, othersNearer, verified, isListed, listed, isExpanded, expanded, exceedsLimit}
+use Rattle.network.specs.Nearest.{insert, byDistance, nearest}
+use Rattle.network.specs.Rows.{row, rowsBelow, tableIds, tableDistances}
+use Rattle.network.specs.Answers.{answered}
+use Rattle.rows.specs.Check.{sameList, isTable}
+use Rattle.overlap.specs.Numbers.{firstNumber, badByteAt, pointsNumber, nodeNumber, kNumber, tableKNumber, tableNumber, shortNumber, markedNumber, unmarkedNumber, queryNumber, tableCheckNumber, buildNumber, tableNodeNumber, networkPointsNumber, siteNumber, tableQueryNumber}
+use Rattle.overlap.specs.Distances.{distancesNumber, distancesOutcome}
+use Rattle.overlap.specs.Nearest.{nearestNumber, nearestIds, nearestDistances, nearestOutcome}
+use Rattle.overlap.specs.Verify.{verifyNumber, verifyOutcome}
+use Rattle.overlap.specs.Listed.{searchNumber}
+use Rattle.overlap.specs.Eager.{eagerOutcome}
+use Rattle.overlap.specs.Lazy.{lazyOutcome}
+use Rattle.overlap.specs.Updated.{changeNumber}
+use Rattle.overlap.specs.TableCheck.{tableCheckAnswer}
+use Rattle.overlap.specs.Examples.{Examples}
+
+pub examples : Examples
+unfolding any count select tabulate arcsFrom arcsOf partOf badSize fallsAt badStarts badNeighbourAt badPart badNeighboursOf badNeighbours badWeightAt badWeights isArcAt hasArc lacksReturnAt lacksReturnOf lacksReturn networkNumber plus least within dist distancesFrom isNearer countNearer isOtherNearer othersNearer verified isListed listed isExpanded expanded exceedsLimit insert byDistance nearest row rowsBelow tableIds tableDistances answered sameList isTable firstNumber badByteAt pointsNumber nodeNumber kNumber tableKNumber tableNumber shortNumber markedNumber unmarkedNumber queryNumber tableCheckNumber buildNumber tableNodeNumber networkPointsNumber siteNumber tableQueryNumber distancesNumber distancesOutcome nearestNumber nearestIds nearestDistances nearestOutcome verifyNumber verifyOutcome searchNumber eagerOutcome lazyOutcome changeNumber tableCheckAnswer
+examples =
+    record {
+      no-1 = refl;
+      no-2 = refl;
+      no-3 = refl;
+      no-4 = refl;
+      no-5 = refl;
+      no-6 = refl;
+      no-7 = refl;
+      no-8 = refl;
+      no-9 = refl;
+      no-10 = refl;
+      no-11 = refl;
+      no-12 = refl;
+      limit-4 = refl;
+      short = refl;
+      first = refl;
+      from-0 = refl;
+      none-nearer = refl;
+      by-node = refl;
+      equal = refl;
+      nearer = refl;
+      yes = refl;
+      another = refl;
+      half = refl;
+    }

@@ -1,0 +1,93 @@
+-- Document 01, 'Numbers of refusal': its column of examples, and what the calls leave of N, as one statement about the definitions of the calls. Its
+-- proof, by computation, is `examples` of proofs/Examples.antt.
+-- Assumes nothing.
+use Prim.Native.Nat.{ℕ}
+use mathlib.Core.Path.{_≡_}
+use mathlib.Core.Bool.{true, false}
+use mathlib.Core.List.{List, [], _∷_}
+use lib.ListN.{replicate}
+use Rattle.network.specs.Network.{Network, network}
+use Rattle.network.specs.Check.{networkNumber}
+use Rattle.network.specs.Distance.{NONE}
+use Rattle.network.specs.Cases.{roads, points}
+use Rattle.overlap.specs.declared.listed.Listed.the-variants as is
+use Rattle.overlap.specs.declared.nearest.Found.the-variants as found
+use Rattle.overlap.specs.declared.verify.Rule.the-variants as rule
+use Rattle.overlap.specs.declared.updated.Kind.the-variants.{Insert}
+use Rattle.overlap.specs.Numbers.{buildNumber, tableQueryNumber}
+use Rattle.overlap.specs.Distances.{distancesOutcome}
+use Rattle.overlap.specs.Nearest.{nearestOutcome}
+use Rattle.overlap.specs.Verify.{verifyOutcome}
+use Rattle.overlap.specs.Eager.{eagerOutcome}
+use Rattle.overlap.specs.Lazy.{lazyOutcome}
+use Rattle.overlap.specs.Updated.{changeNumber}
+use Rattle.overlap.specs.TableCheck.{tableCheckAnswer}
+
+-- N; a scratch of S entries for m = 2, of any contents; six old answers; and the table of N with K = 2
+abbrev pub N : Network
+N = roads 7
+
+abbrev pub scratch : List ℕ
+scratch = replicate 352 9
+
+abbrev pub old : List ℕ
+old = replicate 6 9
+
+abbrev pub ids : List ℕ
+ids = 2 ∷ 4 ∷ 2 ∷ 4 ∷ 2 ∷ 4 ∷ 4 ∷ 2 ∷ 4 ∷ 2 ∷ 5 ∷ NONE ∷ []
+
+abbrev pub distances : List ℕ
+distances = 7 ∷ 8 ∷ 3 ∷ 10 ∷ 0 ∷ 7 ∷ 3 ∷ 10 ∷ 0 ∷ 7 ∷ 0 ∷ NONE ∷ []
+
+-- a star: nodes 1 and 2 are both 5 from node 0
+abbrev pub star : Network
+star = network (0 ∷ 2 ∷ 3 ∷ 4 ∷ []) (1 ∷ 2 ∷ 0 ∷ 0 ∷ []) (5 ∷ 5 ∷ 5 ∷ 5 ∷ [])
+
+pub record Examples : Type 0 where
+  -- 1: 'starts of 1 entry'
+  pub no-1 : networkNumber (network (0 ∷ []) [] []) ≡ 1
+  -- 2: 'starts 0, 2, 1'
+  pub no-2 : networkNumber (network (0 ∷ 2 ∷ 1 ∷ []) (1 ∷ []) (4 ∷ [])) ≡ 2
+  -- 3: 'n = 2, node 0 to 0'
+  pub no-3 : networkNumber (network (0 ∷ 1 ∷ 1 ∷ []) (0 ∷ []) (4 ∷ [])) ≡ 3
+  -- 4: 'weight 65,536'
+  pub no-4 : networkNumber (network (0 ∷ 1 ∷ 2 ∷ []) (1 ∷ 0 ∷ []) (65536 ∷ 65536 ∷ [])) ≡ 4
+  -- 5: '0 to 1 of 4, 1 to 0 of 5'
+  pub no-5 : networkNumber (network (0 ∷ 1 ∷ 2 ∷ []) (1 ∷ 0 ∷ []) (4 ∷ 5 ∷ [])) ≡ 5
+  -- 6: 'N, byte 2', of nearest: 'changes no buffer'
+  pub no-6 : nearestOutcome N (0 ∷ 0 ∷ 2 ∷ 0 ∷ 1 ∷ 1 ∷ []) 0 NONE 2 scratch old old
+      ≡ record { answer = found.Refused 6; scratch = scratch; ids = old; distances = old }
+  -- 7: 'N, node 6', of distances
+  pub no-7 : distancesOutcome N 6 scratch old ≡ record { number = 7; scratch = scratch; answers = old }
+  -- 8: 'N, K = 2, 11 ids', of build
+  pub no-8 : buildNumber N points 2 scratch (replicate 11 0) (replicate 12 0) ≡ 8
+  -- 9: 'K = 2, k = 2', of the table query
+  pub no-9 : tableQueryNumber N points 0 2 2 ids distances scratch old ≡ 9
+  -- 10: 'N, 5 answer places', of lazy
+  pub no-10 : lazyOutcome N points 0 2 scratch (replicate 5 9) ≡ record { answer = is.Refused 10; scratch = scratch; answers = replicate 5 9 }
+  -- 11: 'N, insert 2'
+  pub no-11 : changeNumber Insert N points 2 2 scratch ids distances ≡ 11
+  -- 12: 'N, q = 0, k = 2, limit 3': '12 alone leaves the scratch all zero'
+  pub no-12 : eagerOutcome N points 0 2 3 scratch old ≡ record { answer = is.Refused 12; scratch = replicate 352 0; answers = old }
+  -- 'Limit 4 answers P2'; 'Answer arrays hold the answer, then their old entries.'
+  pub limit-4 : eagerOutcome N points 0 2 4 scratch old
+      ≡ record { answer = is.Points 2 4; scratch = replicate 352 0; answers = 2 ∷ 4 ∷ 9 ∷ 9 ∷ 9 ∷ 9 ∷ [] }
+  -- one word of scratch less than S
+  pub short : lazyOutcome N points 0 2 (replicate 351 9) old ≡ record { answer = is.Refused 10; scratch = replicate 351 9; answers = old }
+  -- the first condition met: 6 before 7, 9 and 10
+  pub first : lazyOutcome N (replicate 5 0) 6 0 [] [] ≡ record { answer = is.Refused 6; scratch = []; answers = [] }
+  -- 'Distances from a node: n entries, NONE where none.'
+  pub from-0 : distancesOutcome N 0 scratch old
+      ≡ record { number = 0; scratch = replicate 352 0; answers = 0 ∷ 4 ∷ 7 ∷ 5 ∷ 8 ∷ NONE ∷ [] }
+  -- Nearest: 'd(node, p) < e': e = 0 finds nothing; 'by distance then node', 'cut after the first k'
+  pub none-nearer : nearestOutcome N points 2 0 2 scratch old old
+      ≡ record { answer = found.Points 0; scratch = replicate 352 0; ids = old; distances = old }
+  pub by-node : nearestOutcome star (0 ∷ 1 ∷ 1 ∷ []) 0 NONE 1 (replicate 104 9) (9 ∷ 9 ∷ []) (9 ∷ [])
+      ≡ record { answer = found.Points 1; scratch = replicate 104 0; ids = 1 ∷ 9 ∷ []; distances = 5 ∷ [] }
+  -- Verify, of P1: 4 is no nearer to 2 than site 0; of P7's road it is
+  pub equal : verifyOutcome N points 2 0 1 scratch ≡ record { answer = rule.Answer true; scratch = replicate 352 0 }
+  pub nearer : verifyOutcome (roads 6) points 2 0 1 scratch ≡ record { answer = rule.Answer false; scratch = replicate 352 0 }
+  -- Table check: 'yes exactly when both arrays are the table'; another distance; half a padding
+  pub yes : tableCheckAnswer N points 2 ids distances ≡ rule.Answer true
+  pub another : tableCheckAnswer N points 2 ids (7 ∷ 8 ∷ 3 ∷ 10 ∷ 0 ∷ 7 ∷ 3 ∷ 9 ∷ 0 ∷ 7 ∷ 0 ∷ NONE ∷ []) ≡ rule.Answer false
+  pub half : tableCheckAnswer N points 2 ids (7 ∷ 8 ∷ 3 ∷ 10 ∷ 0 ∷ 7 ∷ 3 ∷ 10 ∷ 0 ∷ 7 ∷ 0 ∷ 0 ∷ []) ≡ rule.Answer false

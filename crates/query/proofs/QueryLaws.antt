@@ -1,0 +1,65 @@
+-- Where the table query begins: all words 0 but the site's own flag. And where it ends: the answers are the nodes with a found flag, and all words
+-- are 0 again.
+-- Assumes nothing.
+use Prim.Native.Nat.{ℕ, _+_, _*_, _<_}
+use mathlib.Core.Path.{_≡_, ap, _∙_}
+use mathlib.Core.List.{List}
+use native.Mathlib.Omega.{arith}
+use lib.Dec.{eqb}
+use lib.ListN.{length, getD, set, replicate, length-set, length-replicate}
+use borrow.Author.Tests.{eqb-false, not-true}
+use Rattle.network.specs.Network.{Network, nodeCount, arcCount}
+use Rattle.network.specs.Count.{bit, select}
+use Rattle.network.specs.Points.{marked, isListed, listed}
+use Rattle.network.specs.Answers.{answered}
+use Rattle.expansion.proofs.Settled.{zero-blank}
+use Rattle.searches.specs.Eager.{isFound}
+use Rattle.searches.proofs.EagerLaws.{first-other, first-only, first-flags, first-own}
+use Rattle.searches.proofs.Selected.{select-same}
+use Rattle.rows.specs.Flat.{IsTable}
+use Rattle.query.specs.Query.{CanExplore, ExploreLeft, CanQuery, QueryLeft}
+
+module _ {g : Network} {P ids dists xs old : List ℕ} {q k K : ℕ} (c : CanQuery g P ids dists xs old q k K) where
+  fits : nodeCount g + q < length xs
+  fits = omega (arith, c .size, c .asked .site)
+
+  pub begun : CanExplore g P ids dists (set xs (nodeCount g + q) (bit (marked P q))) (4 * nodeCount g + 2 * (arcCount g + 1)) q k K
+  begun =
+      record {
+        asked = c .asked;
+        all-ids = c .all-ids;
+        base = omega arith;
+        only = λ p h n. let s = first-only (c .asked .accepted) P q (c .blank) fits p n in rw (s .0) (s .1);
+        flags = first-flags (c .asked .accepted) P q (c .blank) fits k (c .asked .some);
+        own = first-own (c .asked .accepted) P q (c .blank) fits k (c .asked .some);
+        blank = record { zero = λ j h. first-other (c .asked .accepted) P q (c .blank) fits j (omega (arith, c .asked .site)) };
+        size = simp length-set (omega (arith, c .size));
+      }
+
+  module _ {us zs : List ℕ} (e : ExploreLeft g P ids dists q k K us zs) (same : length zs ≡ length xs) where
+    exactly : IsTable g P K ids dists → select (isFound (nodeCount g) zs) (nodeCount g) ≡ listed g P q k
+    unfolding listed
+    exactly t = select-same (isFound (nodeCount g) zs) (isListed g P q k) (nodeCount g) (e .right t)
+
+    pub queried : {ys new : List ℕ} {size : ℕ} → new ≡ answered (select (isFound (nodeCount g) zs) (nodeCount g)) old
+        → size ≡ length (select (isFound (nodeCount g) zs) (nodeCount g)) → ys ≡ replicate (length zs) 0
+        → QueryLeft g P ids dists q k K xs ys old new size
+    queried answers sized wiped =
+        record {
+          some =
+              record {
+                test = isFound (nodeCount g) zs;
+                points =
+                    λ p h a.
+                    e .only p h (eqb-false (getD zs (nodeCount g + p) 0) 0 (not-true (eqb (getD zs (nodeCount g + p) 0) 0) a));
+                answers = answers;
+                sized = sized;
+              };
+          answers = λ t. answers ∙ ap (λ (l : List ℕ). answered l old) (exactly t);
+          sized = λ t. sized ∙ ap length (exactly t);
+          area =
+              record {
+                frame = record { size = ap length wiped ∙ length-replicate (length zs) 0 ∙ same; words = λ i h. absurd (omega arith) };
+                blank = zero-blank (length zs) 0 wiped;
+              };
+        }

@@ -1,0 +1,2 @@
+-- What the contracts of this crate cite. The theorems stand in proofs/.
+pub mod Query

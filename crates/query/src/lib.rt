@@ -1,0 +1,2 @@
+// The table query: the points that list a site, by the table.
+pub mod query;

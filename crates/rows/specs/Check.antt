@@ -1,0 +1,145 @@
+-- Document 01, 'The table': 'Table check: yes exactly when both arrays are the table that build would write, whoever filled them.' Its tests, row by
+-- row and arc by arc, over rows as the parts of both arrays that they are (xs of ids, ys of distances). A test passes where something is wrong, but
+-- for `holds`, `comesOver`, `isPlaced` and what they are made of. That the whole of them is `isTable` is proofs/CheckTable.antt's theorem.
+-- Assumes nothing.
+use Prim.Native.Nat.{ℕ, _+_, _-_, _*_, _≤_}
+use mathlib.Core.Path.{_≡_}
+use mathlib.Core.Bool.{Bool, true, false, cond, not, _&&_, _||_}
+use mathlib.Core.List.{List, [], _∷_}
+use lib.Dec.{eqb, ltb, leb}
+use lib.ListN.{length, getD, take, drop}
+use Rattle.network.specs.Network.{Network, nodeCount, neighboursOf, weightsOf}
+use Rattle.network.specs.Accepted.{Accepted}
+use Rattle.network.specs.Distance.{NONE}
+use Rattle.network.specs.Count.{any}
+use Rattle.network.specs.Points.{marked}
+use Rattle.network.specs.Nearest.{key}
+use Rattle.network.specs.Rows.{tableIds, tableDistances}
+use Rattle.rows.specs.Flat.{place, Sized}
+
+-- 'Row i starts in the middle of each array, at i × K, and is passed to its reader or writer as that part.'
+unfoldable pub rowPart : ℕ → ℕ → List ℕ → List ℕ
+rowPart K i xs = take K (drop (i * K) xs)
+
+-- place j of a row is p at distance d; a place of it is
+unfoldable pub isEntry : List ℕ → List ℕ → ℕ → ℕ → ℕ → Bool
+isEntry xs ys p d j = eqb (getD xs j 0) p && eqb (getD ys j 0) d
+
+unfoldable pub holds : List ℕ → List ℕ → ℕ → ℕ → Bool
+holds xs ys p d = any (isEntry xs ys p d) (length xs)
+
+-- place j of a row is p, no farther than d; a place of it is
+unfoldable pub isWithin : List ℕ → List ℕ → ℕ → ℕ → ℕ → Bool
+isWithin xs ys p d j = eqb (getD xs j 0) p && leb (getD ys j 0) d
+
+unfoldable pub hasWithin : List ℕ → List ℕ → ℕ → ℕ → Bool
+hasWithin xs ys p d = any (isWithin xs ys p d) (length xs)
+
+-- a row is full, and its last entry does not come behind p at distance d
+unfoldable pub endsBy : List ℕ → List ℕ → ℕ → ℕ → Bool
+endsBy xs ys p d = not (eqb (getD xs (length xs - 1) 0) NONE) && not (ltb (key (p, d)) (key (place xs ys (length xs - 1))))
+
+-- p at distance d asks for no place in a row
+unfoldable pub isPlaced : List ℕ → List ℕ → ℕ → ℕ → Bool
+isPlaced xs ys p d = hasWithin xs ys p d || endsBy xs ys p d
+
+-- p is one of the first k ids of a row
+unfoldable pub isId : List ℕ → ℕ → ℕ → Bool
+isId xs p j = eqb (getD xs j 0) p
+
+unfoldable pub standsAmong : List ℕ → ℕ → ℕ → Bool
+standsAmong xs p k = any (isId xs p) k
+
+-- place j follows a place that is no padding, and comes behind it
+unfoldable pub follows : List ℕ → List ℕ → ℕ → Bool
+follows xs ys j = not (eqb (getD xs (j - 1) 0) NONE) && ltb (key (place xs ys (j - 1))) (key (place xs ys j))
+
+-- 'by distance then node [..]; the rest is NONE in both arrays': place j is half padding, repeats an id, or does not follow the place before it
+unfoldable pub badEntry : List ℕ → List ℕ → ℕ → Bool
+badEntry xs ys j = standsAmong xs (getD xs j 0) j || (ltb 0 j && not (follows xs ys j))
+
+unfoldable pub badPlace : List ℕ → List ℕ → ℕ → Bool
+badPlace xs ys j = cond (eqb (getD xs j 0) NONE) (not (eqb (getD ys j 0) NONE)) (badEntry xs ys j)
+
+unfoldable pub badRow : List ℕ → List ℕ → Bool
+badRow xs ys = any (badPlace xs ys) (length xs)
+
+-- p at distance d comes from the row of c over an arc of weight w; over the arc of i at place j; over some arc of i
+unfoldable pub comesFrom : ℕ → List ℕ → List ℕ → ℕ → ℕ → ℕ → ℕ → Bool
+comesFrom K ids dists c w p d = leb w d && holds (rowPart K c ids) (rowPart K c dists) p (d - w)
+
+unfoldable pub comesAt : Network → ℕ → List ℕ → List ℕ → ℕ → ℕ → ℕ → ℕ → Bool
+comesAt g K ids dists i p d j = comesFrom K ids dists (getD (neighboursOf g i) j 0) (getD (weightsOf g i) j 0) p d
+
+unfoldable pub comesOver : Network → ℕ → List ℕ → List ℕ → ℕ → ℕ → ℕ → Bool
+comesOver g K ids dists i p d = any (comesAt g K ids dists i p d) (length (neighboursOf g i))
+
+-- p at distance d is i's own point, or it comes over an arc; place j of row i holds neither that nor padding; some place does
+unfoldable pub isOwn : List ℕ → ℕ → ℕ → ℕ → Bool
+isOwn P i p d = eqb p i && eqb d 0 && marked P i
+
+unfoldable pub isSupported : Network → List ℕ → ℕ → List ℕ → List ℕ → ℕ → ℕ → ℕ → Bool
+isSupported g P K ids dists i p d = eqb p NONE || isOwn P i p d || comesOver g K ids dists i p d
+
+unfoldable pub unsupportedAt : Network → List ℕ → ℕ → List ℕ → List ℕ → ℕ → ℕ → Bool
+unsupportedAt g P K ids dists i j = not (isSupported g P K ids dists i (getD (rowPart K i ids) j 0) (getD (rowPart K i dists) j 0))
+
+unfoldable pub unsupported : Network → List ℕ → ℕ → List ℕ → List ℕ → ℕ → Bool
+unsupported g P K ids dists i = any (unsupportedAt g P K ids dists i) (length (rowPart K i ids))
+
+-- a marked i lacks its own point
+unfoldable pub lacksOwn : List ℕ → List ℕ → List ℕ → ℕ → Bool
+lacksOwn P xs ys i = marked P i && not (holds xs ys i 0)
+
+-- p at distance d asks for a place in a row; place m of a neighbour's row (us, vs) does, over an arc of weight w; some place does; some place
+-- of the row of c does in row i; some place does over the arc of i at place j; over some arc of i
+unfoldable pub asksFor : List ℕ → List ℕ → ℕ → ℕ → Bool
+asksFor xs ys p d = not (eqb p NONE) && not (isPlaced xs ys p d)
+
+unfoldable pub asksAt : List ℕ → List ℕ → List ℕ → List ℕ → ℕ → ℕ → Bool
+asksAt xs ys us vs w m = asksFor xs ys (getD us m 0) (getD vs m 0 + w)
+
+unfoldable pub asks : List ℕ → List ℕ → List ℕ → List ℕ → ℕ → Bool
+asks xs ys us vs w = any (asksAt xs ys us vs w) (length us)
+
+unfoldable pub asksFrom : ℕ → List ℕ → List ℕ → ℕ → ℕ → ℕ → Bool
+asksFrom K ids dists i c w = asks (rowPart K i ids) (rowPart K i dists) (rowPart K c ids) (rowPart K c dists) w
+
+unfoldable pub asksOver : Network → ℕ → List ℕ → List ℕ → ℕ → ℕ → Bool
+asksOver g K ids dists i j = asksFrom K ids dists i (getD (neighboursOf g i) j 0) (getD (weightsOf g i) j 0)
+
+unfoldable pub unclosed : Network → ℕ → List ℕ → List ℕ → ℕ → Bool
+unclosed g K ids dists i = any (asksOver g K ids dists i) (length (neighboursOf g i))
+
+-- something is wrong with row i; with some row
+unfoldable pub badNode : Network → List ℕ → ℕ → List ℕ → List ℕ → ℕ → Bool
+badNode g P K ids dists i =
+    badRow (rowPart K i ids) (rowPart K i dists)
+    || lacksOwn P (rowPart K i ids) (rowPart K i dists) i
+    || unsupported g P K ids dists i
+    || unclosed g K ids dists i
+
+-- both arrays are the table: entry by entry
+unfoldable pub sameList : List ℕ → List ℕ → Bool
+sameList [] [] = true
+sameList [] (y ∷ ys) = false
+sameList (x ∷ xs) [] = false
+sameList (x ∷ xs) (y ∷ ys) = eqb x y && sameList xs ys
+
+unfoldable pub isTable : Network → List ℕ → ℕ → List ℕ → List ℕ → Bool
+isTable g P K ids dists = sameList ids (tableIds g P K) && sameList dists (tableDistances g P K)
+
+-- row i lies in both arrays
+pub record HasRows (K : ℕ) (ids dists : List ℕ) (i : ℕ) : Type 0 where
+  pub in-ids : i * K + K ≤ length ids
+  pub in-dists : i * K + K ≤ length dists
+
+-- an accepted network, at least one place to a row, and both arrays n × K long; and a byte for each node
+pub record CanRead (g : Network) (K : ℕ) (ids dists : List ℕ) : Type 0 where
+  pub accepted : Accepted g
+  pub some : 1 ≤ K
+  pub sized : Sized g K ids dists
+
+pub record CanCheck (g : Network) (P : List ℕ) (K : ℕ) (ids dists : List ℕ) : Type 0 where
+  pub readable : CanRead g K ids dists
+  pub points : length P ≡ nodeCount g
