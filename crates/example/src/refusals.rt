@@ -1,0 +1,99 @@
+// The twelve numbers of refusal, each with the example that document 01 gives.
+use crate::network_n;
+use crate::network_n::NEIGHBOURS;
+use crate::network_n::POINTS;
+use crate::network_n::SCRATCH;
+use crate::network_n::STARTS;
+use crate::network_n::WEIGHTS;
+use crate::text::put;
+use crate::text::put_refusal;
+
+fn show(example: &[u8], number: u32) {
+    put(example);
+    put_refusal(number);
+    put(b"\n");
+}
+
+// 1 to 5, by the network check.
+pub fn show_networks() {
+    put(b"Refusals: the examples of document 01\n");
+    show(
+        b"  starts of 1 entry",
+        overlap::overlap_network_check(&[0], &[], &[]),
+    );
+    show(
+        b"  starts 0, 2, 1",
+        overlap::overlap_network_check(&[0, 2, 1], &[1], &[4]),
+    );
+    show(
+        b"  n = 2, node 0 to 0",
+        overlap::overlap_network_check(&[0, 1, 2], &[0, 0], &[4, 4]),
+    );
+    show(
+        b"  weight 65,536",
+        overlap::overlap_network_check(&[0, 1, 2], &[1, 0], &[65536, 65536]),
+    );
+    show(
+        b"  0 to 1 of 4, 1 to 0 of 5",
+        overlap::overlap_network_check(&[0, 1, 2], &[1, 0], &[4, 5]),
+    );
+}
+
+// 6, 7 and 9: N with a byte 2, node 6, and K = 2 with k = 2.
+pub fn show_arguments() {
+    let mut answers = [0; 6];
+    let byte = network_n::eager(&WEIGHTS, &[0, 0, 2, 0, 1, 1], 0, 1, 65535, &mut answers);
+    show(b"  N, byte 2", byte.number);
+    show(b"  N, node 6", network_n::distances(6, &mut answers));
+    show_short_ids();
+    let query = network_n::table_query(0, 2, 2, &[0; 12], &[0; 12], &mut answers);
+    show(b"  K = 2, k = 2", query.number);
+}
+
+// 8: a table array that is not n × K long.
+fn show_short_ids() {
+    let mut scratch = [0; SCRATCH];
+    let mut ids = [0; 11];
+    let mut distances = [0; 12];
+    let number = overlap::overlap_build(
+        &STARTS,
+        &NEIGHBOURS,
+        &WEIGHTS,
+        &POINTS,
+        2,
+        &mut scratch,
+        &mut ids,
+        &mut distances,
+    );
+    show(b"  N, K = 2, 11 ids", number);
+}
+
+// 10: an array for answers that is shorter than n.
+pub fn show_short_answers() {
+    let mut scratch = [0; SCRATCH];
+    let mut answers = [0; 5];
+    let listing = overlap::overlap_lazy(
+        &STARTS,
+        &NEIGHBOURS,
+        &WEIGHTS,
+        &POINTS,
+        0,
+        1,
+        &mut scratch,
+        &mut answers,
+    );
+    show(b"  N, 5 answer places", listing.number);
+}
+
+// 11 and 12: insertion of a marked node, and a limit below eager's count.
+pub fn show_last() {
+    let mut points = POINTS;
+    let mut ids = [0; 12];
+    let mut distances = [0; 12];
+    network_n::build(2, &mut ids, &mut distances);
+    let update = network_n::insert(&mut points, 2, &mut ids, &mut distances);
+    show(b"  N, insert 2", update.number);
+    let mut answers = [0; 6];
+    let listing = network_n::eager(&WEIGHTS, &POINTS, 0, 2, 3, &mut answers);
+    show(b"  N, q = 0, k = 2, limit 3", listing.number);
+}
