@@ -1,67 +1,71 @@
-//! The safe Rust wrapper of the overlap engine.
+//! Which lockers does a site receive? The overlap engine, for Rust.
 //!
 //! The engine works on a network of junctions and roads on which lockers stand, and answers which
-//! lockers a site receives. It is written in Rattle and proved: each call of it meets a contract
-//! that says what document 01, the requirements of the build, says. This crate lends Rust slices to
-//! the engine's static library `liboverlap.a` and hands back its answers. Of the engine's calls it
-//! has the [network check](network_check), [distances], [nearest], [verify], the searches [eager]
-//! with its [short query](short_query), [lazy] and [lazy-EP](lazy_ep), and for a table of nearest
-//! points [build], [insert], [remove], the [table query](table_query) and the
-//! [table check](table_check).
+//! lockers have a new site among their k nearest, by road distance. It is written in Rattle and
+//! proved: each call of it meets a contract that says what document 01, the requirements of the
+//! build, says. Each item of this crate quotes the sentence of document 01 that it is.
 //!
-//! Each item below quotes the sentence of document 01 that it is. No call asks anything of its
-//! input: bad input is refused by a number, and [`meaning`] gives the condition that the number
-//! stands for. A call answers its number alone, a [`Listing`], a [`Verdict`] or an [`Update`], as
-//! the engine returns it; [`accepted`] and the methods of that name make a `Result` of it.
+//! | Type | What it is |
+//! |---|---|
+//! | [`Network`] | junctions and roads; only networks that the network check accepts exist |
+//! | [`Points`] | the lockers: one mark a node |
+//! | [`Engine`] | the calls without a table, on one network: [distances](Engine::distances), [nearest](Engine::nearest), [verify](Engine::verify), [eager](Engine::eager), [the short query](Engine::short_query), [lazy](Engine::lazy), [lazy-EP](Engine::lazy_ep) |
+//! | [`Table`] | the K nearest points of each node, with the points that it stands for: [build](Table::build), [insert](Table::insert), [remove](Table::remove), [query](Table::query), [check](Table::check) |
+//! | [`Refusal`] | why a call was refused: one case for each of document 01's numbers |
 //!
-//! The engine allocates nothing. A call that needs working space is lent it as scratch, whose
-//! length [`scratch_len`] gives; the arrays for its answers are lent as well.
-//!
-//! The proof covers the engine. It does not cover this crate, whose C declarations nothing checks
-//! against the library; the tests compare both with plain Rust that is written from document 01
-//! alone.
+//! [`road_list`] reads a network and its points from plain text, with messages that name the line,
+//! and [`calls`] has each call over slices that the caller owns, as `overlap.h` has them for C. The
+//! example `roads` does the first, the example `network_n` shows all calls.
 //!
 //! ```
-//! use overlap::{meaning, network_check, Network};
+//! use overlap::{Engine, Network, Points, Refusal, Table};
 //!
-//! // Two nodes and one road of weight 4 between them: the two arcs 0 to 1 and 1 to 0.
-//! let network = Network { starts: &[0, 1, 2], neighbours: &[1, 0], weights: &[4, 4] };
-//! assert_eq!(network_check(network), 0);
+//! # fn main() -> Result<(), Refusal> {
+//! // Network N of document 01: six nodes, five roads, points on 2, 4 and 5.
+//! let roads = [(0, 1, 4), (0, 3, 5), (1, 2, 3), (2, 4, 7), (3, 4, 3)];
+//! let network = Network::from_roads(6, &roads)?;
+//! let points = Points::on(&network, [2, 4, 5])?;
 //!
-//! // The return arc has weight 5.
-//! let uneven = Network { weights: &[4, 5], ..network };
-//! assert_eq!(network_check(uneven), 5);
-//! assert_eq!(meaning(5), "an arc lacks its return of equal weight");
+//! // P2: a site at node 0 is among the two nearest of points 2 and 4.
+//! let mut engine = Engine::new(&network);
+//! let listed = engine.eager(&points, 0, 2, 65_535)?;
+//! assert_eq!((listed.points, listed.expanded), (&[2, 4][..], 4));
+//!
+//! // P8 and P10: the table, and the table once node 0 has a point too.
+//! let mut table = Table::build(&network, points, 2)?;
+//! assert!(table.row(0)?.iter().eq([(2, 7), (4, 8)]));
+//! assert_eq!(table.insert(0)?, 4);
+//! assert!(table.row(2)?.iter().eq([(2, 0), (0, 7)]));
+//!
+//! // N has no node 6.
+//! assert_eq!(table.query(6, 1), Err(Refusal::Node));
+//! # Ok(())
+//! # }
 //! ```
+//!
+//! The proof covers the engine. It does not cover this crate: the tests compare its C declarations
+//! with `overlap.h` and with the engine's own text, and its answers with plain Rust that is written
+//! from document 01 alone. The crate has no dependencies, and unsafe code in [`calls`] only.
 
 #![warn(missing_docs)]
+#![deny(unsafe_code, unsafe_op_in_unsafe_fn)]
 
-mod answer;
-mod distances;
-mod eager;
-mod ffi;
-mod lazy;
-mod nearest;
+mod answers;
+mod buffers;
+pub mod calls;
+mod engine;
 mod network;
+mod points;
 mod refusal;
-mod scratch;
+pub mod road_list;
 mod table;
-mod table_query;
-mod table_remove;
-mod verify;
 
-pub use distances::distances;
-pub use eager::{eager, short_query};
-pub use ffi::{Listing, Update, Verdict};
-pub use lazy::{lazy, lazy_ep};
-pub use nearest::{nearest, Found};
-pub use network::{network_check, Network};
-pub use refusal::{accepted, meaning, Refusal};
-pub use scratch::scratch_len;
-pub use table::{build, insert, table_check, Table, TableMut};
-pub use table_query::table_query;
-pub use table_remove::remove;
-pub use verify::verify;
+pub use answers::{Distances, Listed, Nearest};
+pub use engine::Engine;
+pub use network::{Network, Road};
+pub use points::Points;
+pub use refusal::Refusal;
+pub use table::Table;
 
 /// Document 01: "NONE = 4,294,967,295 is an associated constant of the distance and stands for
 /// "can't be reached" or "empty place"."

@@ -2,28 +2,133 @@
 
 use std::error::Error;
 use std::fmt;
-use std::num::NonZeroU32;
 
-/// A refused call: its number, which is not 0.
+/// A refused call: the first condition of document 01's table of refusals that it met.
 ///
 /// Document 01: "Conditions are tried from 1 upward, those whose subject the call has; the first
 /// met is returned, and a number is returned only then."
 ///
 /// ```
-/// let refusal = overlap::accepted(7).unwrap_err();
-/// assert_eq!(refusal.number(), 7);
-/// assert_eq!(refusal.to_string(), "refused by number 7: a node given is n or more");
+/// use overlap::{Network, Refusal};
+///
+/// // A road from node 0 to itself.
+/// let refusal = Network::from_roads(2, &[(0, 0, 4)]).unwrap_err();
+/// assert_eq!(refusal, Refusal::Neighbours);
+/// assert_eq!(refusal.number(), 3);
+/// assert!(refusal.to_string().starts_with("refused by number 3: a neighbour is n or more"));
 /// ```
-#[derive(Clone, Copy, Debug, PartialEq, Eq, Hash)]
-pub struct Refusal {
-    number: NonZeroU32,
+// Change requests bring further numbers.
+#[non_exhaustive]
+#[derive(Clone, Copy, Debug, PartialEq, Eq, PartialOrd, Ord, Hash)]
+#[repr(u32)]
+pub enum Refusal {
+    /// 1: "starts has fewer than 2 or more than 65,536 entries". A network has 1 to 65,535 nodes.
+    StartsLength = 1,
+    /// 2: "starts doesn't begin with 0, falls, or doesn't end with A; neighbours and weights differ
+    /// in length; A above 524,288". A network has at most 262,144 roads of two arcs each.
+    Starts = 2,
+    /// 3: "a neighbour is n or more, is its own node, or doesn't rise strictly within a node".
+    Neighbours = 3,
+    /// 4: "a weight is 0 or above 65,535".
+    Weights = 4,
+    /// 5: "an arc lacks its return of equal weight".
+    Returns = 5,
+    /// 6: "points has not n entries, or a byte above 1".
+    Points = 6,
+    /// 7: "a node given is n or more".
+    Node = 7,
+    /// 8: "K not 2 to 17, or a table array not n × K long".
+    Table = 8,
+    /// 9: "k is 0 or above 16; by table, above K - 1".
+    K = 9,
+    /// 10: "scratch shorter than S, or an array for answers shorter than n (nearest: than k)".
+    /// Only the functions of [`calls`](crate::calls) can meet it: the types at the root own arrays
+    /// that are long enough.
+    Short = 10,
+    /// 11: "insert on a marked node; remove or verify of an unmarked one".
+    Mark = 11,
+    /// 12: "eager: the expanded count would exceed the limit".
+    Limit = 12,
 }
 
 impl Refusal {
-    /// The number of the first condition met.
+    /// All of them, by number.
+    ///
+    /// ```
+    /// use overlap::Refusal;
+    ///
+    /// let numbers: Vec<u32> = Refusal::ALL.iter().map(|refusal| refusal.number()).collect();
+    /// assert!(numbers.into_iter().eq(1..=12));
+    /// ```
+    pub const ALL: [Self; 12] = [
+        Self::StartsLength,
+        Self::Starts,
+        Self::Neighbours,
+        Self::Weights,
+        Self::Returns,
+        Self::Points,
+        Self::Node,
+        Self::Table,
+        Self::K,
+        Self::Short,
+        Self::Mark,
+        Self::Limit,
+    ];
+
+    /// The refusal of this number, or nothing where document 01 has no such number.
+    ///
+    /// ```
+    /// use overlap::Refusal;
+    ///
+    /// assert_eq!(Refusal::from_number(12), Some(Refusal::Limit));
+    /// assert_eq!(Refusal::from_number(0), None);
+    /// assert_eq!(Refusal::from_number(13), None);
+    /// ```
+    #[must_use]
+    pub fn from_number(number: u32) -> Option<Self> {
+        Self::ALL
+            .into_iter()
+            .find(|refusal| refusal.number() == number)
+    }
+
+    /// The number of document 01.
+    ///
+    /// ```
+    /// assert_eq!(overlap::Refusal::Mark.number(), 11);
+    /// ```
     #[must_use]
     pub fn number(self) -> u32 {
-        self.number.get()
+        self as u32
+    }
+
+    /// The condition, in the wording of document 01.
+    ///
+    /// ```
+    /// assert_eq!(overlap::Refusal::Node.condition(), "a node given is n or more");
+    /// ```
+    #[must_use]
+    pub fn condition(self) -> &'static str {
+        match self {
+            Self::StartsLength => "starts has fewer than 2 or more than 65,536 entries",
+            Self::Starts => {
+                "starts doesn't begin with 0, falls, or doesn't end with A; \
+                 neighbours and weights differ in length; A above 524,288"
+            }
+            Self::Neighbours => {
+                "a neighbour is n or more, is its own node, or doesn't rise strictly within a node"
+            }
+            Self::Weights => "a weight is 0 or above 65,535",
+            Self::Returns => "an arc lacks its return of equal weight",
+            Self::Points => "points has not n entries, or a byte above 1",
+            Self::Node => "a node given is n or more",
+            Self::Table => "K not 2 to 17, or a table array not n × K long",
+            Self::K => "k is 0 or above 16; by table, above K - 1",
+            Self::Short => {
+                "scratch shorter than S, or an array for answers shorter than n (nearest: than k)"
+            }
+            Self::Mark => "insert on a marked node; remove or verify of an unmarked one",
+            Self::Limit => "eager: the expanded count would exceed the limit",
+        }
     }
 }
 
@@ -32,64 +137,10 @@ impl fmt::Display for Refusal {
         write!(
             f,
             "refused by number {}: {}",
-            self.number,
-            meaning(self.number())
+            self.number(),
+            self.condition()
         )
     }
 }
 
 impl Error for Refusal {}
-
-/// Turns the number of a call into a `Result`, so that `?` hands a refusal on.
-///
-/// For the calls that answer a number alone, such as [`distances`](crate::distances) and
-/// [`network_check`](crate::network_check); the other answers have a method of this name.
-///
-/// ```
-/// assert!(overlap::accepted(0).is_ok());
-/// assert!(overlap::accepted(10).is_err());
-/// ```
-///
-/// # Errors
-///
-/// The refusal, where the number is not 0.
-pub fn accepted(number: u32) -> Result<(), Refusal> {
-    match NonZeroU32::new(number) {
-        Some(number) => Err(Refusal { number }),
-        None => Ok(()),
-    }
-}
-
-/// The condition that a number stands for, in the wording of document 01's table of refusals.
-///
-/// 0 stands for an accepted call. A number above 12 is no number of document 01.
-///
-/// ```
-/// use overlap::meaning;
-///
-/// assert_eq!(meaning(0), "accepted");
-/// assert_eq!(meaning(4), "a weight is 0 or above 65,535");
-/// assert_eq!(meaning(13), "not a number of document 01");
-/// ```
-#[must_use]
-pub fn meaning(number: u32) -> &'static str {
-    match number {
-        0 => "accepted",
-        1 => "starts has fewer than 2 or more than 65,536 entries",
-        2 => {
-            "starts doesn't begin with 0, falls, or doesn't end with A; \
-             neighbours and weights differ in length; A above 524,288"
-        }
-        3 => "a neighbour is n or more, is its own node, or doesn't rise strictly within a node",
-        4 => "a weight is 0 or above 65,535",
-        5 => "an arc lacks its return of equal weight",
-        6 => "points has not n entries, or a byte above 1",
-        7 => "a node given is n or more",
-        8 => "K not 2 to 17, or a table array not n × K long",
-        9 => "k is 0 or above 16; by table, above K - 1",
-        10 => "scratch shorter than S, or an array for answers shorter than n (nearest: than k)",
-        11 => "insert on a marked node; remove or verify of an unmarked one",
-        12 => "eager: the expanded count would exceed the limit",
-        _ => "not a number of document 01",
-    }
-}

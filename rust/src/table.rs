@@ -1,245 +1,401 @@
-//! The table: the nearest points of each node.
+//! The table and the points that it stands for.
 
-use crate::{ffi, Network, Update, Verdict};
+use crate::buffers::Buffers;
+use crate::calls::{self, accepted, TableMut};
+use crate::{Nearest, Network, Points, Refusal};
 
-/// A table that a call reads.
+/// The K nearest points of each node, and the calls that use and change them.
 ///
 /// Document 01: "Two arrays of n × K entries, ids and distances; K is 2 to 17. Row i starts in the
 /// middle of each array, at i × K [...]. It holds the K nearest points of node i that can be
 /// reached, by distance then node, i's own point first; the rest is NONE in both arrays."
-#[derive(Clone, Copy, Debug)]
-pub struct Table<'a> {
-    /// K, the places of a row.
-    pub places: u32,
-    /// The points of each row, each named by its node.
-    pub ids: &'a [u32],
-    /// The distance of each point from the row's node.
-    pub distances: &'a [u32],
-}
-
-/// A table that a call writes: a [`Table`] of arrays lent for writing.
-#[derive(Debug)]
-pub struct TableMut<'a> {
-    /// K, the places of a row.
-    pub places: u32,
-    /// The points of each row, each named by its node.
-    pub ids: &'a mut [u32],
-    /// The distance of each point from the row's node.
-    pub distances: &'a mut [u32],
-}
-
-/// Document 01: "Build fills it."
 ///
-/// The answer is 0, or the first condition met of 1 to 6, 8 and 10. Scratch has at least
-/// [`scratch_len`](crate::scratch_len)`(network, K)` entries; it and both arrays of the table may
-/// have any contents.
-///
-/// "An accepted call with scratch leaves it all zero." "A refusal [...] changes no buffer".
+/// A table owns the points that it stands for. They are read by [`points`](Self::points), as for
+/// [`Engine::eager`](crate::Engine::eager), and change by [`insert`](Self::insert) and
+/// [`remove`](Self::remove) only, which bring the table up to date; a clone of them is a set of its
+/// own and no table follows it. So the engine is never lent a table of other marks, for which
+/// document 01 leaves answers free: arrays of any origin come in by
+/// [`from_arrays`](Self::from_arrays), behind the table check.
 ///
 /// ```
-/// use overlap::{accepted, build, scratch_len, Network, TableMut, NONE};
+/// use overlap::{Network, Points, Table};
 ///
 /// # fn main() -> Result<(), overlap::Refusal> {
 /// // Network N of document 01.
-/// let network = Network {
-///     starts: &[0, 2, 4, 6, 8, 10, 10],
-///     neighbours: &[1, 3, 0, 2, 1, 4, 0, 4, 2, 3],
-///     weights: &[4, 5, 4, 3, 3, 7, 5, 3, 7, 3],
-/// };
-/// let points = [0, 0, 1, 0, 1, 1];
-/// let mut scratch = vec![0; scratch_len(network, 2)];
-/// let (mut ids, mut distances) = ([0; 12], [0; 12]);
+/// let network = Network::from_roads(6, &[(0, 1, 4), (0, 3, 5), (1, 2, 3), (2, 4, 7), (3, 4, 3)])?;
+/// let mut table = Table::build(&network, Points::on(&network, [2, 4, 5])?, 3)?;
+/// assert_eq!(table.query(0, 2)?, [2, 4]);
 ///
-/// let table = TableMut { places: 2, ids: &mut ids, distances: &mut distances };
-/// accepted(build(network, &points, &mut scratch, table))?;
-/// // P8: the row of node 0.
-/// assert_eq!((&ids[..2], &distances[..2]), (&[2, 4][..], &[7, 8][..]));
-/// // P9: the row of node 5, which reaches no point but its own.
-/// assert_eq!((&ids[10..], &distances[10..]), (&[5, NONE][..], &[0, NONE][..]));
+/// table.remove(4)?;
+/// assert!(table.points().iter().eq([2, 5]));
+/// assert_eq!(table.query(0, 2)?, [2]);
 /// # Ok(())
 /// # }
 /// ```
-pub fn build(network: Network<'_>, points: &[u8], scratch: &mut [u32], table: TableMut<'_>) -> u32 {
-    let Network {
-        starts,
-        neighbours,
-        weights,
-    } = network;
-    let TableMut {
-        places,
-        ids,
-        distances,
-    } = table;
-    // SAFETY: each pointer and length are those of one slice, lent for the whole call; the three
-    // that the call writes are lent to it alone. It touches no word outside the slices. An empty
-    // slice has a pointer that is not null.
-    unsafe {
-        ffi::overlap_build(
-            starts.as_ptr(),
-            starts.len(),
-            neighbours.as_ptr(),
-            neighbours.len(),
-            weights.as_ptr(),
-            weights.len(),
-            points.as_ptr(),
-            points.len(),
-            places,
-            scratch.as_mut_ptr(),
-            scratch.len(),
-            ids.as_mut_ptr(),
-            ids.len(),
-            distances.as_mut_ptr(),
-            distances.len(),
-        )
-    }
-}
-
-/// Document 01: "Insert marks a node [...]; each brings the table up to date and returns the number
-/// of rows whose contents differ before and after."
 ///
-/// The answer is number 0 and that number of rows, or the first condition met of 1 to 8, 10 and 11.
-/// Scratch has at least [`scratch_len`](crate::scratch_len)`(network, K)` entries of any contents.
+/// The points don't change behind the table's back:
 ///
-/// "Insert, remove and table query don't test a lent table. On one that the check would deny, the
-/// list [...], the changed count (at most n) and the table are free; the marks still change by the
-/// rule." "An accepted call with scratch leaves it all zero." "A refusal [...] changes no buffer".
-///
-/// ```
-/// use overlap::{accepted, build, insert, scratch_len, Network, TableMut};
+/// ```compile_fail,E0596
+/// use overlap::{Network, Points, Table};
 ///
 /// # fn main() -> Result<(), overlap::Refusal> {
-/// // Network N of document 01.
-/// let network = Network {
-///     starts: &[0, 2, 4, 6, 8, 10, 10],
-///     neighbours: &[1, 3, 0, 2, 1, 4, 0, 4, 2, 3],
-///     weights: &[4, 5, 4, 3, 3, 7, 5, 3, 7, 3],
-/// };
-/// let mut points = [0, 0, 1, 0, 1, 1];
-/// let mut scratch = vec![0; scratch_len(network, 2)];
-/// let (mut ids, mut distances) = ([0; 12], [0; 12]);
-/// let table = TableMut { places: 2, ids: &mut ids, distances: &mut distances };
-/// accepted(build(network, &points, &mut scratch, table))?;
-///
-/// // P10: the row of node 2 after the insertion of 0; four rows change.
-/// let table = TableMut { places: 2, ids: &mut ids, distances: &mut distances };
-/// let changed = insert(network, &mut points, 0, &mut scratch, table).accepted()?;
-/// assert_eq!(changed, 4);
-/// assert_eq!(points, [1, 0, 1, 0, 1, 1]);
-/// assert_eq!((&ids[4..6], &distances[4..6]), (&[2, 0][..], &[0, 7][..]));
-///
-/// // Node 0 is marked by now.
-/// let table = TableMut { places: 2, ids: &mut ids, distances: &mut distances };
-/// assert_eq!(insert(network, &mut points, 0, &mut scratch, table).number, 11);
+/// let network = Network::from_roads(2, &[(0, 1, 4)])?;
+/// let mut table = Table::build(&network, Points::none(&network), 2)?;
+/// table.points().insert(0)?;
 /// # Ok(())
 /// # }
 /// ```
-pub fn insert(
-    network: Network<'_>,
-    points: &mut [u8],
-    node: u32,
-    scratch: &mut [u32],
-    table: TableMut<'_>,
-) -> Update {
-    change(ffi::overlap_insert, network, points, node, scratch, table)
+#[derive(Clone, Debug)]
+pub struct Table {
+    network: Network,
+    points: Points,
+    places: u32,
+    ids: Vec<u32>,
+    distances: Vec<u32>,
+    buffers: Buffers,
 }
 
-/// Lends all to a call that changes the table.
-pub(crate) fn change(
-    call: ffi::Change,
-    network: Network<'_>,
-    points: &mut [u8],
-    node: u32,
-    scratch: &mut [u32],
-    table: TableMut<'_>,
-) -> Update {
-    let Network {
-        starts,
-        neighbours,
-        weights,
-    } = network;
-    let TableMut {
-        places,
-        ids,
-        distances,
-    } = table;
-    // SAFETY: as for `build`; the call writes the points too, and they are lent to it alone.
-    unsafe {
-        call(
-            starts.as_ptr(),
-            starts.len(),
-            neighbours.as_ptr(),
-            neighbours.len(),
-            weights.as_ptr(),
-            weights.len(),
-            points.as_mut_ptr(),
-            points.len(),
-            node,
-            places,
-            scratch.as_mut_ptr(),
-            scratch.len(),
-            ids.as_mut_ptr(),
-            ids.len(),
-            distances.as_mut_ptr(),
-            distances.len(),
-        )
+impl Table {
+    /// Document 01: "Build fills it." `places` is K.
+    ///
+    /// ```
+    /// use overlap::{Network, Points, Refusal, Table};
+    ///
+    /// # fn main() -> Result<(), Refusal> {
+    /// // Network N of document 01.
+    /// let roads = [(0, 1, 4), (0, 3, 5), (1, 2, 3), (2, 4, 7), (3, 4, 3)];
+    /// let network = Network::from_roads(6, &roads)?;
+    /// let points = Points::on(&network, [2, 4, 5])?;
+    /// let table = Table::build(&network, points.clone(), 2)?;
+    /// // P8 and P9: the rows of nodes 0 and 5.
+    /// assert!(table.row(0)?.iter().eq([(2, 7), (4, 8)]));
+    /// assert!(table.row(5)?.iter().eq([(5, 0)]));
+    ///
+    /// assert_eq!(Table::build(&network, points, 18).err(), Some(Refusal::Table));
+    /// # Ok(())
+    /// # }
+    /// ```
+    ///
+    /// # Errors
+    ///
+    /// 6 where the points are not of so many nodes, 8 where K is not 2 to 17.
+    pub fn build(network: &Network, points: Points, places: u32) -> Result<Self, Refusal> {
+        // A larger K is refused by 8, whatever the arrays are.
+        let length = network.nodes() as usize * places.min(17) as usize;
+        let (ids, distances) = (vec![0; length], vec![0; length]);
+        let mut table = Self::unchecked(network, points, places, ids, distances);
+        let (network, marks, scratch, lent) = table.lend_mut();
+        accepted(calls::build(network, marks, scratch, lent))?;
+        Ok(table)
     }
-}
 
-/// Document 01: "Table check: yes exactly when both arrays are the table that build would write,
-/// whoever filled them."
-///
-/// The answer is number 0 with yes or no, or the first condition met of 1 to 6 and 8. "Both checks
-/// have no scratch."
-///
-/// ```
-/// use overlap::{table_check, Network, Table, NONE};
-///
-/// # fn main() -> Result<(), overlap::Refusal> {
-/// // Two nodes and one road of weight 4 between them; a point on node 1.
-/// let network = Network { starts: &[0, 1, 2], neighbours: &[1, 0], weights: &[4, 4] };
-/// let ids = [1, NONE, 1, NONE];
-/// let table = Table { places: 2, ids: &ids, distances: &[4, NONE, 0, NONE] };
-/// assert!(table_check(network, &[0, 1], table).accepted()?);
-///
-/// // The distance of the point from node 0 is 4.
-/// let table = Table { distances: &[3, NONE, 0, NONE], ..table };
-/// assert!(!table_check(network, &[0, 1], table).accepted()?);
-///
-/// // K is at least 2.
-/// let table = Table { places: 1, ..table };
-/// assert_eq!(table_check(network, &[0, 1], table).number, 8);
-/// # Ok(())
-/// # }
-/// ```
-pub fn table_check(network: Network<'_>, points: &[u8], table: Table<'_>) -> Verdict {
-    let Network {
-        starts,
-        neighbours,
-        weights,
-    } = network;
-    let Table {
-        places,
-        ids,
-        distances,
-    } = table;
-    // SAFETY: each pointer and length are those of one slice, lent for the whole call, which writes
-    // none of them and touches no word outside of them. An empty slice has a pointer that is not
-    // null.
-    unsafe {
-        ffi::overlap_table_check(
-            starts.as_ptr(),
-            starts.len(),
-            neighbours.as_ptr(),
-            neighbours.len(),
-            weights.as_ptr(),
-            weights.len(),
-            points.as_ptr(),
-            points.len(),
+    /// The table in these arrays, whoever filled them, or nothing where the table check says no.
+    ///
+    /// Document 01: "Table check: yes exactly when both arrays are the table that build would
+    /// write, whoever filled them."
+    ///
+    /// ```
+    /// use overlap::{Network, Points, Table, NONE};
+    ///
+    /// # fn main() -> Result<(), overlap::Refusal> {
+    /// // Two nodes and one road of weight 4 between them; a point on node 1.
+    /// let network = Network::from_roads(2, &[(0, 1, 4)])?;
+    /// let points = Points::on(&network, [1])?;
+    /// let ids = vec![1, NONE, 1, NONE];
+    /// let right = vec![4, NONE, 0, NONE];
+    /// let wrong = vec![3, NONE, 0, NONE];
+    /// assert!(Table::from_arrays(&network, points.clone(), 2, ids.clone(), right)?.is_some());
+    /// assert!(Table::from_arrays(&network, points, 2, ids, wrong)?.is_none());
+    /// # Ok(())
+    /// # }
+    /// ```
+    ///
+    /// # Errors
+    ///
+    /// 6 where the points are not of so many nodes, 8 where K is not 2 to 17 or an array is not n ×
+    /// K long.
+    pub fn from_arrays(
+        network: &Network,
+        points: Points,
+        places: u32,
+        ids: Vec<u32>,
+        distances: Vec<u32>,
+    ) -> Result<Option<Self>, Refusal> {
+        let table = Self::unchecked(network, points, places, ids, distances);
+        let verdict = calls::table_check(network.lend(), table.points.marks(), table.lend());
+        Ok(verdict.accepted()?.then_some(table))
+    }
+
+    fn unchecked(
+        network: &Network,
+        points: Points,
+        places: u32,
+        ids: Vec<u32>,
+        distances: Vec<u32>,
+    ) -> Self {
+        Self {
+            network: network.clone(),
+            points,
             places,
-            ids.as_ptr(),
-            ids.len(),
-            distances.as_ptr(),
-            distances.len(),
-        )
+            ids,
+            distances,
+            buffers: Buffers::default(),
+        }
+    }
+
+    /// Document 01: "Insert marks a node [...]; each brings the table up to date and returns the
+    /// number of rows whose contents differ before and after."
+    ///
+    /// ```
+    /// use overlap::{Network, Points, Refusal, Table};
+    ///
+    /// # fn main() -> Result<(), Refusal> {
+    /// // Network N of document 01.
+    /// let roads = [(0, 1, 4), (0, 3, 5), (1, 2, 3), (2, 4, 7), (3, 4, 3)];
+    /// let network = Network::from_roads(6, &roads)?;
+    /// let mut table = Table::build(&network, Points::on(&network, [2, 4, 5])?, 2)?;
+    /// // P10: four rows change.
+    /// assert_eq!(table.insert(0)?, 4);
+    /// assert!(table.row(2)?.iter().eq([(2, 0), (0, 7)]));
+    ///
+    /// // Node 0 is marked by now.
+    /// assert_eq!(table.insert(0), Err(Refusal::Mark));
+    /// # Ok(())
+    /// # }
+    /// ```
+    ///
+    /// # Errors
+    ///
+    /// 7 where the node is n or more, 11 where it is marked. Points and table are then as before.
+    pub fn insert(&mut self, node: u32) -> Result<u32, Refusal> {
+        let (network, marks, scratch, table) = self.lend_mut();
+        calls::insert(network, marks, node, scratch, table).accepted()
+    }
+
+    /// Document 01: "[...] remove clears one; each brings the table up to date and returns the
+    /// number of rows whose contents differ before and after."
+    ///
+    /// ```
+    /// use overlap::{Network, Points, Refusal, Table};
+    ///
+    /// # fn main() -> Result<(), Refusal> {
+    /// // Network N of document 01, and a point on node 0.
+    /// let roads = [(0, 1, 4), (0, 3, 5), (1, 2, 3), (2, 4, 7), (3, 4, 3)];
+    /// let network = Network::from_roads(6, &roads)?;
+    /// let mut table = Table::build(&network, Points::on(&network, [0, 2, 4, 5])?, 2)?;
+    /// // P10 undone: four rows change.
+    /// assert_eq!(table.remove(0)?, 4);
+    /// assert!(table.row(0)?.iter().eq([(2, 7), (4, 8)]));
+    ///
+    /// // Node 0 is not marked by now.
+    /// assert_eq!(table.remove(0), Err(Refusal::Mark));
+    /// # Ok(())
+    /// # }
+    /// ```
+    ///
+    /// # Errors
+    ///
+    /// 7 where the node is n or more, 11 where it is not marked. Points and table are then as
+    /// before.
+    pub fn remove(&mut self, node: u32) -> Result<u32, Refusal> {
+        let (network, marks, scratch, table) = self.lend_mut();
+        calls::remove(network, marks, node, scratch, table).accepted()
+    }
+
+    /// Document 01: "Table query (eager-M): the list, k from 1 to K - 1, since a point's row spends
+    /// one place on itself." It is the list that [`Engine::eager`](crate::Engine::eager) gives for
+    /// the table's points.
+    ///
+    /// ```
+    /// use overlap::{Network, Points, Refusal, Table};
+    ///
+    /// # fn main() -> Result<(), Refusal> {
+    /// // Network N of document 01.
+    /// let roads = [(0, 1, 4), (0, 3, 5), (1, 2, 3), (2, 4, 7), (3, 4, 3)];
+    /// let network = Network::from_roads(6, &roads)?;
+    /// let mut table = Table::build(&network, Points::on(&network, [2, 4, 5])?, 2)?;
+    /// assert_eq!(table.query(0, 1)?, [2]);
+    ///
+    /// // k is at most K - 1.
+    /// assert_eq!(table.query(0, 2), Err(Refusal::K));
+    /// # Ok(())
+    /// # }
+    /// ```
+    ///
+    /// # Errors
+    ///
+    /// 7 where q is n or more, 9 where k is not 1 to K - 1.
+    pub fn query(&mut self, q: u32, k: u32) -> Result<&[u32], Refusal> {
+        let (scratch, answers) = self.buffers.both(&self.network, k);
+        let (network, marks) = (self.network.lend(), self.points.marks());
+        let table = calls::Table {
+            places: self.places,
+            ids: &self.ids,
+            distances: &self.distances,
+        };
+        let listing = calls::table_query(network, marks, q, k, table, scratch, answers);
+        Ok(self.buffers.answers(listing.accepted()?.length))
+    }
+
+    /// Document 01: "Table check: yes exactly when both arrays are the table that build would
+    /// write".
+    ///
+    /// It is yes for every value of this type; [`from_arrays`](Self::from_arrays) is where it can
+    /// be no. It is here for whoever wants to see it.
+    ///
+    /// ```
+    /// use overlap::{Network, Points, Table};
+    ///
+    /// # fn main() -> Result<(), overlap::Refusal> {
+    /// let network = Network::from_roads(2, &[(0, 1, 4)])?;
+    /// let mut table = Table::build(&network, Points::none(&network), 2)?;
+    /// table.insert(1)?;
+    /// assert!(table.check());
+    /// # Ok(())
+    /// # }
+    /// ```
+    #[must_use]
+    pub fn check(&self) -> bool {
+        let (network, marks) = (self.network.lend(), self.points.marks());
+        calls::table_check(network, marks, self.lend()).accepted() == Ok(true)
+    }
+
+    /// Row i without its empty places: the K nearest points of a node, or all that it can reach, by
+    /// distance then node.
+    ///
+    /// ```
+    /// use overlap::{Network, Points, Refusal, Table};
+    ///
+    /// # fn main() -> Result<(), Refusal> {
+    /// let network = Network::from_roads(3, &[(0, 1, 4), (1, 2, 3)])?;
+    /// let table = Table::build(&network, Points::on(&network, [0, 2])?, 2)?;
+    /// assert!(table.row(1)?.iter().eq([(2, 3), (0, 4)]));
+    /// assert_eq!(table.row(3), Err(Refusal::Node));
+    /// # Ok(())
+    /// # }
+    /// ```
+    ///
+    /// # Errors
+    ///
+    /// 7 where the node is n or more.
+    pub fn row(&self, node: u32) -> Result<Nearest<'_>, Refusal> {
+        if node >= self.network.nodes() {
+            return Err(Refusal::Node);
+        }
+        let (node, places) = (node as usize, self.places as usize);
+        let part = node * places..(node + 1) * places;
+        Ok(Nearest::in_places(
+            &self.ids[part.clone()],
+            &self.distances[part],
+        ))
+    }
+
+    /// The network.
+    ///
+    /// ```
+    /// use overlap::{Network, Points, Table};
+    ///
+    /// # fn main() -> Result<(), overlap::Refusal> {
+    /// // Network N of document 01.
+    /// let roads = [(0, 1, 4), (0, 3, 5), (1, 2, 3), (2, 4, 7), (3, 4, 3)];
+    /// let network = Network::from_roads(6, &roads)?;
+    /// let table = Table::build(&network, Points::on(&network, [2, 4, 5])?, 2)?;
+    /// assert_eq!(table.network(), &network);
+    /// # Ok(())
+    /// # }
+    /// ```
+    #[must_use]
+    pub fn network(&self) -> &Network {
+        &self.network
+    }
+
+    /// The points that the table stands for.
+    ///
+    /// ```
+    /// use overlap::{Network, Points, Table};
+    ///
+    /// # fn main() -> Result<(), overlap::Refusal> {
+    /// // Network N of document 01.
+    /// let roads = [(0, 1, 4), (0, 3, 5), (1, 2, 3), (2, 4, 7), (3, 4, 3)];
+    /// let network = Network::from_roads(6, &roads)?;
+    /// let table = Table::build(&network, Points::on(&network, [2, 4, 5])?, 2)?;
+    /// assert!(table.points().iter().eq([2, 4, 5]));
+    /// # Ok(())
+    /// # }
+    /// ```
+    #[must_use]
+    pub fn points(&self) -> &Points {
+        &self.points
+    }
+
+    /// The points alone, once the table is not needed.
+    ///
+    /// ```
+    /// use overlap::{Network, Points, Table};
+    ///
+    /// # fn main() -> Result<(), overlap::Refusal> {
+    /// // Network N of document 01.
+    /// let roads = [(0, 1, 4), (0, 3, 5), (1, 2, 3), (2, 4, 7), (3, 4, 3)];
+    /// let network = Network::from_roads(6, &roads)?;
+    /// let table = Table::build(&network, Points::on(&network, [2, 4, 5])?, 2)?;
+    /// assert_eq!(table.into_points(), Points::on(&network, [2, 4, 5])?);
+    /// # Ok(())
+    /// # }
+    /// ```
+    #[must_use]
+    pub fn into_points(self) -> Points {
+        self.points
+    }
+
+    /// K, the places of a row.
+    ///
+    /// ```
+    /// use overlap::{Network, Points, Table};
+    ///
+    /// # fn main() -> Result<(), overlap::Refusal> {
+    /// // Network N of document 01.
+    /// let roads = [(0, 1, 4), (0, 3, 5), (1, 2, 3), (2, 4, 7), (3, 4, 3)];
+    /// let network = Network::from_roads(6, &roads)?;
+    /// let table = Table::build(&network, Points::on(&network, [2, 4, 5])?, 2)?;
+    /// assert_eq!(table.places(), 2);
+    /// # Ok(())
+    /// # }
+    /// ```
+    #[must_use]
+    pub fn places(&self) -> u32 {
+        self.places
+    }
+
+    /// The table as the functions of [`calls`] are lent it: K and both whole arrays.
+    ///
+    /// ```
+    /// use overlap::{Network, Points, Table, NONE};
+    ///
+    /// # fn main() -> Result<(), overlap::Refusal> {
+    /// let network = Network::from_roads(2, &[(0, 1, 4)])?;
+    /// let table = Table::build(&network, Points::on(&network, [1])?, 2)?;
+    /// assert_eq!(table.lend().ids, [1, NONE, 1, NONE]);
+    /// assert_eq!(table.lend().distances, [4, NONE, 0, NONE]);
+    /// # Ok(())
+    /// # }
+    /// ```
+    #[must_use]
+    pub fn lend(&self) -> calls::Table<'_> {
+        calls::Table {
+            places: self.places,
+            ids: &self.ids,
+            distances: &self.distances,
+        }
+    }
+
+    /// All that a call which writes the table is lent.
+    fn lend_mut(&mut self) -> (calls::Network<'_>, &mut [u8], &mut [u32], TableMut<'_>) {
+        let scratch = self.buffers.scratch(&self.network, self.places);
+        let table = TableMut {
+            places: self.places,
+            ids: &mut self.ids,
+            distances: &mut self.distances,
+        };
+        (self.network.lend(), self.points.marks_mut(), scratch, table)
     }
 }

@@ -15,7 +15,7 @@ use common::shapes::random_network;
 use common::site::{Site, EAGER};
 use common::table::{OwnedTable, PlainTable};
 use common::tally::Tally;
-use overlap::{insert, lazy, lazy_ep, remove, table_check, table_query, Listing, Update};
+use overlap::calls::{insert, lazy, lazy_ep, remove, table_check, table_query, Listing, Update};
 
 /// What the calls are lent, each as the last one left it.
 struct State {

@@ -15,7 +15,7 @@ use common::shapes::{belt, chain, far_grid, grid, random_network, random_parts, 
 use common::shapes::{try_all_small_points, weight_by_product, weighted};
 use common::table::{OwnedTable, PlainTable};
 use common::tally::Tally;
-use overlap::{build, NONE};
+use overlap::calls::{build, NONE};
 
 /// Everything that a call is lent.
 #[derive(Clone)]

@@ -17,7 +17,7 @@ use common::rows::{distances_in, relaxed_row, LARGEST_DISTANCE};
 use common::shapes::all_small_networks;
 use common::shapes::{belt, chain, far_grid, grid, star, weight_by_product, weighted};
 use common::tally::Tally;
-use overlap::{distances, NONE};
+use overlap::calls::{distances, NONE};
 
 /// Everything that a call is lent.
 #[derive(Clone)]

@@ -16,7 +16,7 @@ use common::shapes::try_all_small_points;
 use common::shapes::{chain, grid, star, weight_by_product, weighted};
 use common::site::Site;
 use common::tally::Tally;
-use overlap::{eager, short_query, Listing};
+use overlap::calls::{eager, short_query, Listing};
 
 /// "The short query: no k and no limit; eager with k = 1 and limit 65,535."
 const SHORT_K: u32 = 1;

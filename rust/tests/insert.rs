@@ -2,18 +2,14 @@
 
 mod common;
 
-use common::all_pairs::AllPairs;
-use common::call::{assert_lower_numbers_first, assert_outcome, assert_random_calls};
+use common::call::{assert_lower_numbers_first, assert_random_calls};
 use common::call::{assert_refused, compare, Call, LEAST_OF_EACH};
-use common::change::{assert_change, assert_damaged_tables, assert_small_networks};
-use common::change::{Change, ChangeCall, Kind};
-use common::inputs::{some_places, some_points};
-use common::lent::Lent;
-use common::network::{marks, network_n, OwnedNetwork, N_NODES, N_POINTS};
-use common::random::Random;
-use common::shapes::{chain, grid, random_network, star, weight_by_product, weighted};
-use common::table::{OwnedTable, PlainTable};
-use overlap::{insert, table_check};
+use common::change::{assert_damaged_tables, assert_small_networks, Change, ChangeCall, Kind};
+use common::change_cases::{assert_changes, assert_one_by_one, assert_own_conditions};
+use common::change_cases::{assert_scratch_of_n, call_on_n, each, MOST_NODES};
+use common::network::N_POINTS;
+use common::shapes::{chain, grid, star, weight_by_product, weighted};
+use overlap::calls::insert;
 
 #[derive(Clone)]
 struct Insertion;
@@ -31,9 +27,7 @@ mod network_n {
     use super::*;
 
     fn call(node: u32, places: u32) -> Insert {
-        let (network, points) = (network_n(), marks(N_NODES, &N_POINTS));
-        let table = PlainTable::of(&AllPairs::of(network.lend()), &points, places);
-        Change::exact(&network, &points, node, &table, &mut Random::new(3))
+        call_on_n(&N_POINTS, node, places)
     }
 
     /// P10: "row 2 after insert 0, K 2: (2, 0), (0, 7); changed 4".
@@ -57,45 +51,15 @@ mod network_n {
 
     #[test]
     fn each_condition_of_its_own() {
-        let assert_number = |number, change: fn(&mut Insert)| {
-            let mut call = call(0, 2);
-            change(&mut call);
-            assert_refused(call, number);
-        };
-        assert_number(6, |c| c.points[3] = 2);
-        assert_number(6, |c| c.points.truncate(5));
-        assert_number(6, |c| c.points.push(0));
-        assert_number(7, |c| c.node = 6);
-        assert_number(7, |c| c.node = u32::MAX);
-        assert_number(8, |c| c.table.places = 0);
-        assert_number(8, |c| c.table.places = 3);
-        assert_number(8, |c| c.table.places = u32::MAX);
-        assert_number(8, |c| c.table = OwnedTable::junk(6, 1, &mut Random::new(0)));
-        assert_number(8, |c| {
-            c.table = OwnedTable::junk(6, 18, &mut Random::new(0))
-        });
-        assert_number(8, |c| c.table.ids = Lent::junk(11, &mut Random::new(0)));
-        assert_number(8, |c| {
-            c.table.distances = Lent::junk(13, &mut Random::new(0));
-        });
+        assert_own_conditions(&call(0, 2));
         for point in N_POINTS {
             assert_refused(call(point, 2), 11);
         }
     }
 
-    /// S is 16 × 6 + 8 × (10 + 6) × K.
     #[test]
     fn scratch_grows_with_places() {
-        for (places, length) in [(2, 352), (3, 480), (17, 2_272)] {
-            let lengths = [(0, 10), (length - 1, 10), (length, 0), (length + 1, 0)];
-            for (length, number) in lengths.into_iter().chain([(9_999, 0)]) {
-                for seed in 0..20 {
-                    let mut call = call(0, places);
-                    call.scratch = Lent::junk(length, &mut Random::new(seed));
-                    assert_eq!(compare(call), number);
-                }
-            }
-        }
+        assert_scratch_of_n(|places| call(0, places));
     }
 }
 
@@ -135,34 +99,9 @@ mod exhaustive {
 mod one_by_one {
     use super::*;
 
-    /// Inserts all nodes that are not marked, in any order.
-    fn insert_all(network: &OwnedNetwork, mut points: Vec<u8>, places: u32, random: &mut Random) {
-        let pairs = AllPairs::of(network.lend());
-        let mut table = PlainTable::built(network, &points, places, random);
-        let mut nodes: Vec<u32> = (0..points.len() as u32).collect();
-        nodes.retain(|&node| points[node as usize] == 0);
-        random.shuffle(&mut nodes);
-        for node in nodes {
-            let call = Insert::exact(network, &points, node, &table, random);
-            points = call.points_after();
-            table = assert_change(call, &pairs, random);
-            let verdict = table_check(network.lend(), &points, table.lend());
-            assert_eq!((verdict.number, verdict.yes), (0, 1));
-        }
-    }
-
     #[test]
     fn until_every_node_is_a_point() {
-        for seed in 0..1_000 {
-            let mut random = Random::new(seed);
-            let network = random_network(&mut random);
-            let points = match random.below(2) {
-                0 => vec![0; network.starts.len() - 1],
-                _ => some_points(&network, &mut random),
-            };
-            let places = some_places(&mut random);
-            insert_all(&network, points, places, &mut random);
-        }
+        assert_one_by_one::<Insertion>(1_000, |_| ());
     }
 }
 
@@ -180,47 +119,28 @@ mod damaged_tables {
 mod limits {
     use super::*;
 
-    const MOST_NODES: u32 = 65_535;
     const LAST: u32 = MOST_NODES - 1;
-
-    /// Inserts the nodes one behind the other into the table of the points.
-    fn assert_insertions(network: &OwnedNetwork, points: &[u8], nodes: &[u32], places: u32) {
-        let mut random = Random::new(6);
-        let mut points = points.to_vec();
-        let mut table = PlainTable::of_large(network, &points, places);
-        for &node in nodes {
-            let call = Insert::exact(network, &points, node, &table, &mut random);
-            points = call.points_after();
-            table = PlainTable::of_large(network, &points, places);
-            let outcome = call.accepted(&table);
-            assert_outcome(call, &outcome);
-        }
-    }
-
-    fn each(step: u32) -> Vec<u8> {
-        (0..MOST_NODES).map(|p| u8::from(p % step == 0)).collect()
-    }
 
     #[test]
     fn the_longest_chain() {
         let network = weighted(MOST_NODES, &chain(MOST_NODES), |_, _| 65_535);
         let none = vec![0; MOST_NODES as usize];
         let nodes = [0, LAST, 1, LAST / 2];
-        assert_insertions(&network, &none, &nodes, 2);
-        assert_insertions(&network, &each(1_000), &[LAST, 500], 17);
+        assert_changes::<Insertion>(&network, &none, &nodes, 2);
+        assert_changes::<Insertion>(&network, &each(1_000), &[LAST, 500], 17);
     }
 
     #[test]
     fn a_star_of_the_most_nodes() {
         let network = weighted(MOST_NODES, &star(MOST_NODES, 7), |_, _| 65_535);
         let none = vec![0; MOST_NODES as usize];
-        assert_insertions(&network, &none, &[LAST, 7, 0, 1], 2);
+        assert_changes::<Insertion>(&network, &none, &[LAST, 7, 0, 1], 2);
     }
 
     #[test]
     fn a_grid_of_255_by_257_nodes() {
         let network = weighted(MOST_NODES, &grid(255, 257), weight_by_product);
-        assert_insertions(&network, &each(100), &[1, MOST_NODES / 2, LAST], 2);
-        assert_insertions(&network, &each(1_000), &[30_001], 17);
+        assert_changes::<Insertion>(&network, &each(100), &[1, MOST_NODES / 2, LAST], 2);
+        assert_changes::<Insertion>(&network, &each(1_000), &[30_001], 17);
     }
 }

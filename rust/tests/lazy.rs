@@ -17,7 +17,7 @@ use common::shapes::{random_network, ring, star, try_all_small_points};
 use common::shapes::{weight_by_product, weighted};
 use common::site::{SearchCall, Site, EAGER};
 use common::tally::Tally;
-use overlap::{lazy, lazy_ep, Listing};
+use overlap::calls::{lazy, lazy_ep, Listing};
 use std::marker::PhantomData;
 
 /// One of the two searches.

@@ -18,7 +18,7 @@ use common::rows::{nearest_in, relaxed_row, Near, LARGEST_DISTANCE};
 use common::shapes::try_all_small_points;
 use common::shapes::{chain, grid, star, weight_by_product, weighted};
 use common::tally::Tally;
-use overlap::{nearest, Found, Listing, NONE};
+use overlap::calls::{nearest, Found, Listing, NONE};
 
 /// Everything that a call is lent.
 #[derive(Clone)]

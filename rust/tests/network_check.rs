@@ -7,7 +7,7 @@ use common::network::{network_n, shown, OwnedNetwork};
 use common::plain::plain_check;
 use common::random::Random;
 use common::shapes::{belt, chain, random_network, star, weight_by_product, weighted};
-use overlap::{meaning, network_check, Network};
+use overlap::calls::{meaning, network_check, Network};
 
 const MOST_NODES: u32 = 65_535;
 const MOST_ROADS: u32 = 262_144;

@@ -12,7 +12,7 @@ use common::random::Random;
 use common::rows::{relaxed_row, row_of};
 use common::shapes::random_network;
 use common::table::PlainTable;
-use overlap::{accepted, meaning, scratch_len, Listing, Network, Update, Verdict, NONE};
+use overlap::calls::{accepted, meaning, scratch_len, Listing, Network, Update, Verdict, NONE};
 
 /// The cases of document 01.
 mod cases {
@@ -207,7 +207,7 @@ mod answers {
 
     #[test]
     fn another_number_is_a_refusal() {
-        for number in (1..=13).chain([u32::MAX]) {
+        for number in 1..=12 {
             let refusal = accepted(number).unwrap_err();
             assert_eq!(refusal.number(), number);
             assert!(refusal.to_string().contains(meaning(number)));
@@ -218,6 +218,14 @@ mod answers {
             assert_eq!(listing.accepted(), Err(refusal));
             assert_eq!(Verdict { number, yes: 0 }.accepted(), Err(refusal));
             assert_eq!(Update { number, changed: 0 }.accepted(), Err(refusal));
+        }
+    }
+    /// No call returns such a number.
+    #[test]
+    fn a_number_that_document_01_has_not_is_none() {
+        for number in [13, u32::MAX] {
+            assert!(std::panic::catch_unwind(|| accepted(number)).is_err());
+            assert_eq!(meaning(number), "not a number of document 01");
         }
     }
 }

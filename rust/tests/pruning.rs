@@ -9,7 +9,7 @@ use common::network::marks;
 use common::random::Random;
 use common::shapes::{figure_12, grid, random_network, weight_by_product, weighted};
 use common::site::{SearchCall, Site, EAGER};
-use overlap::{lazy, lazy_ep, Listing};
+use overlap::calls::{lazy, lazy_ep, Listing};
 
 /// A twin that also says how many nodes it settled.
 type CountingCall = SearchCall<(Listing, usize)>;

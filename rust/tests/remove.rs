@@ -3,17 +3,17 @@
 mod common;
 
 use common::all_pairs::AllPairs;
-use common::call::{assert_lower_numbers_first, assert_outcome, assert_random_calls};
+use common::call::{assert_lower_numbers_first, assert_random_calls};
 use common::call::{assert_refused, compare, Call, LEAST_OF_EACH};
 use common::change::{assert_change, assert_damaged_tables, assert_small_networks};
 use common::change::{Change, ChangeCall, Kind};
-use common::inputs::{some_places, some_points};
-use common::lent::Lent;
-use common::network::{marks, network_n, OwnedNetwork, N_NODES, N_POINTS};
+use common::change_cases::{assert_changes, assert_one_by_one, assert_own_conditions};
+use common::change_cases::{assert_scratch_of_n, call_on_n, each, MOST_NODES};
+use common::network::{marks, N_POINTS};
 use common::random::Random;
 use common::shapes::{chain, grid, random_network, ring, star, weight_by_product, weighted};
-use common::table::{OwnedTable, PlainTable};
-use overlap::{insert, remove, table_check, NONE};
+use common::table::PlainTable;
+use overlap::calls::{insert, remove, NONE};
 
 #[derive(Clone)]
 struct Removal;
@@ -30,16 +30,10 @@ type Remove = Change<Removal>;
 mod network_n {
     use super::*;
 
-    fn call(points: &[u32], node: u32, places: u32) -> Remove {
-        let (network, points) = (network_n(), marks(N_NODES, points));
-        let table = PlainTable::of(&AllPairs::of(network.lend()), &points, places);
-        Change::exact(&network, &points, node, &table, &mut Random::new(3))
-    }
-
     /// P10 undone: the insertion of 0 changed four rows.
     #[test]
     fn four_rows_change_when_0_goes_again() {
-        let mut call = call(&[0, 2, 4, 5], 0, 2);
+        let mut call: Remove = call_on_n(&[0, 2, 4, 5], 0, 2);
         let update = call.run();
         assert_eq!((update.number, update.changed), (0, 4));
         assert_eq!(call.table.words().row(0), [(2, 7), (4, 8)]);
@@ -49,7 +43,7 @@ mod network_n {
 
     #[test]
     fn the_last_point_of_a_part() {
-        let mut call = call(&N_POINTS, 5, 2);
+        let mut call: Remove = call_on_n(&N_POINTS, 5, 2);
         let update = call.run();
         assert_eq!((update.number, update.changed), (0, 1));
         assert_eq!(call.table.words().row(5), [(NONE, NONE), (NONE, NONE)]);
@@ -59,52 +53,24 @@ mod network_n {
     fn every_point_and_every_k() {
         for node in N_POINTS {
             for places in 2..=17 {
-                assert_eq!(compare(call(&N_POINTS, node, places)), 0);
+                let call: Remove = call_on_n(&N_POINTS, node, places);
+                assert_eq!(compare(call), 0);
             }
         }
     }
 
     #[test]
     fn each_condition_of_its_own() {
-        let assert_number = |number, change: fn(&mut Remove)| {
-            let mut call = call(&N_POINTS, 2, 2);
-            change(&mut call);
-            assert_refused(call, number);
-        };
-        assert_number(6, |c| c.points[3] = 2);
-        assert_number(6, |c| c.points.truncate(5));
-        assert_number(6, |c| c.points.push(0));
-        assert_number(7, |c| c.node = 6);
-        assert_number(7, |c| c.node = u32::MAX);
-        assert_number(8, |c| c.table.places = 0);
-        assert_number(8, |c| c.table.places = 3);
-        assert_number(8, |c| c.table.places = u32::MAX);
-        assert_number(8, |c| c.table = OwnedTable::junk(6, 1, &mut Random::new(0)));
-        assert_number(8, |c| {
-            c.table = OwnedTable::junk(6, 18, &mut Random::new(0))
-        });
-        assert_number(8, |c| c.table.ids = Lent::junk(11, &mut Random::new(0)));
-        assert_number(8, |c| {
-            c.table.distances = Lent::junk(13, &mut Random::new(0));
-        });
+        let call = |node| -> Remove { call_on_n(&N_POINTS, node, 2) };
+        assert_own_conditions(&call(2));
         for node in [0, 1, 3] {
-            assert_refused(call(&N_POINTS, node, 2), 11);
+            assert_refused(call(node), 11);
         }
     }
 
-    /// S is 16 × 6 + 8 × (10 + 6) × K.
     #[test]
     fn scratch_grows_with_places() {
-        for (places, length) in [(2, 352), (3, 480), (17, 2_272)] {
-            let lengths = [(0, 10), (length - 1, 10), (length, 0), (length + 1, 0)];
-            for (length, number) in lengths.into_iter().chain([(9_999, 0)]) {
-                for seed in 0..20 {
-                    let mut call = call(&N_POINTS, 2, places);
-                    call.scratch = Lent::junk(length, &mut Random::new(seed));
-                    assert_eq!(compare(call), number);
-                }
-            }
-        }
+        assert_scratch_of_n::<Removal>(|places| call_on_n(&N_POINTS, 2, places));
     }
 }
 
@@ -172,35 +138,11 @@ mod old_distances {
 mod one_by_one {
     use super::*;
 
-    /// Removes all points, in any order.
-    fn remove_all(network: &OwnedNetwork, mut points: Vec<u8>, places: u32, random: &mut Random) {
-        let pairs = AllPairs::of(network.lend());
-        let mut table = PlainTable::built(network, &points, places, random);
-        let mut nodes: Vec<u32> = (0..points.len() as u32).collect();
-        nodes.retain(|&node| points[node as usize] == 1);
-        random.shuffle(&mut nodes);
-        for node in nodes {
-            let call = Remove::exact(network, &points, node, &table, random);
-            points = call.points_after();
-            table = assert_change(call, &pairs, random);
-            let verdict = table_check(network.lend(), &points, table.lend());
-            assert_eq!((verdict.number, verdict.yes), (0, 1));
-        }
-        assert!(table.ids.iter().all(|&id| id == NONE));
-    }
-
     #[test]
     fn until_no_node_is_a_point() {
-        for seed in 0..1_000 {
-            let mut random = Random::new(seed);
-            let network = random_network(&mut random);
-            let points = match random.below(2) {
-                0 => vec![1; network.starts.len() - 1],
-                _ => some_points(&network, &mut random),
-            };
-            let places = some_places(&mut random);
-            remove_all(&network, points, places, &mut random);
-        }
+        assert_one_by_one::<Removal>(1_000, |table| {
+            assert!(table.ids.iter().all(|&id| id == NONE));
+        });
     }
 
     /// A point that is inserted again brings the same table and changes as many rows.
@@ -236,46 +178,27 @@ mod damaged_tables {
 mod limits {
     use super::*;
 
-    const MOST_NODES: u32 = 65_535;
     const LAST: u32 = MOST_NODES - 1;
-
-    /// Removes the nodes one behind the other from the table of the points.
-    fn assert_removals(network: &OwnedNetwork, points: &[u8], nodes: &[u32], places: u32) {
-        let mut random = Random::new(6);
-        let mut points = points.to_vec();
-        let mut table = PlainTable::of_large(network, &points, places);
-        for &node in nodes {
-            let call = Remove::exact(network, &points, node, &table, &mut random);
-            points = call.points_after();
-            table = PlainTable::of_large(network, &points, places);
-            let outcome = call.accepted(&table);
-            assert_outcome(call, &outcome);
-        }
-    }
-
-    fn each(step: u32) -> Vec<u8> {
-        (0..MOST_NODES).map(|p| u8::from(p % step == 0)).collect()
-    }
 
     #[test]
     fn the_longest_chain() {
         let network = weighted(MOST_NODES, &chain(MOST_NODES), |_, _| 65_535);
         let four = marks(MOST_NODES, &[0, 1, LAST / 2, LAST]);
-        assert_removals(&network, &four, &[LAST / 2, 1, LAST, 0], 2);
-        assert_removals(&network, &each(1_000), &[0, 30_000], 17);
+        assert_changes::<Removal>(&network, &four, &[LAST / 2, 1, LAST, 0], 2);
+        assert_changes::<Removal>(&network, &each(1_000), &[0, 30_000], 17);
     }
 
     #[test]
     fn a_star_of_the_most_nodes() {
         let network = weighted(MOST_NODES, &star(MOST_NODES, 7), |_, _| 65_535);
         let four = marks(MOST_NODES, &[LAST, 7, 0, 1]);
-        assert_removals(&network, &four, &[0, 7, 1, LAST], 2);
+        assert_changes::<Removal>(&network, &four, &[0, 7, 1, LAST], 2);
     }
 
     #[test]
     fn a_grid_of_255_by_257_nodes() {
         let network = weighted(MOST_NODES, &grid(255, 257), weight_by_product);
-        assert_removals(&network, &each(100), &[0, 32_700, 65_500], 2);
-        assert_removals(&network, &each(1_000), &[30_000], 17);
+        assert_changes::<Removal>(&network, &each(100), &[0, 32_700, 65_500], 2);
+        assert_changes::<Removal>(&network, &each(1_000), &[30_000], 17);
     }
 }

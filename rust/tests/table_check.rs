@@ -16,7 +16,7 @@ use common::shapes::{weight_by_product, weighted};
 use common::table::{OwnedTable, PlainTable};
 use common::table_damage::{damage, KINDS};
 use common::tally::Tally;
-use overlap::{table_check, Verdict, NONE};
+use overlap::calls::{table_check, Verdict, NONE};
 
 /// Everything that a call is lent.
 #[derive(Clone)]

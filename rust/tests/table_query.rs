@@ -19,7 +19,7 @@ use common::site::{Site, EAGER};
 use common::table::{OwnedTable, PlainTable};
 use common::table_damage::damage;
 use common::tally::Tally;
-use overlap::{lazy, lazy_ep, table_query, Listing, NONE};
+use overlap::calls::{lazy, lazy_ep, table_query, Listing, NONE};
 
 /// Everything that a call is lent.
 #[derive(Clone)]

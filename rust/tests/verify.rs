@@ -18,7 +18,7 @@ use common::rows::{relaxed_row, verify_in};
 use common::shapes::try_all_small_points;
 use common::shapes::{chain, far_grid, grid, star, weight_by_product, weighted};
 use common::tally::Tally;
-use overlap::{verify, Verdict};
+use overlap::calls::{verify, Verdict};
 
 /// Everything that a call is lent.
 #[derive(Clone)]

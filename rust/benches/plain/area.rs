@@ -3,7 +3,7 @@
 //! plus one. The tag of an entry is its node and then its parent.
 
 use super::queue::{Entry, Queue};
-use overlap::Network;
+use overlap::calls::Network;
 
 /// An expansion under way.
 pub struct Area<'a> {

@@ -2,7 +2,7 @@
 
 use super::area::Area;
 use super::network_check;
-use overlap::{Network, NONE};
+use overlap::calls::{Network, NONE};
 
 #[inline(never)]
 pub fn distances(network: Network<'_>, node: u32, scratch: &mut [u32], answers: &mut [u32]) -> u32 {
@@ -10,10 +10,10 @@ pub fn distances(network: Network<'_>, node: u32, scratch: &mut [u32], answers: 
     if number == 0 {
         let n = network.starts.len() - 1;
         let used = 2 * n + 2 * (network.neighbours.len() + 1);
-        scratch[..used].fill(0);
+        scratch.fill(0);
         expand(network, node, &mut scratch[..used]);
         write_answers(&scratch[..n], answers);
-        scratch.fill(0);
+        scratch[..used].fill(0);
     }
     number
 }

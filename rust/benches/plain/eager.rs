@@ -4,8 +4,9 @@
 //! outer area.
 
 use super::area::Area;
+use super::nearest::find;
 use super::site::{listed, refused, Lent, Site};
-use overlap::{Listing, Network};
+use overlap::calls::{Listing, Network};
 
 #[inline(never)]
 pub fn eager(
@@ -27,6 +28,18 @@ pub fn eager(
     site.answer(lent, words, |words, answers| {
         search(site, limit, words, answers)
     })
+}
+
+/// Eager with k = 1 and limit 65,535.
+#[inline(never)]
+pub fn short_query(
+    network: Network<'_>,
+    points: &[u8],
+    q: u32,
+    scratch: &mut [u32],
+    answers: &mut [u32],
+) -> Listing {
+    eager(network, points, q, 1, 65_535, scratch, answers)
 }
 
 fn words(site: Site<'_>) -> usize {
@@ -60,41 +73,13 @@ fn look(site: Site<'_>, node: u32, label: u32, flags: &mut [u32], inner: &mut [u
     let (n, k) = (site.points.len(), site.k);
     let (flags, places) = flags.split_at_mut(2 * n);
     let (ids, distances) = places.split_at_mut(k);
-    let found = nearest(site, node, label, ids, distances, inner);
+    let found = find(site, node, label, ids, distances, inner);
     for &p in &ids[..found] {
         if flags[p as usize] == 0 {
             flags[p as usize] = 1;
-            let (yes, area) = site.visit(p, inner);
-            flags[n + p as usize] = u32::from(yes);
-            area.clear();
+            flags[n + p as usize] = u32::from(site.verify(p, inner));
         }
     }
     places.fill(0);
-    found
-}
-
-fn nearest(
-    site: Site<'_>,
-    node: u32,
-    e: u32,
-    ids: &mut [u32],
-    distances: &mut [u32],
-    inner: &mut [u32],
-) -> usize {
-    let mut area = Area::start(inner, site.network, node);
-    let mut found = 0;
-    while found < site.k {
-        let Some(entry) = area.next().filter(|entry| entry.distance < e) else {
-            break;
-        };
-        area.settle(entry);
-        area.open(site.network, entry);
-        if site.points[entry.node()] == 1 {
-            ids[found] = entry.node() as u32;
-            distances[found] = entry.distance;
-            found += 1;
-        }
-    }
-    area.clear();
     found
 }

@@ -1,12 +1,13 @@
 //! Lazy (000, 3.3): the verification of a point prunes the nodes that it visits nearer than the site
 //! is.
 //!
-//! Words of scratch: counts n, found flags n, inner area, outer area.
+//! Words of scratch: counts n, found flags n, inner area, outer area; 2 × k are cleared beside them,
+//! as in the engine.
 
 use super::area::Area;
 use super::queue::Entry;
 use super::site::{listed, Lent, Site};
-use overlap::{Listing, Network};
+use overlap::calls::{Listing, Network};
 
 #[inline(never)]
 pub fn lazy(
@@ -47,7 +48,7 @@ pub fn lazy_and_settled(
 
 fn words(site: Site<'_>) -> usize {
     let (n, arcs) = site.sizes();
-    6 * n + 4 * (arcs + 1)
+    2 * site.k + 6 * n + 4 * (arcs + 1)
 }
 
 /// Sets the found flags and returns how many nodes it settled.
@@ -55,7 +56,7 @@ fn search(site: Site<'_>, words: &mut [u32]) -> usize {
     let n = site.points.len();
     let (flags, areas) = words.split_at_mut(2 * n);
     let (counts, found) = flags.split_at_mut(n);
-    let (inner, outer) = areas.split_at_mut(areas.len() / 2);
+    let (inner, outer) = areas.split_at_mut(2 * n + 2 * (site.network.neighbours.len() + 1));
     let mut area = Area::start(outer, site.network, site.q);
     while let Some(entry) = area.next() {
         if is_pruned(site, entry, counts) {

@@ -8,7 +8,7 @@
 use super::area::Area;
 use super::queue::{Entry, Queue};
 use super::site::{listed, Lent, Site};
-use overlap::{Listing, Network};
+use overlap::calls::{Listing, Network};
 
 #[inline(never)]
 pub fn lazy_ep(
@@ -72,9 +72,7 @@ fn search(site: Site<'_>, words: &mut [u32]) -> usize {
         }
         area.settle(entry);
         if site.points[node] == 1 {
-            let (yes, visit) = site.visit(node as u32, inner);
-            found[node] = u32::from(yes);
-            visit.clear();
+            found[node] = u32::from(site.verify(node as u32, inner));
             second.admit(site, Entry::new(0, node as u32, node as u32));
         }
         if !second.is_closed(node, label) {
@@ -143,14 +141,16 @@ impl<'a> Second<'a> {
         (self.distances[farthest] > distance + 1).then_some(farthest)
     }
 
-    /// Pushes an entry for each arc of the node while there is room.
+    /// Pushes an entry for each arc that leads to a node whose row has a place for the point by now,
+    /// while there is room.
     fn push_neighbours(&mut self, network: Network<'_>, entry: Entry) {
         let (p, node) = (entry.first() as u32, entry.second());
         let arcs = network.starts[node] as usize..network.starts[node + 1] as usize;
         let weights = &network.weights[arcs.clone()];
         for (&to, &weight) in network.neighbours[arcs].iter().zip(weights) {
-            if self.queue.has_room() {
-                self.queue.push(Entry::new(entry.distance + weight, p, to));
+            let distance = entry.distance + weight;
+            if self.place(p, to as usize, distance).is_some() && self.queue.has_room() {
+                self.queue.push(Entry::new(distance, p, to));
             }
         }
     }

@@ -1,7 +1,10 @@
 //! The engine's algorithms in plain safe Rust, with Rust's own bounds checks, to compare times
-//! with.
+//! with. Each function has the form of the engine's call, its checks and its answers.
+//!
+//! A call makes all of scratch zero before its work and the words that it used zero behind it; an
+//! expansion inside another makes zero what it touched.
 
-// Each benchmark uses a part of this.
+// The benchmark and a test use parts of this.
 #![allow(dead_code, unused_imports)]
 
 mod area;
@@ -9,16 +12,24 @@ mod distances;
 mod eager;
 mod lazy;
 mod lazy_ep;
+mod nearest;
 mod network_check;
 mod queue;
 mod site;
 mod table;
+mod table_check;
+mod table_query;
 mod table_remove;
+mod verify;
 
 pub use distances::distances;
-pub use eager::eager;
+pub use eager::{eager, short_query};
 pub use lazy::{lazy, lazy_and_settled};
 pub use lazy_ep::{lazy_ep, lazy_ep_and_settled};
+pub use nearest::nearest;
 pub use network_check::network_check;
 pub use table::{build, insert};
+pub use table_check::table_check;
+pub use table_query::table_query;
 pub use table_remove::remove;
+pub use verify::verify;

@@ -1,7 +1,7 @@
 //! The network check: one pass over the arrays for each condition, and a binary search for each
 //! return.
 
-use overlap::Network;
+use overlap::calls::Network;
 
 #[inline(never)]
 pub fn network_check(network: Network<'_>) -> u32 {

@@ -3,7 +3,7 @@
 
 use super::area::Area;
 use super::network_check;
-use overlap::{Listing, Network};
+use overlap::calls::{Listing, Network};
 
 /// What a search reads.
 #[derive(Clone, Copy)]
@@ -26,8 +26,8 @@ impl Site<'_> {
         (self.network.starts.len() - 1, self.network.neighbours.len())
     }
 
-    /// The checks, then a search in so many words of scratch, which are all zero. It is handed the
-    /// answers too. Behind it all of scratch is made zero.
+    /// The checks, then all of scratch is made zero and searched in so many words of it, which are
+    /// made zero again behind it. The search is handed the answers too.
     pub fn answer(
         self,
         lent: Lent<'_>,
@@ -35,30 +35,47 @@ impl Site<'_> {
         search: impl FnOnce(&mut [u32], &mut [u32]) -> Listing,
     ) -> Listing {
         let Lent { scratch, answers } = lent;
-        let number = self.number(scratch.len(), answers.len());
+        let mut number = self.number(scratch.len());
+        if number == 0 && answers.len() < self.points.len() {
+            number = 10;
+        }
         if number != 0 {
             return refused(number);
         }
         let used = words(self);
-        scratch[..used].fill(0);
-        let listing = search(&mut scratch[..used], answers);
         scratch.fill(0);
+        let listing = search(&mut scratch[..used], answers);
+        scratch[..used].fill(0);
         listing
     }
 
-    fn number(self, scratch: usize, answers: usize) -> u32 {
+    /// The first condition met of 1 to 7, 9, and 10 of scratch, or 0.
+    pub fn number(self, scratch: usize) -> u32 {
+        match self.place_number() {
+            0 => self.k_number(scratch),
+            number => number,
+        }
+    }
+
+    /// The first condition met of 1 to 7, or 0.
+    pub fn place_number(self) -> u32 {
         let of_network = network_check(self.network);
         if of_network != 0 {
-            return of_network;
-        }
-        let (n, arcs) = self.sizes();
-        if self.points.len() != n || self.points.iter().any(|&byte| byte > 1) {
+            of_network
+        } else if !are_points(self.points, self.network) {
             6
-        } else if self.q as usize >= n {
+        } else if self.q as usize >= self.points.len() {
             7
-        } else if self.k == 0 || self.k > 16 {
+        } else {
+            0
+        }
+    }
+
+    /// 9, or 10 of scratch, or 0.
+    pub fn k_number(self, scratch: usize) -> u32 {
+        if self.k == 0 || self.k > 16 {
             9
-        } else if scratch < 16 * n + 8 * (arcs + n) * self.k || answers < n {
+        } else if scratch < least_scratch(self.network, self.k) {
             10
         } else {
             0
@@ -84,6 +101,24 @@ impl Site<'_> {
         }
         (false, area)
     }
+
+    /// The same, and the area is all zero behind it.
+    pub fn verify(self, p: u32, words: &mut [u32]) -> bool {
+        let (yes, area) = self.visit(p, words);
+        area.clear();
+        yes
+    }
+}
+
+/// Whether there are n bytes, none above 1.
+pub fn are_points(points: &[u8], network: Network<'_>) -> bool {
+    points.len() == network.starts.len() - 1 && points.iter().all(|&byte| byte <= 1)
+}
+
+/// S for an m that is in its range.
+pub fn least_scratch(network: Network<'_>, m: usize) -> usize {
+    let (n, arcs) = (network.starts.len() - 1, network.neighbours.len());
+    16 * n + 8 * (arcs + n) * m
 }
 
 pub fn refused(number: u32) -> Listing {

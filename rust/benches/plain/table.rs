@@ -6,7 +6,8 @@
 use super::area::Area;
 use super::network_check;
 use super::queue::{Entry, Queue};
-use overlap::{Network, TableMut, Update, NONE};
+use super::site::{are_points, least_scratch};
+use overlap::calls::{Network, Table, TableMut, Update, NONE};
 
 #[inline(never)]
 pub fn build(
@@ -15,15 +16,19 @@ pub fn build(
     scratch: &mut [u32],
     mut table: TableMut<'_>,
 ) -> u32 {
-    let number = number_of(network, points, None, scratch.len(), &table);
+    let places = table.places as usize;
+    let mut number = number_of(network, points, None, read(&table));
+    if number == 0 && scratch.len() < least_scratch(network, places) {
+        number = 10;
+    }
     if number == 0 {
         let (n, arcs) = (points.len(), network.neighbours.len());
-        let used = n + 2 * (n + table.places as usize * arcs);
-        scratch[..used].fill(0);
+        let used = n + 2 * (n + places * arcs);
+        scratch.fill(0);
         table.ids.fill(NONE);
         table.distances.fill(NONE);
         spread(network, points, &mut scratch[..used], &mut table);
-        scratch.fill(0);
+        scratch[..used].fill(0);
     }
     number
 }
@@ -36,45 +41,60 @@ pub fn insert(
     scratch: &mut [u32],
     mut table: TableMut<'_>,
 ) -> Update {
-    let number = number_of(network, points, Some((node, 1)), scratch.len(), &table);
+    let number = change_number(network, points, (node, 0), scratch.len(), &table);
     if number != 0 {
         return Update { number, changed: 0 };
     }
     let used = 3 * points.len() + 2 * (network.neighbours.len() + 1);
-    scratch[..used].fill(0);
+    scratch.fill(0);
     let changed = expand(network, node, &mut scratch[..used], &mut table);
     points[node as usize] = 1;
-    scratch.fill(0);
     Update { number, changed }
 }
 
-/// The first condition met of 1 to 6, 7 where a node is given, 8, 10, and 11 where the node's mark is
-/// the one given with it.
-pub fn number_of(
+/// A table lent for writing as one to read.
+fn read<'a>(table: &'a TableMut<'_>) -> Table<'a> {
+    Table {
+        places: table.places,
+        ids: table.ids,
+        distances: table.distances,
+    }
+}
+
+/// The first condition met of 1 to 6, 7 where a node is given, and 8, or 0.
+pub fn number_of(network: Network<'_>, points: &[u8], node: Option<u32>, table: Table<'_>) -> u32 {
+    let of_network = network_check(network);
+    let entries = points.len() * table.places as usize;
+    if of_network != 0 {
+        of_network
+    } else if !are_points(points, network) {
+        6
+    } else if node.is_some_and(|node| node as usize >= points.len()) {
+        7
+    } else if !(2..=17).contains(&table.places)
+        || table.ids.len() != entries
+        || table.distances.len() != entries
+    {
+        8
+    } else {
+        0
+    }
+}
+
+/// The first condition met of 1 to 8, 10, and 11 where the node's mark is not the one wanted, or 0.
+pub fn change_number(
     network: Network<'_>,
     points: &[u8],
-    node: Option<(u32, u8)>,
+    (node, mark): (u32, u8),
     scratch: usize,
     table: &TableMut<'_>,
 ) -> u32 {
-    let of_network = network_check(network);
-    if of_network != 0 {
-        return of_network;
-    }
-    let (n, arcs) = (network.starts.len() - 1, network.neighbours.len());
-    let places = table.places as usize;
-    if points.len() != n || points.iter().any(|&byte| byte > 1) {
-        6
-    } else if node.is_some_and(|(node, _)| node as usize >= n) {
-        7
-    } else if !(2..=17).contains(&places)
-        || table.ids.len() != n * places
-        || table.distances.len() != n * places
-    {
-        8
-    } else if scratch < 16 * n + 8 * (arcs + n) * places {
+    let number = number_of(network, points, Some(node), read(table));
+    if number != 0 {
+        number
+    } else if scratch < least_scratch(network, table.places as usize) {
         10
-    } else if node.is_some_and(|(node, mark)| points[node as usize] == mark) {
+    } else if points[node as usize] != mark {
         11
     } else {
         0

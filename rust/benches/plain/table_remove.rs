@@ -4,8 +4,8 @@
 //! node.
 
 use super::queue::{Entry, Queue};
-use super::table::{number_of, row};
-use overlap::{Network, TableMut, Update, NONE};
+use super::table::{change_number, row};
+use overlap::calls::{Network, TableMut, Update, NONE};
 
 #[inline(never)]
 pub fn remove(
@@ -15,20 +15,20 @@ pub fn remove(
     scratch: &mut [u32],
     mut table: TableMut<'_>,
 ) -> Update {
-    let number = number_of(network, points, Some((node, 0)), scratch.len(), &table);
+    let number = change_number(network, points, (node, 1), scratch.len(), &table);
     if number != 0 {
         return Update { number, changed: 0 };
     }
     let (n, arcs) = (points.len(), network.neighbours.len());
     let used = 3 * n + 2 * (arcs + 1);
-    scratch[..used].fill(0);
+    scratch.fill(0);
     points[node as usize] = 0;
     let (short, words) = scratch[..used].split_at_mut(n);
     let changed = free(node, short, &mut table);
     let mut queue = Queue::new(words);
     seed(network, points, short, &mut queue, &table);
     fill(network, short, &mut queue, &mut table);
-    scratch.fill(0);
+    scratch[..used].fill(0);
     Update { number, changed }
 }
 

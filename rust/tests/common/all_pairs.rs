@@ -2,7 +2,7 @@
 //! document 01 says by them.
 
 use super::rows::{distances_in, expanded_in, nearest_in, verify_in, Near, Row};
-use overlap::Network;
+use overlap::calls::Network;
 
 /// The row of each node.
 pub struct AllPairs {

@@ -4,7 +4,7 @@ use super::all_pairs::AllPairs;
 use super::network::OwnedNetwork;
 use super::numbers::plain_scratch_len;
 use super::table::PlainTable;
-use overlap::Update;
+use overlap::calls::Update;
 
 /// The kind of a call.
 #[derive(Clone, Copy, Debug, PartialEq, Eq)]

@@ -12,7 +12,7 @@ use super::shapes::{random_network, try_all_small_points};
 use super::table::{OwnedTable, PlainTable};
 use super::table_damage::damage;
 use super::tally::Tally;
-use overlap::{Network, TableMut, Update};
+use overlap::calls::{Network, TableMut, Update};
 use std::marker::PhantomData;
 
 /// The form of such a call: its network, points, node, scratch and table.

@@ -1,5 +1,5 @@
-//! What the test programs, the example and the benchmarks share. All of it is written from document
-//! 01 and knows nothing of how the engine works.
+//! What the test programs and the benchmarks share. All of it is written from document 01 and knows
+//! nothing of how the engine works.
 
 // Each program uses a part of this.
 #![allow(dead_code)]
@@ -8,6 +8,7 @@ pub mod all_pairs;
 pub mod book;
 pub mod call;
 pub mod change;
+pub mod change_cases;
 pub mod damage;
 pub mod faults;
 pub mod inputs;

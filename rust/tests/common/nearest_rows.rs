@@ -2,7 +2,7 @@
 //! and counts of document 01 by them.
 
 use super::rows::Row;
-use overlap::Network;
+use overlap::calls::Network;
 use std::cmp::Reverse;
 use std::collections::BinaryHeap;
 

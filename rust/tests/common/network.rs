@@ -1,6 +1,6 @@
 //! A network that owns its arrays, and network N of document 01.
 
-use overlap::Network;
+use overlap::calls::Network;
 
 /// A road between two nodes and its weight.
 pub type Road = (u32, u32, u32);

@@ -1,7 +1,7 @@
 //! The number of each call: the first condition met of document 01's table of refusals.
 
 use super::plain::plain_check;
-use overlap::Network;
+use overlap::calls::Network;
 
 /// "Length S = 16 × n + 8 × (A + n) × m entries". The network is an accepted one and m at most 17.
 pub fn plain_scratch_len(network: Network<'_>, m: u32) -> usize {

@@ -1,6 +1,6 @@
 //! The network check, stated again from document 01's table of refusals, condition by condition.
 
-use overlap::Network;
+use overlap::calls::Network;
 use std::collections::HashSet;
 use std::ops::Range;
 

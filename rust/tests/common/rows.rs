@@ -1,6 +1,6 @@
 //! The distances of one node, and what document 01 says by them alone.
 
-use overlap::{Network, NONE};
+use overlap::calls::{Network, NONE};
 use std::collections::VecDeque;
 
 /// Document 01: "Every distance is at most 4,294,770,690."

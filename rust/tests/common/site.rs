@@ -7,7 +7,7 @@ use super::network::OwnedNetwork;
 use super::numbers::{plain_scratch_len, search_number};
 use super::random::Random;
 use super::tally::Tally;
-use overlap::{eager, Listing, Network};
+use overlap::calls::{eager, Listing, Network};
 
 /// The form of a search without a limit: its network, points, q, k, scratch and answers.
 pub type SearchCall<Answer = Listing> =

@@ -8,7 +8,7 @@ use super::network::OwnedNetwork;
 use super::numbers::{plain_scratch_len, TableSizes};
 use super::random::Random;
 use super::rows::Near;
-use overlap::{build, Table, TableMut, NONE};
+use overlap::calls::{build, Table, TableMut, NONE};
 
 /// "Two arrays of n × K entries, ids and distances".
 #[derive(Clone, Debug, PartialEq, Eq)]

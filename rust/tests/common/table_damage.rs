@@ -3,7 +3,7 @@
 
 use super::random::Random;
 use super::table::PlainTable;
-use overlap::NONE;
+use overlap::calls::NONE;
 
 pub type Damage = fn(&mut PlainTable, &mut Random);
 

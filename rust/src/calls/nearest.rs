@@ -1,6 +1,6 @@
 //! The nearest points of a node.
 
-use crate::{ffi, Listing, Network};
+use super::{ffi, Listing, Network};
 
 /// The arrays in which [`nearest`] puts its answer. Document 01: "ids and distances in two arrays".
 #[derive(Debug)]
@@ -15,18 +15,18 @@ pub struct Found<'a> {
 /// node, cut after the first k; ids and distances in two arrays."
 ///
 /// "Points (lockers) are a lent byte array of n entries: 1 is a point, 0 none." A point on the node
-/// itself has distance 0. With e = [`NONE`](crate::NONE) all points that can be reached come into
+/// itself has distance 0. With e = [`NONE`](super::NONE) all points that can be reached come into
 /// question.
 ///
 /// The answer is number 0 and the length of the list, or the first condition met of 1 to 7, 9 and
-/// 10. Scratch has at least [`scratch_len`](crate::scratch_len)`(network, k)` entries of any
+/// 10. Scratch has at least [`scratch_len`](super::scratch_len)`(network, k)` entries of any
 /// contents, and both arrays of `found` have at least k.
 ///
 /// "An accepted call with scratch leaves it all zero. Answer arrays hold the answer, then their old
 /// entries." "A refusal returns its number, count 0 and no, and changes no buffer".
 ///
 /// ```
-/// use overlap::{nearest, scratch_len, Found, Network, NONE};
+/// use overlap::calls::{nearest, scratch_len, Found, Network, NONE};
 ///
 /// # fn main() -> Result<(), overlap::Refusal> {
 /// // Network N of document 01.

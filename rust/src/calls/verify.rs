@@ -1,6 +1,6 @@
 //! The verification of one point.
 
-use crate::{ffi, Network, Verdict};
+use super::{ffi, Network, Verdict};
 
 /// Document 01: "Verify: for a marked p and q, yes or no by the rule above."
 ///
@@ -9,13 +9,13 @@ use crate::{ffi, Network, Verdict};
 /// listed."
 ///
 /// The answer is number 0 with yes or no, or the first condition met of 1 to 7 and 9 to 11. Scratch
-/// has at least [`scratch_len`](crate::scratch_len)`(network, k)` entries of any contents.
+/// has at least [`scratch_len`](super::scratch_len)`(network, k)` entries of any contents.
 ///
 /// "An accepted call with scratch leaves it all zero." "A refusal returns its number, count 0 and
 /// no, and changes no buffer".
 ///
 /// ```
-/// use overlap::{scratch_len, verify, Network};
+/// use overlap::calls::{scratch_len, verify, Network};
 ///
 /// # fn main() -> Result<(), overlap::Refusal> {
 /// // Network N of document 01.

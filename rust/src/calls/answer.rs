@@ -1,12 +1,13 @@
 //! From the answer of a call to a `Result`.
 
-use crate::{accepted, Listing, Refusal, Update, Verdict};
+use super::{accepted, Listing, Update, Verdict};
+use crate::Refusal;
 
 impl Listing {
     /// The listing of an accepted call.
     ///
     /// ```
-    /// use overlap::Listing;
+    /// use overlap::calls::Listing;
     ///
     /// let two_points = Listing { number: 0, count: 0, length: 2 };
     /// assert_eq!(two_points.accepted().unwrap().length, 2);
@@ -25,7 +26,7 @@ impl Verdict {
     /// The yes (`true`) or no (`false`) of an accepted call.
     ///
     /// ```
-    /// use overlap::Verdict;
+    /// use overlap::calls::Verdict;
     ///
     /// assert_eq!(Verdict { number: 0, yes: 1 }.accepted(), Ok(true));
     /// assert_eq!(Verdict { number: 0, yes: 0 }.accepted(), Ok(false));
@@ -44,7 +45,7 @@ impl Update {
     /// The number of rows that an accepted call changed.
     ///
     /// ```
-    /// use overlap::Update;
+    /// use overlap::calls::Update;
     ///
     /// assert_eq!(Update { number: 0, changed: 4 }.accepted(), Ok(4));
     /// assert!(Update { number: 11, changed: 0 }.accepted().is_err());

@@ -1,6 +1,6 @@
 //! The length of the scratch.
 
-use crate::Network;
+use super::Network;
 
 /// Document 01: "Scratch is a lent array of 32-bit numbers. Length S = 16 × n + 8 × (A + n) × m
 /// entries; m is the k of a search, verify or nearest call (1 for the short query), K for build,
@@ -10,7 +10,7 @@ use crate::Network;
 /// less than the length of starts, or 0 where starts is empty; A is the length of neighbours.
 ///
 /// ```
-/// use overlap::{scratch_len, Network};
+/// use overlap::calls::{scratch_len, Network};
 ///
 /// // Three nodes, the roads 0-1 of 4 and 1-2 of 3: n = 3 and A = 4.
 /// let network = Network {

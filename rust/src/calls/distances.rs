@@ -1,6 +1,6 @@
 //! Distances from a node.
 
-use crate::{ffi, Network};
+use super::{ffi, Network};
 
 /// Document 01: "Distances from a node: n entries, NONE where none."
 ///
@@ -8,15 +8,15 @@ use crate::{ffi, Network};
 /// b can't be reached."
 ///
 /// The answer is the number: 0, or the first condition met of 1 to 5, 7 and 10, of which
-/// [`meaning`](crate::meaning) gives the wording and [`accepted`](crate::accepted) makes a
-/// `Result`. Scratch has at least [`scratch_len`](crate::scratch_len)`(network, 1)` entries of any
+/// [`meaning`](super::meaning) gives the wording and [`accepted`](super::accepted) makes a
+/// `Result`. Scratch has at least [`scratch_len`](super::scratch_len)`(network, 1)` entries of any
 /// contents, and answers at least n.
 ///
 /// "An accepted call with scratch leaves it all zero. Answer arrays hold the answer, then their old
 /// entries." "A refusal [...] changes no buffer".
 ///
 /// ```
-/// use overlap::{accepted, distances, scratch_len, Network, NONE};
+/// use overlap::calls::{accepted, distances, scratch_len, Network, NONE};
 ///
 /// # fn main() -> Result<(), overlap::Refusal> {
 /// // Network N of document 01.

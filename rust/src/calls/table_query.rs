@@ -1,15 +1,15 @@
 //! The table query: the points that list a site, by the table.
 
-use crate::{ffi, Listing, Network, Table};
+use super::{ffi, Listing, Network, Table};
 
 /// Document 01: "Table query (eager-M): the list, k from 1 to K - 1, since a point's row spends one
 /// place on itself."
 ///
-/// The list is the one that [`eager`](crate::eager) gives for a limit that it keeps; this call has no
+/// The list is the one that [`eager`](super::eager) gives for a limit that it keeps; this call has no
 /// limit and counts nothing.
 ///
 /// The answer is number 0 and the length of the list, with count 0, or the first condition met of 1
-/// to 10. Scratch has at least [`scratch_len`](crate::scratch_len)`(network, k)` entries of any
+/// to 10. Scratch has at least [`scratch_len`](super::scratch_len)`(network, k)` entries of any
 /// contents, and `answers` at least n.
 ///
 /// "Insert, remove and table query don't test a lent table. On one that the check would deny, the
@@ -18,7 +18,7 @@ use crate::{ffi, Listing, Network, Table};
 /// returns its number, count 0 and no, and changes no buffer".
 ///
 /// ```
-/// use overlap::{table_query, scratch_len, Network, Table, NONE};
+/// use overlap::calls::{table_query, scratch_len, Network, Table, NONE};
 ///
 /// # fn main() -> Result<(), overlap::Refusal> {
 /// // Network N of document 01 and its table with K = 3.

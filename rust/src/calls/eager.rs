@@ -1,13 +1,13 @@
 //! Eager and the short query: the points that list a site.
 
-use crate::{ffi, Listing, Network};
+use super::{ffi, Listing, Network};
 
 /// Document 01: "Eager (000, Fig. 4): expands outward from q, stops behind a node with k points
 /// strictly nearer than q. It takes a 32-bit limit and returns the list and the count of nodes
 /// expanded."
 ///
 /// The answer is number 0, the length of the list and the count, or the first condition met of 1 to
-/// 7, 9, 10 and 12. Scratch has at least [`scratch_len`](crate::scratch_len)`(network, k)` entries
+/// 7, 9, 10 and 12. Scratch has at least [`scratch_len`](super::scratch_len)`(network, k)` entries
 /// of any contents, and `answers` at least n.
 ///
 /// "Lists are ascending by node." "An accepted call with scratch leaves it all zero. Answer arrays
@@ -15,7 +15,7 @@ use crate::{ffi, Listing, Network};
 /// changes no buffer; 12 alone leaves the scratch all zero."
 ///
 /// ```
-/// use overlap::{eager, scratch_len, Network};
+/// use overlap::calls::{eager, scratch_len, Network};
 ///
 /// # fn main() -> Result<(), overlap::Refusal> {
 /// // Network N of document 01.
@@ -81,7 +81,7 @@ pub fn eager(
 /// The answer and all that the call leaves are those of [`eager`]; no condition 9 or 12 can be met.
 ///
 /// ```
-/// use overlap::{scratch_len, short_query, Network};
+/// use overlap::calls::{scratch_len, short_query, Network};
 ///
 /// # fn main() -> Result<(), overlap::Refusal> {
 /// // Network N of document 01.

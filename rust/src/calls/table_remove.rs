@@ -1,16 +1,16 @@
 //! Removal of a point from the table.
 
-use crate::table::change;
-use crate::{ffi, Network, TableMut, Update};
+use super::table::change;
+use super::{ffi, Network, TableMut, Update};
 
 /// Document 01: "[...] remove clears one; each brings the table up to date and returns the number of
 /// rows whose contents differ before and after."
 ///
-/// The answer and all that the call leaves are those of [`insert`](crate::insert), but that the node
+/// The answer and all that the call leaves are those of [`insert`](super::insert), but that the node
 /// is a point before and none after.
 ///
 /// ```
-/// use overlap::{accepted, build, remove, scratch_len, Network, TableMut};
+/// use overlap::calls::{accepted, build, remove, scratch_len, Network, TableMut};
 ///
 /// # fn main() -> Result<(), overlap::Refusal> {
 /// // Network N of document 01.

@@ -1,15 +1,15 @@
 //! Lazy and lazy-EP: the points that list a site, again.
 
-use crate::{ffi, Listing, Network};
+use super::{ffi, Listing, Network};
 
 /// Document 01: "Lazy (000, 3.3) [...]: the list."
 ///
 /// It expands outward from q and verifies each point that it comes to; the nodes that a
-/// verification visits may be pruned. The list is the one that [`eager`](crate::eager) gives for a
+/// verification visits may be pruned. The list is the one that [`eager`](super::eager) gives for a
 /// limit that it keeps; this call has no limit and counts nothing.
 ///
 /// The answer is number 0 and the length of the list, with count 0, or the first condition met of 1
-/// to 7, 9 and 10. Scratch has at least [`scratch_len`](crate::scratch_len)`(network, k)` entries of
+/// to 7, 9 and 10. Scratch has at least [`scratch_len`](super::scratch_len)`(network, k)` entries of
 /// any contents, and `answers` at least n.
 ///
 /// "Lists are ascending by node." "An accepted call with scratch leaves it all zero. Answer arrays
@@ -17,7 +17,7 @@ use crate::{ffi, Listing, Network};
 /// changes no buffer".
 ///
 /// ```
-/// use overlap::{lazy, scratch_len, Network};
+/// use overlap::calls::{lazy, scratch_len, Network};
 ///
 /// # fn main() -> Result<(), overlap::Refusal> {
 /// // Network N of document 01.
@@ -58,7 +58,7 @@ pub fn lazy(
 /// The answer and all that the call leaves are those of [`lazy`].
 ///
 /// ```
-/// use overlap::{lazy_ep, scratch_len, Network};
+/// use overlap::calls::{lazy_ep, scratch_len, Network};
 ///
 /// # fn main() -> Result<(), overlap::Refusal> {
 /// // Network N of document 01.

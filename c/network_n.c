@@ -1,0 +1,303 @@
+/* Network N of document 01 through every call of overlap.h.
+ *
+ * From the repository root, with the library that `rt staticlib overlap` builds:
+ *
+ *     cc -std=c11 -Wall -Wextra -Wpedantic -Werror -Iinclude c/network_n.c target/staticlib/liboverlap.a -o target/network_n
+ *     target/network_n
+ *
+ * The gate compares the output with network_n.expected, which is worked out from document 01.
+ */
+#include "overlap.h"
+
+#include <stdio.h>
+#include <stdlib.h>
+
+/* N has 6 nodes and 10 arcs; this program uses k = 1 and 2, K = 2 and 3. */
+enum { NODES = 6, ARCS = 10, MOST_PLACES = 3 };
+
+/* Document 01: "Length S = 16 x n + 8 x (A + n) x m entries". */
+#define SCRATCH_LEN(n, arcs, m) (16 * (n) + 8 * ((arcs) + (n)) * (m))
+
+/* The three arrays of a network with their lengths. */
+typedef struct {
+    const uint32_t *starts;
+    size_t starts_len;
+    const uint32_t *neighbours;
+    size_t neighbours_len;
+    const uint32_t *weights;
+    size_t weights_len;
+} network;
+
+/* The parameters of overlap.h in a call: a network, an array, a table. */
+#define LEND_NETWORK(g) (g).starts, (g).starts_len, (g).neighbours, (g).neighbours_len, (g).weights, (g).weights_len
+#define LEND(array) (array), sizeof(array) / sizeof *(array)
+#define LEND_SCRATCH LEND(scratch)
+
+/* A network of literal arrays. */
+#define NETWORK(starts, neighbours, weights) { LEND(starts), LEND(neighbours), LEND(weights) }
+
+static const uint32_t n_starts[] = { 0, 2, 4, 6, 8, 10, 10 };
+static const uint32_t n_neighbours[ARCS] = { 1, 3, 0, 2, 1, 4, 0, 4, 2, 3 };
+static const uint32_t n_weights[ARCS] = { 4, 5, 4, 3, 3, 7, 5, 3, 7, 3 };
+static const uint32_t p7_weights[ARCS] = { 4, 5, 4, 3, 3, 6, 5, 3, 6, 3 };
+static const network n = NETWORK(n_starts, n_neighbours, n_weights);
+static const network p7 = NETWORK(n_starts, n_neighbours, p7_weights);
+
+static const uint8_t n_points[NODES] = { 0, 0, 1, 0, 1, 1 };
+static const uint8_t no_points[NODES] = { 0 };
+
+/* One array serves all calls: it may be longer than S, and an accepted call leaves it all zero. */
+static uint32_t scratch[SCRATCH_LEN(NODES, ARCS, MOST_PLACES)];
+
+/* Ends the program where a call is refused that must not be. */
+static void expect_accepted(uint32_t number)
+{
+    if (number != 0) {
+        fprintf(stderr, "refused by number %u\n", (unsigned)number);
+        exit(EXIT_FAILURE);
+    }
+}
+
+static void print_word(uint32_t word)
+{
+    if (word == OVERLAP_NONE)
+        printf("NONE");
+    else
+        printf("%u", (unsigned)word);
+}
+
+static void print_words(const uint32_t *words, size_t length)
+{
+    for (size_t i = 0; i < length; i++) {
+        if (i > 0)
+            printf(", ");
+        print_word(words[i]);
+    }
+}
+
+/* Points with their distances. */
+static void print_near(const uint32_t *ids, const uint32_t *distances, size_t length)
+{
+    for (size_t i = 0; i < length; i++) {
+        printf(i > 0 ? ", (" : " (");
+        print_word(ids[i]);
+        printf(", ");
+        print_word(distances[i]);
+        printf(")");
+    }
+    printf("\n");
+}
+
+static void print_picture(void)
+{
+    printf("Network N of document 01. A star marks a point.\n"
+           "\n"
+           "       4       3\n"
+           "   0 ----- 1 ----- 2*\n"
+           "   |               |\n"
+           " 5 |               | 7\n"
+           "   |               |\n"
+           "   3 ------------- 4*     5*\n"
+           "           3\n");
+}
+
+static void print_distances(void)
+{
+    printf("\nDistances\n");
+    for (uint32_t node = 0; node < NODES; node++) {
+        uint32_t answers[NODES];
+        expect_accepted(overlap_distances(LEND_NETWORK(n), node, LEND_SCRATCH, LEND(answers)));
+        printf("from %u: ", (unsigned)node);
+        print_words(answers, NODES);
+        printf("\n");
+    }
+}
+
+/* Prints the two nearest points of a node, of those nearer than e. */
+static void print_nearest_of(uint32_t node, uint32_t e)
+{
+    uint32_t ids[2], distances[2];
+    overlap_listing found = overlap_nearest(LEND_NETWORK(n), LEND(n_points), node, e, 2, LEND_SCRATCH, LEND(ids),
+                                            LEND(distances));
+    expect_accepted(found.number);
+    print_near(ids, distances, found.length);
+}
+
+static void print_nearest(void)
+{
+    printf("\nNearest, k = 2\n");
+    for (uint32_t node = 0; node < NODES; node++) {
+        printf("of %u:", (unsigned)node);
+        print_nearest_of(node, OVERLAP_NONE);
+    }
+    printf("of 0, below 8:");
+    print_nearest_of(0, 8);
+}
+
+static const char *verdict_of(uint32_t p, uint32_t k)
+{
+    overlap_verdict verdict = overlap_verify(LEND_NETWORK(n), LEND(n_points), p, 0, k, LEND_SCRATCH);
+    expect_accepted(verdict.number);
+    return verdict.yes ? "yes" : "no";
+}
+
+static void print_verdicts(void)
+{
+    static const uint32_t points[] = { 2, 4, 5 };
+    printf("\nVerify: is a site on 0 among the k nearest of the point?\n");
+    for (size_t i = 0; i < 3; i++) {
+        uint32_t p = points[i];
+        printf("point %u: k = 1 %s, k = 2 %s\n", (unsigned)p, verdict_of(p, 1), verdict_of(p, 2));
+    }
+}
+
+/* Prints the list that a search has put into the answers. */
+static void print_list(overlap_listing listing, const uint32_t *answers)
+{
+    expect_accepted(listing.number);
+    printf("{");
+    print_words(answers, listing.length);
+    printf("}");
+}
+
+/* The list of a site by the table of the points, which is built for it. */
+static void print_by_table(network g, const uint8_t points[NODES], uint32_t q, uint32_t k)
+{
+    uint32_t answers[NODES], ids[NODES * MOST_PLACES], distances[NODES * MOST_PLACES];
+    expect_accepted(overlap_build(LEND_NETWORK(g), points, NODES, MOST_PLACES, LEND_SCRATCH, LEND(ids), LEND(distances)));
+    print_list(overlap_table_query(LEND_NETWORK(g), points, NODES, q, k, MOST_PLACES, LEND(ids), LEND(distances),
+                                   LEND_SCRATCH, LEND(answers)), answers);
+}
+
+/* The list of a site by all four searches. */
+static void print_case(const char *name, network g, const uint8_t points[NODES], uint32_t q, uint32_t k)
+{
+    uint32_t answers[NODES];
+    overlap_listing eager = overlap_eager(LEND_NETWORK(g), points, NODES, q, k, 65535, LEND_SCRATCH, LEND(answers));
+    printf("%s, q %u, k %u: eager ", name, (unsigned)q, (unsigned)k);
+    print_list(eager, answers);
+    printf(" expanded %u, lazy ", (unsigned)eager.count);
+    print_list(overlap_lazy(LEND_NETWORK(g), points, NODES, q, k, LEND_SCRATCH, LEND(answers)), answers);
+    printf(", lazy-EP ");
+    print_list(overlap_lazy_ep(LEND_NETWORK(g), points, NODES, q, k, LEND_SCRATCH, LEND(answers)), answers);
+    printf(", table ");
+    print_by_table(g, points, q, k);
+    printf("\n");
+}
+
+static void print_short_query(uint32_t q)
+{
+    uint32_t answers[NODES];
+    overlap_listing listing = overlap_short_query(LEND_NETWORK(n), LEND(n_points), q, LEND_SCRATCH, LEND(answers));
+    printf("short query, q %u: ", (unsigned)q);
+    print_list(listing, answers);
+    printf(" expanded %u\n", (unsigned)listing.count);
+}
+
+static void print_cases(void)
+{
+    printf("\nWhat a site receives\n");
+    print_case("P1", n, n_points, 0, 1);
+    print_case("P2", n, n_points, 0, 2);
+    print_case("P3", n, n_points, 1, 1);
+    print_case("P4", n, n_points, 2, 1);
+    print_case("P5", n, n_points, 5, 1);
+    print_case("P6, no points", n, no_points, 0, 1);
+    print_case("P7, road 2-4 of 6", p7, n_points, 0, 1);
+    print_short_query(3);
+    print_short_query(4);
+}
+
+static void print_rows(const uint32_t *ids, const uint32_t *distances, size_t rows)
+{
+    for (size_t i = 0; i < rows; i++) {
+        printf("row %u:", (unsigned)i);
+        print_near(ids + i * 2, distances + i * 2, 2);
+    }
+}
+
+static void print_check(const uint8_t points[NODES], const uint32_t ids[NODES * 2], const uint32_t distances[NODES * 2])
+{
+    overlap_verdict verdict = overlap_table_check(LEND_NETWORK(n), points, NODES, 2, ids, NODES * 2, distances, NODES * 2);
+    expect_accepted(verdict.number);
+    printf("check: %s\n", verdict.yes ? "yes" : "no");
+}
+
+static void print_table(void)
+{
+    uint8_t points[NODES] = { 0, 0, 1, 0, 1, 1 };
+    uint32_t ids[NODES * 2], distances[NODES * 2];
+    printf("\nThe table, K = 2\n");
+    expect_accepted(overlap_build(LEND_NETWORK(n), LEND(points), 2, LEND_SCRATCH, LEND(ids), LEND(distances)));
+    print_rows(ids, distances, NODES);
+    print_check(points, ids, distances);
+
+    overlap_update update = overlap_insert(LEND_NETWORK(n), LEND(points), 0, 2, LEND_SCRATCH, LEND(ids), LEND(distances));
+    expect_accepted(update.number);
+    printf("insert 0: %u rows changed\n", (unsigned)update.changed);
+    print_rows(ids, distances, NODES);
+    print_check(points, ids, distances);
+
+    update = overlap_remove(LEND_NETWORK(n), LEND(points), 0, 2, LEND_SCRATCH, LEND(ids), LEND(distances));
+    expect_accepted(update.number);
+    printf("remove 0: %u rows changed\n", (unsigned)update.changed);
+    print_rows(ids, distances, 1);
+    print_check(points, ids, distances);
+}
+
+static void print_number(uint32_t number, const char *example)
+{
+    printf("%u: %s\n", (unsigned)number, example);
+}
+
+/* The examples of numbers 1 to 5, on networks of two nodes. */
+static void print_network_numbers(void)
+{
+    static const uint32_t starts[] = { 0, 1, 2 }, falling[] = { 0, 2, 1 };
+    static const uint32_t neighbours[] = { 1, 0 }, own[] = { 0, 0 };
+    static const uint32_t weights[] = { 4, 4 }, heavy[] = { 65536, 65536 }, uneven[] = { 4, 5 };
+    const network one = { starts, 1, neighbours, 0, weights, 0 };
+    const network falls = NETWORK(falling, neighbours, weights);
+    const network to_itself = NETWORK(starts, own, weights);
+    const network too_heavy = NETWORK(starts, neighbours, heavy);
+    const network no_return = NETWORK(starts, neighbours, uneven);
+    print_number(overlap_network_check(LEND_NETWORK(n)), "N");
+    print_number(overlap_network_check(LEND_NETWORK(one)), "starts of 1 entry");
+    print_number(overlap_network_check(LEND_NETWORK(falls)), "starts 0, 2, 1");
+    print_number(overlap_network_check(LEND_NETWORK(to_itself)), "n = 2, node 0 to 0");
+    print_number(overlap_network_check(LEND_NETWORK(too_heavy)), "weight 65,536");
+    print_number(overlap_network_check(LEND_NETWORK(no_return)), "0 to 1 of 4, 1 to 0 of 5");
+}
+
+/* The examples of numbers 6 to 12, on network N. */
+static void print_other_numbers(void)
+{
+    static const uint8_t byte_2[NODES] = { 0, 0, 2, 0, 1, 1 };
+    uint8_t points[NODES] = { 0, 0, 1, 0, 1, 1 };
+    uint32_t answers[NODES], ids[NODES * 2], distances[NODES * 2];
+    expect_accepted(overlap_build(LEND_NETWORK(n), LEND(points), 2, LEND_SCRATCH, LEND(ids), LEND(distances)));
+    print_number(overlap_short_query(LEND_NETWORK(n), LEND(byte_2), 0, LEND_SCRATCH, LEND(answers)).number, "N, byte 2");
+    print_number(overlap_distances(LEND_NETWORK(n), 6, LEND_SCRATCH, LEND(answers)), "N, node 6");
+    print_number(overlap_table_check(LEND_NETWORK(n), LEND(points), 2, ids, 11, LEND(distances)).number, "N, K = 2, 11 ids");
+    print_number(overlap_table_query(LEND_NETWORK(n), LEND(points), 0, 2, 2, LEND(ids), LEND(distances), LEND_SCRATCH,
+                                     LEND(answers)).number, "K = 2, k = 2");
+    print_number(overlap_distances(LEND_NETWORK(n), 0, LEND_SCRATCH, answers, 5), "N, 5 answer places");
+    print_number(overlap_insert(LEND_NETWORK(n), LEND(points), 2, 2, LEND_SCRATCH, LEND(ids), LEND(distances)).number,
+                 "N, insert 2");
+    print_number(overlap_eager(LEND_NETWORK(n), LEND(points), 0, 2, 3, LEND_SCRATCH, LEND(answers)).number,
+                 "N, q = 0, k = 2, limit 3");
+}
+
+int main(void)
+{
+    print_picture();
+    print_distances();
+    print_nearest();
+    print_verdicts();
+    print_cases();
+    print_table();
+    printf("\nNumbers of refusal, by the example of each\n");
+    print_network_numbers();
+    print_other_numbers();
+    return EXIT_SUCCESS;
+}

@@ -1,0 +1,84 @@
+//! Sees that the engine and its twins answer the same and leave the same arrays. A time is compared
+//! only where the work is the same.
+
+use super::calls::{self, Answer, Call, Query, ENGINE, PLAIN, TABLE_CHECK};
+use super::common::damage::damage;
+use super::common::inputs::{no_k, no_node, some_k, some_node, some_places, some_points};
+use super::common::network::OwnedNetwork;
+use super::common::random::Random;
+use super::common::shapes::random_network;
+use super::lent::{Lent, Written};
+
+/// Runs a call by both from the same arrays and returns the answer, which is the same.
+pub fn assert_same(lent: &mut Lent<'_>, call: Call, query: Query, before: &Written) -> Answer {
+    let engine = lent.outcome(&ENGINE, call, query, before);
+    let twin = lent.outcome(&PLAIN, call, query, before);
+    assert!(engine == twin, "{} differs: {query:?}", call.name);
+    engine.answer
+}
+
+/// Tries every call on so many small random networks, and returns how many calls were accepted and
+/// how many refused.
+pub fn try_small_networks(networks: u64) -> (usize, usize) {
+    let mut answers = Vec::new();
+    for seed in 0..networks {
+        let mut random = Random::new(seed);
+        let mut network = random_network(&mut random);
+        let points = some_points(&network, &mut random);
+        answers.extend(try_calls(&network, &points, &mut random));
+        let times = random.pick(&[0, 0, 1, 2]);
+        damage(&mut network, times, &mut random);
+        answers.extend(try_calls(&network, &points, &mut random));
+    }
+    let accepted = answers.iter().filter(|answer| answer.0 == 0).count();
+    (accepted, answers.len() - accepted)
+}
+
+/// Tries every call, and the table check on a table with one word changed as well.
+fn try_calls(network: &OwnedNetwork, points: &[u8], random: &mut Random) -> Vec<Answer> {
+    let mut lent = Lent::built(network.lend(), points, some_places(random), 17);
+    let before = lent.written.clone();
+    let mut answers = Vec::new();
+    for call in calls::ALL {
+        let query = some_query(network, random);
+        answers.push(assert_same(&mut lent, call, query, &before));
+    }
+    let query = some_query(network, random);
+    let changed = with_one_word_changed(before, random);
+    answers.push(assert_same(&mut lent, TABLE_CHECK, query, &changed));
+    answers
+}
+
+fn with_one_word_changed(mut written: Written, random: &mut Random) -> Written {
+    let words = if random.once_in(2) {
+        &mut written.ids
+    } else {
+        &mut written.distances
+    };
+    if let Some(place) = random.index(words.len()) {
+        words[place] = words[place].wrapping_add(random.pick(&[1, 2, u32::MAX]));
+    }
+    written
+}
+
+/// A query that is mostly accepted.
+fn some_query(network: &OwnedNetwork, random: &mut Random) -> Query {
+    let mut node = || match network.starts.len() {
+        0 | 1 => 0,
+        _ if random.once_in(16) => no_node(network, random),
+        _ => some_node(network, random),
+    };
+    let (site, point) = (node(), node());
+    let k = if random.once_in(16) {
+        no_k(random).min(17)
+    } else {
+        some_k(random)
+    };
+    let limit = random.pick(&[0, 3, 65_535, 65_535]);
+    Query {
+        site,
+        point,
+        k,
+        limit,
+    }
+}

@@ -1,0 +1,238 @@
+//! Every call in one form, by the engine and by plain Rust.
+
+use super::common::change::ChangeCall;
+use super::common::site::SearchCall;
+use super::lent::Lent;
+use super::plain;
+use overlap::calls::{Found, Listing, Network, Table, TableMut, Verdict, NONE};
+
+/// The functions of the engine, or their twins in plain Rust.
+pub struct Functions {
+    network_check: fn(Network<'_>) -> u32,
+    distances: fn(Network<'_>, u32, &mut [u32], &mut [u32]) -> u32,
+    nearest: fn(Network<'_>, &[u8], u32, u32, u32, &mut [u32], Found<'_>) -> Listing,
+    verify: fn(Network<'_>, &[u8], u32, u32, u32, &mut [u32]) -> Verdict,
+    eager: fn(Network<'_>, &[u8], u32, u32, u32, &mut [u32], &mut [u32]) -> Listing,
+    short_query: fn(Network<'_>, &[u8], u32, &mut [u32], &mut [u32]) -> Listing,
+    lazy: SearchCall,
+    lazy_ep: SearchCall,
+    build: fn(Network<'_>, &[u8], &mut [u32], TableMut<'_>) -> u32,
+    insert: ChangeCall,
+    remove: ChangeCall,
+    table_query: fn(Network<'_>, &[u8], u32, u32, Table<'_>, &mut [u32], &mut [u32]) -> Listing,
+    table_check: fn(Network<'_>, &[u8], Table<'_>) -> Verdict,
+}
+
+pub const ENGINE: Functions = Functions {
+    network_check: overlap::calls::network_check,
+    distances: overlap::calls::distances,
+    nearest: overlap::calls::nearest,
+    verify: overlap::calls::verify,
+    eager: overlap::calls::eager,
+    short_query: overlap::calls::short_query,
+    lazy: overlap::calls::lazy,
+    lazy_ep: overlap::calls::lazy_ep,
+    build: overlap::calls::build,
+    insert: overlap::calls::insert,
+    remove: overlap::calls::remove,
+    table_query: overlap::calls::table_query,
+    table_check: overlap::calls::table_check,
+};
+
+pub const PLAIN: Functions = Functions {
+    network_check: plain::network_check,
+    distances: plain::distances,
+    nearest: plain::nearest,
+    verify: plain::verify,
+    eager: plain::eager,
+    short_query: plain::short_query,
+    lazy: plain::lazy,
+    lazy_ep: plain::lazy_ep,
+    build: plain::build,
+    insert: plain::insert,
+    remove: plain::remove,
+    table_query: plain::table_query,
+    table_check: plain::table_check,
+};
+
+/// What a call is asked: a site, a point, k, and eager's limit. Insert marks the site, remove clears
+/// the point.
+#[derive(Clone, Copy, Debug)]
+pub struct Query {
+    pub site: u32,
+    pub point: u32,
+    pub k: u32,
+    pub limit: u32,
+}
+
+/// The number, then the list's length, yes or the rows changed, then eager's count.
+pub type Answer = (u32, usize, u32);
+
+/// A call: its name and how it is run.
+#[derive(Clone, Copy)]
+pub struct Call {
+    pub name: &'static str,
+    pub run: fn(&Functions, &mut Lent<'_>, Query) -> Answer,
+}
+
+const fn call(name: &'static str, run: fn(&Functions, &mut Lent<'_>, Query) -> Answer) -> Call {
+    Call { name, run }
+}
+
+pub const NETWORK_CHECK: Call = call("network check", |by, lent, _| {
+    ((by.network_check)(lent.network), 0, 0)
+});
+
+pub const DISTANCES: Call = call("distances", |by, lent, query| {
+    let (network, w) = (lent.network, &mut lent.written);
+    let scratch = lent.scratch.of(network, 1);
+    let number = (by.distances)(network, query.site, scratch, &mut w.answers);
+    (number, 0, 0)
+});
+
+pub const NEAREST: Call = call("nearest", |by, lent, Query { site, k, .. }| {
+    let (network, w) = (lent.network, &mut lent.written);
+    let scratch = lent.scratch.of(network, k);
+    let found = Found {
+        ids: &mut w.answers,
+        distances: &mut w.answer_distances,
+    };
+    of_listing((by.nearest)(
+        network, &w.points, site, NONE, k, scratch, found,
+    ))
+});
+
+pub const VERIFY: Call = call("verify", |by, lent, query| {
+    let (network, points) = (lent.network, &lent.written.points);
+    let scratch = lent.scratch.of(network, query.k);
+    of_verdict((by.verify)(
+        network,
+        points,
+        query.point,
+        query.site,
+        query.k,
+        scratch,
+    ))
+});
+
+pub const EAGER: Call = call("eager", |by, lent, query| {
+    let (network, w) = (lent.network, &mut lent.written);
+    let scratch = lent.scratch.of(network, query.k);
+    let (q, k, limit) = (query.site, query.k, query.limit);
+    of_listing((by.eager)(
+        network,
+        &w.points,
+        q,
+        k,
+        limit,
+        scratch,
+        &mut w.answers,
+    ))
+});
+
+pub const SHORT_QUERY: Call = call("short query", |by, lent, query| {
+    let (network, w) = (lent.network, &mut lent.written);
+    let scratch = lent.scratch.of(network, 1);
+    of_listing((by.short_query)(
+        network,
+        &w.points,
+        query.site,
+        scratch,
+        &mut w.answers,
+    ))
+});
+
+pub const LAZY: Call = call("lazy", |by, lent, query| search(by.lazy, lent, query));
+
+pub const LAZY_EP: Call = call("lazy-EP", |by, lent, query| search(by.lazy_ep, lent, query));
+
+pub const BUILD: Call = call("build", |by, lent, _| {
+    let scratch = lent.scratch.of(lent.network, lent.places);
+    let (points, table) = lent.written.points_and_table(lent.places);
+    ((by.build)(lent.network, points, scratch, table), 0, 0)
+});
+
+pub const INSERT: Call = call("insert", |by, lent, query| {
+    change(by.insert, lent, query.site)
+});
+
+pub const REMOVE: Call = call("remove", |by, lent, query| {
+    change(by.remove, lent, query.point)
+});
+
+pub const TABLE_QUERY: Call = call("table query", |by, lent, Query { site, k, .. }| {
+    let (network, w) = (lent.network, &mut lent.written);
+    let scratch = lent.scratch.of(network, k);
+    let table = Table {
+        places: lent.places,
+        ids: &w.ids,
+        distances: &w.distances,
+    };
+    of_listing((by.table_query)(
+        network,
+        &w.points,
+        site,
+        k,
+        table,
+        scratch,
+        &mut w.answers,
+    ))
+});
+
+pub const TABLE_CHECK: Call = call("table check", |by, lent, _| {
+    let w = &lent.written;
+    let table = Table {
+        places: lent.places,
+        ids: &w.ids,
+        distances: &w.distances,
+    };
+    of_verdict((by.table_check)(lent.network, &w.points, table))
+});
+
+/// Every call of the fixed interface.
+pub const ALL: [Call; 13] = [
+    NETWORK_CHECK,
+    DISTANCES,
+    NEAREST,
+    VERIFY,
+    EAGER,
+    SHORT_QUERY,
+    LAZY,
+    LAZY_EP,
+    BUILD,
+    INSERT,
+    REMOVE,
+    TABLE_QUERY,
+    TABLE_CHECK,
+];
+
+/// The calls that take a k.
+pub const BY_K: [Call; 6] = [NEAREST, VERIFY, EAGER, LAZY, LAZY_EP, TABLE_QUERY];
+
+fn search(search: SearchCall, lent: &mut Lent<'_>, query: Query) -> Answer {
+    let (network, w) = (lent.network, &mut lent.written);
+    let scratch = lent.scratch.of(network, query.k);
+    of_listing(search(
+        network,
+        &w.points,
+        query.site,
+        query.k,
+        scratch,
+        &mut w.answers,
+    ))
+}
+
+fn change(change: ChangeCall, lent: &mut Lent<'_>, node: u32) -> Answer {
+    let scratch = lent.scratch.of(lent.network, lent.places);
+    let (points, table) = lent.written.points_and_table(lent.places);
+    let update = change(lent.network, points, node, scratch, table);
+    (update.number, update.changed as usize, 0)
+}
+
+fn of_listing(listing: Listing) -> Answer {
+    (listing.number, listing.length, listing.count)
+}
+
+fn of_verdict(verdict: Verdict) -> Answer {
+    (verdict.number, verdict.yes as usize, 0)
+}

@@ -1,0 +1,76 @@
+//! How far the searches go, and where eager goes too far.
+
+use super::calls::{Call, Query, EAGER, ENGINE, LAZY, LAZY_EP};
+use super::common::network::{marks, OwnedNetwork};
+use super::common::shapes::{chain, figure_12, star, weight_by_product, weighted};
+use super::lent::Lent;
+use super::measure::{measure, Budget, Pairs};
+use super::networks::Subject;
+use super::plain;
+use overlap::calls::scratch_len;
+use std::ops::RangeInclusive;
+use std::time::Instant;
+
+/// The nodes that a search settles or expands: the least and the most of all sites.
+pub type Range = RangeInclusive<usize>;
+
+/// For each k: what eager expands, what lazy settles and what lazy-EP settles, by their twins.
+pub fn reach(subject: &Subject, k: u32) -> [Range; 3] {
+    let (network, points) = (subject.network.lend(), &subject.points);
+    let mut scratch = vec![0; scratch_len(network, k as usize)];
+    let mut answers = vec![0; points.len()];
+    let mut counts = [vec![], vec![], vec![]];
+    for Query { site, limit, .. } in subject.queries(k) {
+        let (s, a) = (&mut scratch, &mut answers);
+        let listing = plain::eager(network, points, site, k, limit, s, a);
+        counts[0].push(listing.count as usize);
+        counts[1].push(plain::lazy_and_settled(network, points, site, k, s, a).1);
+        counts[2].push(plain::lazy_ep_and_settled(network, points, site, k, s, a).1);
+    }
+    counts.map(|counts| {
+        let (least, most) = (counts.iter().min(), counts.iter().max());
+        *least.unwrap()..=*most.unwrap()
+    })
+}
+
+/// The nodes of the line in 000, Fig. 12.
+pub const LINE: u32 = 60_000;
+
+/// The searches in 000, Fig. 12, where lazy settles the whole line and lazy-EP none of it.
+pub fn figure_12_times(budget: Budget) -> Vec<(Call, Pairs)> {
+    let network = figure_12(1, LINE);
+    let points = marks(LINE + 4, &[1]);
+    let mut lent = Lent::new(network.lend(), &points, 2, 1);
+    let query = Query {
+        site: 0,
+        point: 1,
+        k: 1,
+        limit: 65_535,
+    };
+    let searches = [EAGER, LAZY, LAZY_EP].into_iter();
+    let mut times = |call| (call, measure(call, &mut lent, &[query], budget));
+    searches.map(&mut times).collect()
+}
+
+/// The milliseconds of one call of eager on a star with 3 points from a leaf with k = 3, and on a
+/// chain without points from an end with k = 1.
+pub fn eager_times(n: u32) -> (f64, f64) {
+    let spokes = weighted(n, &star(n, 0), weight_by_product);
+    let line = weighted(n, &chain(n), weight_by_product);
+    let on_star = eager_time(&spokes, &marks(n, &[1, 2, 3]), n - 1, 3);
+    (on_star, eager_time(&line, &marks(n, &[]), 0, 1))
+}
+
+fn eager_time(network: &OwnedNetwork, points: &[u8], site: u32, k: u32) -> f64 {
+    let mut lent = Lent::new(network.lend(), points, 2, k);
+    let query = Query {
+        site,
+        point: 0,
+        k,
+        limit: 65_535,
+    };
+    let start = Instant::now();
+    let answer = (EAGER.run)(&ENGINE, &mut lent, query);
+    assert_eq!(answer.0, 0);
+    start.elapsed().as_secs_f64() * 1e3
+}

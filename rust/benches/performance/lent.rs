@@ -1,0 +1,121 @@
+//! The arrays that calls are lent.
+
+use super::calls::{Answer, Call, Functions, Query, BUILD, ENGINE};
+use overlap::calls::{scratch_len, Network, TableMut};
+
+/// All that a call is lent.
+pub struct Lent<'a> {
+    pub network: Network<'a>,
+    /// K.
+    pub places: u32,
+    pub written: Written,
+    pub scratch: Scratch,
+}
+
+/// What a call may write beside scratch.
+#[derive(Clone, PartialEq, Eq)]
+pub struct Written {
+    pub points: Vec<u8>,
+    pub ids: Vec<u32>,
+    pub distances: Vec<u32>,
+    pub answers: Vec<u32>,
+    pub answer_distances: Vec<u32>,
+}
+
+/// Scratch for several m; a call is lent S words of it.
+pub struct Scratch {
+    words: Vec<u32>,
+}
+
+impl Scratch {
+    /// The S words of a call with this m, as far as there are so many.
+    pub fn of(&mut self, network: Network<'_>, m: u32) -> &mut [u32] {
+        let words = scratch_len(network, m as usize).min(self.words.len());
+        &mut self.words[..words]
+    }
+}
+
+impl Written {
+    /// The points, and the table that belongs to them.
+    pub fn points_and_table(&mut self, places: u32) -> (&mut [u8], TableMut<'_>) {
+        let table = TableMut {
+            places,
+            ids: &mut self.ids,
+            distances: &mut self.distances,
+        };
+        (&mut self.points, table)
+    }
+
+    /// Makes points and table those of another.
+    fn take_table_of(&mut self, other: &Self) {
+        self.points.clone_from(&other.points);
+        self.ids.clone_from(&other.ids);
+        self.distances.clone_from(&other.distances);
+    }
+}
+
+impl<'a> Lent<'a> {
+    /// Arrays with old entries, of the lengths that document 01 asks for a call with this K and an m
+    /// up to the one given.
+    pub fn new(network: Network<'a>, points: &[u8], places: u32, most_m: u32) -> Self {
+        let (n, entries) = (points.len(), points.len() * places as usize);
+        let written = Written {
+            points: points.to_vec(),
+            ids: vec![1; entries],
+            distances: vec![1; entries],
+            answers: vec![1; n.max(17)],
+            answer_distances: vec![1; n.max(17)],
+        };
+        Self {
+            network,
+            places,
+            written,
+            scratch: Scratch {
+                words: vec![1; scratch_len(network, most_m as usize)],
+            },
+        }
+    }
+
+    /// The same with the table of the points, where network and points are accepted.
+    pub fn built(network: Network<'a>, points: &[u8], places: u32, most_m: u32) -> Self {
+        let mut lent = Self::new(network, points, places, most_m);
+        let query = Query {
+            site: 0,
+            point: 0,
+            k: 1,
+            limit: 0,
+        };
+        (BUILD.run)(&ENGINE, &mut lent, query);
+        lent
+    }
+
+    /// Brings points and table back to what they were.
+    pub fn restore(&mut self, before: &Written) {
+        self.written.take_table_of(before);
+    }
+
+    /// What a call answers and leaves when it starts from these arrays and old entries in scratch.
+    pub fn outcome(
+        &mut self,
+        by: &Functions,
+        call: Call,
+        query: Query,
+        before: &Written,
+    ) -> Outcome {
+        self.written.clone_from(before);
+        self.scratch.words.fill(1);
+        Outcome {
+            answer: (call.run)(by, self, query),
+            written: self.written.clone(),
+            scratch: self.scratch.words.clone(),
+        }
+    }
+}
+
+/// What a call answers, and every array that it may write.
+#[derive(PartialEq, Eq)]
+pub struct Outcome {
+    pub answer: Answer,
+    written: Written,
+    scratch: Vec<u32>,
+}

@@ -1,0 +1,18 @@
+//! Reads a road list and a list of points, checks them, and prints who receives what.
+//!
+//! `cargo run --release --example roads -- ROADS POINTS [--site q].. [--k k] [--K K]`
+//!
+//! [`overlap::road_list`] says how the lists are written; `examples/data` has two of each. Without
+//! `--site` every junction is taken as a site. k is 1 unless it is given, and K is k + 1. A bad
+//! line is answered by a message that names it, and by exit status 1.
+
+mod report;
+
+use std::env;
+use std::io::{stderr, stdout};
+use std::process::ExitCode;
+
+fn main() -> ExitCode {
+    let arguments: Vec<String> = env::args().skip(1).collect();
+    ExitCode::from(report::run(&arguments, &mut stdout(), &mut stderr()))
+}

@@ -1,0 +1,156 @@
+//! What the program prints. `tests/roads.rs` includes this file and compares the output.
+
+use overlap::road_list::{read_network, read_points};
+use overlap::{Engine, Nearest, Table};
+use std::fs;
+use std::io::{self, Write};
+
+const USAGE: &str = "usage: roads ROADS POINTS [--site q].. [--k k] [--K K]";
+
+/// What the command line asks for.
+struct Asked {
+    roads: String,
+    points: String,
+    sites: Vec<u32>,
+    k: u32,
+    places: u32,
+}
+
+/// A message for the user.
+type Message = String;
+
+/// Runs the program and returns its exit status: 0, 1 for bad input, 2 for a bad command line.
+pub fn run(arguments: &[String], out: &mut impl Write, err: &mut impl Write) -> u8 {
+    let (message, status) = match asked(arguments) {
+        Err(message) => (format!("{message}\n{USAGE}"), 2),
+        Ok(asked) => match report(&asked, out) {
+            Err(message) => (message, 1),
+            Ok(()) => return 0,
+        },
+    };
+    // Nothing is left to do where even the message can't be written.
+    let _ = writeln!(err, "{message}");
+    status
+}
+
+fn asked(arguments: &[String]) -> Result<Asked, Message> {
+    let (mut files, mut sites) = (Vec::new(), Vec::new());
+    let (mut k, mut places) = (1, None);
+    let mut words = arguments.iter();
+    while let Some(word) = words.next() {
+        let mut number = || {
+            let value = words.next().and_then(|value| value.parse::<u32>().ok());
+            value.ok_or_else(|| format!("{word} needs a number"))
+        };
+        match word.as_str() {
+            "--site" => sites.push(number()?),
+            "--k" => k = number()?,
+            "--K" => places = Some(number()?),
+            option if option.starts_with("--") => return Err(format!("no option {option}")),
+            file => files.push(file.to_string()),
+        }
+    }
+    let [roads, points] = files.try_into().map_err(|_| "two files are needed")?;
+    Ok(Asked {
+        roads,
+        points,
+        sites,
+        k,
+        // Where k is not 1 to 16, that is what the refusal shall name.
+        places: places.unwrap_or(k.clamp(1, 16) + 1),
+    })
+}
+
+fn report(asked: &Asked, out: &mut impl Write) -> Result<(), Message> {
+    let roads = read(&asked.roads)?;
+    let network = read_network(&roads).map_err(|bad| format!("{}, {bad}", asked.roads))?;
+    let lockers = read(&asked.points)?;
+    let points =
+        read_points(&lockers, &network).map_err(|bad| format!("{}, {bad}", asked.points))?;
+    let table = Table::build(&network, points, asked.places);
+    let mut table = table.map_err(|refusal| format!("K = {}: {refusal}", asked.places))?;
+    print_network(&table, out).map_err(unwritten)?;
+    print_lists(asked, &mut table, out)?;
+    print_table(&table, out).map_err(unwritten)
+}
+
+/// A text file. Bytes that are no text become a sign that no number has.
+fn read(file: &str) -> Result<String, Message> {
+    let bytes = fs::read(file).map_err(|error| format!("{file}: {error}"))?;
+    Ok(String::from_utf8_lossy(&bytes).into_owned())
+}
+
+fn unwritten(error: io::Error) -> Message {
+    format!("the output can't be written: {error}")
+}
+
+fn print_network(table: &Table, out: &mut impl Write) -> io::Result<()> {
+    let network = table.network();
+    writeln!(out, "junctions   {}", network.nodes())?;
+    writeln!(out, "roads       {}", network.roads().count())?;
+    let points: Vec<u32> = table.points().iter().collect();
+    writeln!(out, "points      {}", shown(&points))
+}
+
+/// Prints a line for each site.
+fn print_lists(asked: &Asked, table: &mut Table, out: &mut impl Write) -> Result<(), Message> {
+    let network = table.network().clone();
+    let all: Vec<u32> = (0..network.nodes()).collect();
+    let sites = if asked.sites.is_empty() {
+        &all
+    } else {
+        &asked.sites
+    };
+    let mut engine = Engine::new(&network);
+    let heading = format!("\nsite   expanded   list for k = {}", asked.k);
+    writeln!(out, "{heading}").map_err(unwritten)?;
+    for &site in sites {
+        let line = site_line(site, asked.k, table, &mut engine);
+        let line = line.map_err(|message| format!("site {site}: {message}"))?;
+        writeln!(out, "{line}").map_err(unwritten)?;
+    }
+    Ok(())
+}
+
+/// The list of a site, by the table, and the count of nodes that eager expands for it.
+fn site_line(
+    q: u32,
+    k: u32,
+    table: &mut Table,
+    engine: &mut Engine,
+) -> Result<String, overlap::Refusal> {
+    let list = shown(table.query(q, k)?);
+    let expanded = engine.eager(table.points(), q, k, u32::MAX)?.expanded;
+    Ok(format!("{q:<6} {expanded:<10} {list}"))
+}
+
+/// Prints what the table holds: how full its rows are, and how far the farthest point in it is.
+fn print_table(table: &Table, out: &mut impl Write) -> io::Result<()> {
+    let nodes = 0..table.network().nodes();
+    let rows: Vec<Nearest<'_>> = nodes.filter_map(|node| table.row(node).ok()).collect();
+    let places = table.places() as usize;
+    let full = rows.iter().filter(|row| row.len() == places).count();
+    let empty = rows.iter().filter(|row| row.is_empty()).count();
+    let farthest = rows.iter().flat_map(|row| row.distances()).max();
+    let check = if table.check() { "yes" } else { "no" };
+    writeln!(out, "\ntable with K = {places}")?;
+    writeln!(
+        out,
+        "rows        {}: {full} full, {empty} empty",
+        rows.len()
+    )?;
+    match farthest {
+        Some(distance) => writeln!(out, "farthest    {distance}")?,
+        None => writeln!(out, "farthest    none")?,
+    }
+    writeln!(out, "check       {check}")
+}
+
+/// Nodes as a person reads them.
+fn shown(nodes: &[u32]) -> String {
+    if nodes.is_empty() {
+        return "none".to_string();
+    }
+    let texts: Vec<String> = nodes.iter().map(u32::to_string).collect();
+    texts.join(", ")
+}

@@ -1,0 +1,42 @@
+//! Scratch and answers that are allocated once and lent to each call.
+
+use crate::Network;
+
+/// Document 01 has no k above 16 and no K above 17. A call with a larger one is refused by 9 or 8
+/// before its scratch is looked at, so no more than S for 17 is ever allocated.
+const MOST: u32 = 17;
+
+#[derive(Debug, Default)]
+pub(crate) struct Buffers {
+    scratch: Vec<u32>,
+    answers: Vec<u32>,
+}
+
+impl Buffers {
+    /// Scratch of S words for the m of a call, no more, since a call clears all that it is lent.
+    pub(crate) fn scratch(&mut self, network: &Network, m: u32) -> &mut [u32] {
+        self.both(network, m).0
+    }
+
+    /// Scratch, and n places for answers.
+    pub(crate) fn both(&mut self, network: &Network, m: u32) -> (&mut [u32], &mut [u32]) {
+        let length = network.scratch_len(m.min(MOST));
+        if self.scratch.len() < length {
+            self.scratch = vec![0; length];
+        }
+        self.answers.resize(network.nodes() as usize, 0);
+        (&mut self.scratch[..length], &mut self.answers)
+    }
+
+    /// The first answers of the last call.
+    pub(crate) fn answers(&self, length: usize) -> &[u32] {
+        &self.answers[..length]
+    }
+}
+
+/// A clone starts without buffers, as nothing in them outlives a call.
+impl Clone for Buffers {
+    fn clone(&self) -> Self {
+        Self::default()
+    }
+}

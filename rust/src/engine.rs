@@ -1,0 +1,310 @@
+//! The calls without a table.
+
+use crate::buffers::Buffers;
+use crate::calls::{self, accepted, Found, Listing};
+use crate::{Distances, Listed, Nearest, Network, Points, Refusal};
+
+/// The calls without a table, on one network.
+///
+/// It owns the scratch and the places for answers, as long as document 01 asks for. They are
+/// allocated at the first call and again only when a later call has a larger k; for k = 16 on the
+/// largest network scratch is 76,545,904 words. An answer is lent from them, so it is read or
+/// copied before the next call.
+///
+/// Document 01: "For query node q and k, point p is listed if it can be reached from q and fewer
+/// than k other points p' have d(p, p') < d(p, q). The point p itself doesn't count. A point on q
+/// is listed. Lists are ascending by node."
+///
+/// ```
+/// use overlap::{Engine, Network, Points};
+///
+/// # fn main() -> Result<(), overlap::Refusal> {
+/// // Network N of document 01.
+/// let network = Network::from_roads(6, &[(0, 1, 4), (0, 3, 5), (1, 2, 3), (2, 4, 7), (3, 4, 3)])?;
+/// let points = Points::on(&network, [2, 4, 5])?;
+/// let mut engine = Engine::new(&network);
+/// for q in 0..network.nodes() {
+///     println!("a site on {q} receives {:?}", engine.lazy(&points, q, 1)?);
+/// }
+/// # Ok(())
+/// # }
+/// ```
+#[derive(Clone, Debug)]
+pub struct Engine {
+    network: Network,
+    buffers: Buffers,
+    ids: [u32; 16],
+    distances: [u32; 16],
+}
+
+impl Engine {
+    /// An engine for this network, which it shares.
+    ///
+    /// ```
+    /// use overlap::{Engine, Network};
+    ///
+    /// # fn main() -> Result<(), overlap::Refusal> {
+    /// // Network N of document 01.
+    /// let roads = [(0, 1, 4), (0, 3, 5), (1, 2, 3), (2, 4, 7), (3, 4, 3)];
+    /// let network = Network::from_roads(6, &roads)?;
+    /// let mut engine = Engine::new(&network);
+    /// assert_eq!(engine.distances(0)?.to(4), Some(8));
+    /// # Ok(())
+    /// # }
+    /// ```
+    #[must_use]
+    pub fn new(network: &Network) -> Self {
+        Self {
+            network: network.clone(),
+            buffers: Buffers::default(),
+            ids: [0; 16],
+            distances: [0; 16],
+        }
+    }
+
+    /// The network.
+    ///
+    /// ```
+    /// use overlap::{Engine, Network};
+    ///
+    /// # fn main() -> Result<(), overlap::Refusal> {
+    /// // Network N of document 01.
+    /// let roads = [(0, 1, 4), (0, 3, 5), (1, 2, 3), (2, 4, 7), (3, 4, 3)];
+    /// let network = Network::from_roads(6, &roads)?;
+    /// assert_eq!(Engine::new(&network).network(), &network);
+    /// # Ok(())
+    /// # }
+    /// ```
+    #[must_use]
+    pub fn network(&self) -> &Network {
+        &self.network
+    }
+
+    /// Document 01: "Distances from a node: n entries, NONE where none." "d(a, b) is the smallest
+    /// sum of weights over all walks from a to b; d(a, a) = 0; without a walk b can't be reached."
+    ///
+    /// ```
+    /// use overlap::{Engine, Network, NONE};
+    ///
+    /// # fn main() -> Result<(), overlap::Refusal> {
+    /// // Network N of document 01.
+    /// let roads = [(0, 1, 4), (0, 3, 5), (1, 2, 3), (2, 4, 7), (3, 4, 3)];
+    /// let network = Network::from_roads(6, &roads)?;
+    /// let mut engine = Engine::new(&network);
+    /// assert_eq!(engine.distances(0)?.words(), [0, 4, 7, 5, 8, NONE]);
+    /// # Ok(())
+    /// # }
+    /// ```
+    ///
+    /// # Errors
+    ///
+    /// 7 where the node is n or more.
+    pub fn distances(&mut self, node: u32) -> Result<Distances<'_>, Refusal> {
+        let (scratch, words) = self.buffers.both(&self.network, 1);
+        accepted(calls::distances(self.network.lend(), node, scratch, words))?;
+        Ok(Distances { words })
+    }
+
+    /// Document 01: "Nearest: the points p with d(node, p) < e, e any 32-bit number, by distance
+    /// then node, cut after the first k".
+    ///
+    /// With e = [`NONE`](crate::NONE) all points that can be reached come into question.
+    ///
+    /// ```
+    /// use overlap::{Engine, Network, Points, NONE};
+    ///
+    /// # fn main() -> Result<(), overlap::Refusal> {
+    /// // Network N of document 01.
+    /// let roads = [(0, 1, 4), (0, 3, 5), (1, 2, 3), (2, 4, 7), (3, 4, 3)];
+    /// let network = Network::from_roads(6, &roads)?;
+    /// let points = Points::on(&network, [2, 4, 5])?;
+    /// let mut engine = Engine::new(&network);
+    /// assert!(engine.nearest(&points, 0, NONE, 2)?.iter().eq([(2, 7), (4, 8)]));
+    ///
+    /// // Point 4 has distance 8, which is not below 8.
+    /// assert!(engine.nearest(&points, 0, 8, 2)?.iter().eq([(2, 7)]));
+    /// # Ok(())
+    /// # }
+    /// ```
+    ///
+    /// # Errors
+    ///
+    /// The first condition met of 6, 7 and 9.
+    pub fn nearest(
+        &mut self,
+        points: &Points,
+        node: u32,
+        e: u32,
+        k: u32,
+    ) -> Result<Nearest<'_>, Refusal> {
+        let scratch = self.buffers.scratch(&self.network, k);
+        let found = Found {
+            ids: &mut self.ids,
+            distances: &mut self.distances,
+        };
+        let network = self.network.lend();
+        let listing = calls::nearest(network, points.marks(), node, e, k, scratch, found);
+        let length = listing.accepted()?.length;
+        let (ids, distances) = (&self.ids[..length], &self.distances[..length]);
+        Ok(Nearest::in_places(ids, distances))
+    }
+
+    /// Document 01: "Verify: for a marked p and q, yes or no by the rule above", the rule of the
+    /// list for q and k.
+    ///
+    /// ```
+    /// use overlap::{Engine, Network, Points, Refusal};
+    ///
+    /// # fn main() -> Result<(), Refusal> {
+    /// // Network N of document 01.
+    /// let roads = [(0, 1, 4), (0, 3, 5), (1, 2, 3), (2, 4, 7), (3, 4, 3)];
+    /// let network = Network::from_roads(6, &roads)?;
+    /// let points = Points::on(&network, [2, 4, 5])?;
+    /// let mut engine = Engine::new(&network);
+    ///
+    /// // Point 2 is nearer to 4 (7) than site 0 is (8): no for k = 1, yes for k = 2.
+    /// assert!(!engine.verify(&points, 4, 0, 1)?);
+    /// assert!(engine.verify(&points, 4, 0, 2)?);
+    ///
+    /// // Node 3 is not marked.
+    /// assert_eq!(engine.verify(&points, 3, 0, 1), Err(Refusal::Mark));
+    /// # Ok(())
+    /// # }
+    /// ```
+    ///
+    /// # Errors
+    ///
+    /// The first condition met of 6, 7, 9 and 11.
+    pub fn verify(&mut self, points: &Points, p: u32, q: u32, k: u32) -> Result<bool, Refusal> {
+        let scratch = self.buffers.scratch(&self.network, k);
+        calls::verify(self.network.lend(), points.marks(), p, q, k, scratch).accepted()
+    }
+
+    /// Document 01: "Eager (000, Fig. 4): expands outward from q, stops behind a node with k points
+    /// strictly nearer than q. It takes a 32-bit limit and returns the list and the count of nodes
+    /// expanded."
+    ///
+    /// A limit of n or more is never exceeded.
+    ///
+    /// ```
+    /// use overlap::{Engine, Network, Points, Refusal};
+    ///
+    /// # fn main() -> Result<(), Refusal> {
+    /// // Network N of document 01.
+    /// let roads = [(0, 1, 4), (0, 3, 5), (1, 2, 3), (2, 4, 7), (3, 4, 3)];
+    /// let network = Network::from_roads(6, &roads)?;
+    /// let points = Points::on(&network, [2, 4, 5])?;
+    /// let mut engine = Engine::new(&network);
+    /// let listed = engine.eager(&points, 0, 2, 4)?;
+    /// assert_eq!((listed.points, listed.expanded), (&[2, 4][..], 4));
+    ///
+    /// // Four nodes are expanded, which is above 3.
+    /// assert_eq!(engine.eager(&points, 0, 2, 3), Err(Refusal::Limit));
+    /// # Ok(())
+    /// # }
+    /// ```
+    ///
+    /// # Errors
+    ///
+    /// The first condition met of 6, 7, 9 and 12.
+    pub fn eager(
+        &mut self,
+        points: &Points,
+        q: u32,
+        k: u32,
+        limit: u32,
+    ) -> Result<Listed<'_>, Refusal> {
+        let (scratch, answers) = self.buffers.both(&self.network, k);
+        let (network, marks) = (self.network.lend(), points.marks());
+        let listing = calls::eager(network, marks, q, k, limit, scratch, answers);
+        self.listed(listing)
+    }
+
+    /// Document 01: "The short query: no k and no limit; eager with k = 1 and limit 65,535."
+    ///
+    /// ```
+    /// use overlap::{Engine, Network, Points};
+    ///
+    /// # fn main() -> Result<(), overlap::Refusal> {
+    /// // Network N of document 01.
+    /// let roads = [(0, 1, 4), (0, 3, 5), (1, 2, 3), (2, 4, 7), (3, 4, 3)];
+    /// let network = Network::from_roads(6, &roads)?;
+    /// let points = Points::on(&network, [2, 4, 5])?;
+    /// let mut engine = Engine::new(&network);
+    /// let listed = engine.short_query(&points, 2)?;
+    /// assert_eq!((listed.points, listed.expanded), (&[2, 4][..], 3));
+    /// # Ok(())
+    /// # }
+    /// ```
+    ///
+    /// # Errors
+    ///
+    /// The first condition met of 6 and 7.
+    pub fn short_query(&mut self, points: &Points, q: u32) -> Result<Listed<'_>, Refusal> {
+        let (scratch, answers) = self.buffers.both(&self.network, 1);
+        let (network, marks) = (self.network.lend(), points.marks());
+        let listing = calls::short_query(network, marks, q, scratch, answers);
+        self.listed(listing)
+    }
+
+    /// Document 01: "Lazy (000, 3.3) [...]: the list." It is the list that [`eager`](Self::eager)
+    /// gives.
+    ///
+    /// ```
+    /// use overlap::{Engine, Network, Points};
+    ///
+    /// # fn main() -> Result<(), overlap::Refusal> {
+    /// // Network N of document 01.
+    /// let roads = [(0, 1, 4), (0, 3, 5), (1, 2, 3), (2, 4, 7), (3, 4, 3)];
+    /// let network = Network::from_roads(6, &roads)?;
+    /// let points = Points::on(&network, [2, 4, 5])?;
+    /// assert_eq!(Engine::new(&network).lazy(&points, 0, 2)?, [2, 4]);
+    /// # Ok(())
+    /// # }
+    /// ```
+    ///
+    /// # Errors
+    ///
+    /// The first condition met of 6, 7 and 9.
+    pub fn lazy(&mut self, points: &Points, q: u32, k: u32) -> Result<&[u32], Refusal> {
+        let (scratch, answers) = self.buffers.both(&self.network, k);
+        let (network, marks) = (self.network.lend(), points.marks());
+        let listing = calls::lazy(network, marks, q, k, scratch, answers);
+        Ok(self.listed(listing)?.points)
+    }
+
+    /// Document 01: "[...] and lazy-EP (000, 4.2): the list." It is the list that
+    /// [`eager`](Self::eager) gives.
+    ///
+    /// ```
+    /// use overlap::{Engine, Network, Points};
+    ///
+    /// # fn main() -> Result<(), overlap::Refusal> {
+    /// // Network N of document 01.
+    /// let roads = [(0, 1, 4), (0, 3, 5), (1, 2, 3), (2, 4, 7), (3, 4, 3)];
+    /// let network = Network::from_roads(6, &roads)?;
+    /// let points = Points::on(&network, [2, 4, 5])?;
+    /// assert_eq!(Engine::new(&network).lazy_ep(&points, 5, 1)?, [5]);
+    /// # Ok(())
+    /// # }
+    /// ```
+    ///
+    /// # Errors
+    ///
+    /// The first condition met of 6, 7 and 9.
+    pub fn lazy_ep(&mut self, points: &Points, q: u32, k: u32) -> Result<&[u32], Refusal> {
+        let (scratch, answers) = self.buffers.both(&self.network, k);
+        let (network, marks) = (self.network.lend(), points.marks());
+        let listing = calls::lazy_ep(network, marks, q, k, scratch, answers);
+        Ok(self.listed(listing)?.points)
+    }
+
+    /// The list that a search has put into the answers.
+    fn listed(&self, listing: Listing) -> Result<Listed<'_>, Refusal> {
+        let Listing { count, length, .. } = listing.accepted()?;
+        Ok(Listed {
+            points: self.buffers.answers(length),
+            expanded: count,
+        })
+    }
+}

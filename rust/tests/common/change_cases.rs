@@ -1,0 +1,118 @@
+//! What the tests of insert and of remove share: calls on network N, lists of calls behind each other,
+//! and networks at document 01's bounds.
+
+use super::all_pairs::AllPairs;
+use super::call::{assert_outcome, assert_refused, compare};
+use super::change::{assert_change, Change, Kind};
+use super::inputs::{some_places, some_points};
+use super::lent::Lent;
+use super::network::{marks, network_n, OwnedNetwork, N_NODES};
+use super::random::Random;
+use super::shapes::random_network;
+use super::table::{OwnedTable, PlainTable};
+use overlap::calls::table_check;
+
+pub const MOST_NODES: u32 = 65_535;
+
+/// A call on network N with these points.
+pub fn call_on_n<K: Kind>(points: &[u32], node: u32, places: u32) -> Change<K> {
+    let (network, points) = (network_n(), marks(N_NODES, points));
+    let table = PlainTable::of(&AllPairs::of(network.lend()), &points, places);
+    Change::exact(&network, &points, node, &table, &mut Random::new(3))
+}
+
+/// The conditions 6, 7 and 8, each alone, on an accepted call with K = 2.
+pub fn assert_own_conditions<K: Kind>(accepted: &Change<K>) {
+    let assert_number = |number, change: fn(&mut Change<K>)| {
+        let mut call = accepted.clone();
+        change(&mut call);
+        assert_refused(call, number);
+    };
+    assert_number(6, |c| c.points[3] = 2);
+    assert_number(6, |c| c.points.truncate(5));
+    assert_number(6, |c| c.points.push(0));
+    assert_number(7, |c| c.node = 6);
+    assert_number(7, |c| c.node = u32::MAX);
+    assert_number(8, |c| c.table.places = 0);
+    assert_number(8, |c| c.table.places = 3);
+    assert_number(8, |c| c.table.places = u32::MAX);
+    assert_number(8, |c| c.table = OwnedTable::junk(6, 1, &mut Random::new(0)));
+    assert_number(8, |c| {
+        c.table = OwnedTable::junk(6, 18, &mut Random::new(0))
+    });
+    assert_number(8, |c| c.table.ids = Lent::junk(11, &mut Random::new(0)));
+    assert_number(8, |c| {
+        c.table.distances = Lent::junk(13, &mut Random::new(0));
+    });
+}
+
+/// S is 16 × 6 + 8 × (10 + 6) × K for network N: scratch that is too short, just long enough, and
+/// longer.
+pub fn assert_scratch_of_n<K: Kind>(call: fn(u32) -> Change<K>) {
+    for (places, length) in [(2, 352), (3, 480), (17, 2_272)] {
+        let lengths = [(0, 10), (length - 1, 10), (length, 0), (length + 1, 0)];
+        for (length, number) in lengths.into_iter().chain([(9_999, 0)]) {
+            for seed in 0..20 {
+                let mut call = call(places);
+                call.scratch = Lent::junk(length, &mut Random::new(seed));
+                assert_eq!(compare(call), number);
+            }
+        }
+    }
+}
+
+/// Changes all nodes that can be, in any order, and returns the table that is left.
+fn change_all<K: Kind>(
+    network: &OwnedNetwork,
+    mut points: Vec<u8>,
+    places: u32,
+    random: &mut Random,
+) -> PlainTable {
+    let pairs = AllPairs::of(network.lend());
+    let mut table = PlainTable::built(network, &points, places, random);
+    let mut nodes: Vec<u32> = (0..points.len() as u32).collect();
+    nodes.retain(|&node| points[node as usize] != K::MARK);
+    random.shuffle(&mut nodes);
+    for node in nodes {
+        let call = Change::<K>::exact(network, &points, node, &table, random);
+        points = call.points_after();
+        table = assert_change(call, &pairs, random);
+        let verdict = table_check(network.lend(), &points, table.lend());
+        assert_eq!((verdict.number, verdict.yes), (0, 1));
+    }
+    table
+}
+
+/// Changes random networks node by node until none is left, from any points or as many as can be, and
+/// shows the table that is left.
+pub fn assert_one_by_one<K: Kind>(rounds: u64, see: fn(&PlainTable)) {
+    for seed in 0..rounds {
+        let mut random = Random::new(seed);
+        let network = random_network(&mut random);
+        let points = match random.below(2) {
+            0 => vec![1 - K::MARK; network.starts.len() - 1],
+            _ => some_points(&network, &mut random),
+        };
+        let places = some_places(&mut random);
+        see(&change_all::<K>(&network, points, places, &mut random));
+    }
+}
+
+/// Changes the nodes one behind the other, in a network that may be too large for all pairs.
+pub fn assert_changes<K: Kind>(network: &OwnedNetwork, points: &[u8], nodes: &[u32], places: u32) {
+    let mut random = Random::new(6);
+    let mut points = points.to_vec();
+    let mut table = PlainTable::of_large(network, &points, places);
+    for &node in nodes {
+        let call = Change::<K>::exact(network, &points, node, &table, &mut random);
+        points = call.points_after();
+        table = PlainTable::of_large(network, &points, places);
+        let outcome = call.accepted(&table);
+        assert_outcome(call, &outcome);
+    }
+}
+
+/// A point on each multiple of the step, of the most nodes.
+pub fn each(step: u32) -> Vec<u8> {
+    (0..MOST_NODES).map(|p| u8::from(p % step == 0)).collect()
+}

@@ -1,0 +1,590 @@
+//! The types at the crate's root, compared with document 01, with the plain all-pairs calculation
+//! and with the thin calls.
+
+mod common;
+
+use common::all_pairs::AllPairs;
+use common::damage;
+use common::inputs::{
+    no_k, no_node, no_places, some_e, some_k, some_node, some_places, some_points,
+};
+use common::network::{network_n, OwnedNetwork, N_NODES, N_POINTS, N_ROADS};
+use common::plain::plain_check;
+use common::random::Random;
+use common::shapes::{belt, grid, random_network, weight_by_product, weighted};
+use common::table::PlainTable;
+use common::table_damage;
+use overlap::calls::{self, scratch_len};
+use overlap::{Engine, Network, Points, Refusal, Table, NONE};
+
+/// The network of these arrays.
+fn accepted(arrays: &OwnedNetwork) -> Result<Network, Refusal> {
+    let OwnedNetwork {
+        starts,
+        neighbours,
+        weights,
+    } = arrays.clone();
+    Network::new(starts, neighbours, weights)
+}
+
+fn n_and_points() -> (Network, Points) {
+    let network = Network::from_roads(N_NODES, &N_ROADS).unwrap();
+    let points = Points::on(&network, N_POINTS).unwrap();
+    (network, points)
+}
+
+/// Network N of document 01, by hand.
+mod network_n {
+    use super::*;
+
+    #[test]
+    fn p1_to_p5() {
+        let (network, points) = n_and_points();
+        let mut engine = Engine::new(&network);
+        for (q, k, list, expanded) in [
+            (0, 1, &[2][..], 1),
+            (0, 2, &[2, 4], 4),
+            (1, 1, &[2], 2),
+            (2, 1, &[2, 4], 3),
+            (5, 1, &[5], 1),
+        ] {
+            let listed = engine.eager(&points, q, k, expanded).unwrap();
+            assert_eq!((listed.points, listed.expanded), (list, expanded));
+            assert_eq!(engine.lazy(&points, q, k), Ok(list));
+            assert_eq!(engine.lazy_ep(&points, q, k), Ok(list));
+            let refusal = engine.eager(&points, q, k, expanded - 1);
+            assert_eq!(refusal, Err(Refusal::Limit));
+            let mut table = Table::build(&network, points.clone(), k + 1).unwrap();
+            assert_eq!(table.query(q, k), Ok(list));
+        }
+    }
+
+    #[test]
+    fn p6_without_points() {
+        let (network, _) = n_and_points();
+        let mut engine = Engine::new(&network);
+        let listed = engine
+            .eager(&Points::none(&network), 0, 1, u32::MAX)
+            .unwrap();
+        assert_eq!((listed.points, listed.expanded), (&[][..], 5));
+    }
+
+    #[test]
+    fn p7_with_the_road_2_4_of_6() {
+        let roads = [(0, 1, 4), (0, 3, 5), (1, 2, 3), (2, 4, 6), (3, 4, 3)];
+        let network = Network::from_roads(6, &roads).unwrap();
+        let points = Points::on(&network, [2, 4, 5]).unwrap();
+        let mut engine = Engine::new(&network);
+        assert!(engine.short_query(&points, 0).unwrap().points.is_empty());
+    }
+
+    #[test]
+    fn p8_to_p10() {
+        let (network, points) = n_and_points();
+        let mut table = Table::build(&network, points, 2).unwrap();
+        assert!(table.row(0).unwrap().iter().eq([(2, 7), (4, 8)]));
+        assert!(table.row(5).unwrap().iter().eq([(5, 0)]));
+        assert_eq!(table.lend().ids[10..], [5, NONE]);
+        assert_eq!(table.lend().distances[10..], [0, NONE]);
+        assert_eq!(table.insert(0), Ok(4));
+        assert!(table.row(2).unwrap().iter().eq([(2, 0), (0, 7)]));
+        assert!(table.points().iter().eq([0, 2, 4, 5]));
+        assert_eq!(table.remove(0), Ok(4));
+        assert!(table.into_points().iter().eq([2, 4, 5]));
+    }
+
+    #[test]
+    fn distances_of_a_node_that_is_alone() {
+        let (network, _) = n_and_points();
+        let mut engine = Engine::new(&network);
+        let distances = engine.distances(5).unwrap();
+        assert_eq!(distances.words(), [NONE, NONE, NONE, NONE, NONE, 0]);
+        let reached: Vec<_> = (0..7).map(|node| distances.to(node)).collect();
+        assert_eq!(reached, [None, None, None, None, None, Some(0), None]);
+    }
+}
+
+/// Networks: what is accepted, and what is kept.
+mod networks {
+    use super::*;
+
+    #[test]
+    fn arrays_are_refused_as_the_plain_check_says() {
+        let mut seen = [0; 6];
+        for seed in 0..20_000 {
+            let mut random = Random::new(seed);
+            let mut arrays = random_network(&mut random);
+            damage::damage(&mut arrays, random.pick(&[0, 1, 1, 2]), &mut random);
+            let number = plain_check(arrays.lend());
+            let network = accepted(&arrays);
+            assert_eq!(network.as_ref().err().map_or(0, |r| r.number()), number);
+            seen[number as usize] += 1;
+            if let Ok(network) = network {
+                assert_eq!(network.starts(), arrays.starts);
+                assert_eq!(network.neighbours(), arrays.neighbours);
+                assert_eq!(network.weights(), arrays.weights);
+            }
+        }
+        assert!(seen.iter().all(|&times| times >= 200), "{seen:?}");
+    }
+
+    #[test]
+    fn roads_in_any_order_make_the_same_network() {
+        for seed in 0..2_000 {
+            let mut random = Random::new(seed);
+            let network = accepted(&random_network(&mut random)).unwrap();
+            let mut roads: Vec<_> = network.roads().collect();
+            assert_eq!(roads.len() * 2, network.neighbours().len());
+            for road in &mut roads {
+                if random.once_in(2) {
+                    *road = (road.1, road.0, road.2);
+                }
+            }
+            random.shuffle(&mut roads);
+            assert_eq!(Network::from_roads(network.nodes(), &roads), Ok(network));
+        }
+    }
+
+    #[test]
+    fn the_roads_of_a_node_are_its_part_of_the_arrays() {
+        let (network, _) = n_and_points();
+        assert!(network.roads_of(4).unwrap().eq([(2, 7), (3, 3)]));
+        assert_eq!(network.roads_of(5).unwrap().count(), 0);
+        assert_eq!(network.roads_of(6).err(), Some(Refusal::Node));
+        assert!(network.roads().eq(N_ROADS));
+    }
+
+    #[test]
+    fn roads_are_refused() {
+        let refusal = |nodes, roads: &[_]| Network::from_roads(nodes, roads).err();
+        for nodes in [0, 65_536, u32::MAX] {
+            assert_eq!(refusal(nodes, &[]), Some(Refusal::StartsLength));
+            // 1 is tried before 3.
+            let roads = [(0, 0, 0), (0, u32::MAX, 0)];
+            assert_eq!(refusal(nodes, &roads), Some(Refusal::StartsLength));
+        }
+        assert_eq!(refusal(65_535, &[(0, 65_534, 65_535)]), None);
+        for road in [(0, 2, 1), (2, 0, 1), (0, u32::MAX, 1), (1, 1, 1)] {
+            assert_eq!(refusal(2, &[road]), Some(Refusal::Neighbours));
+        }
+        // 3 is tried before 4.
+        assert_eq!(refusal(2, &[(0, 2, 0)]), Some(Refusal::Neighbours));
+        for again in [(0, 1, 4), (1, 0, 4), (0, 1, 5)] {
+            assert_eq!(refusal(2, &[(0, 1, 4), again]), Some(Refusal::Neighbours));
+        }
+        for weight in [0, 65_536, u32::MAX] {
+            assert_eq!(refusal(2, &[(0, 1, weight)]), Some(Refusal::Weights));
+        }
+    }
+
+    #[test]
+    fn the_most_roads_and_one_more() {
+        let most = weighted(1_000, &belt(1_000, 262_144), |_, _| 1);
+        let mut roads: Vec<_> = accepted(&most).unwrap().roads().collect();
+        assert!(Network::from_roads(1_000, &roads).is_ok());
+        roads.push((0, 1_000, 0));
+        assert_eq!(Network::from_roads(1_000, &roads), Err(Refusal::Starts));
+    }
+
+    #[test]
+    fn a_clone_shares_the_arrays() {
+        let (network, _) = n_and_points();
+        let clone = network.clone();
+        assert_eq!(network.starts().as_ptr(), clone.starts().as_ptr());
+    }
+
+    #[test]
+    fn scratch_is_s_of_document_01() {
+        let (network, _) = n_and_points();
+        for m in 0..=17 {
+            assert_eq!(network.scratch_len(m), 96 + 128 * m as usize);
+            let by_call = scratch_len(network_n().lend(), m as usize);
+            assert_eq!(network.scratch_len(m), by_call);
+        }
+    }
+}
+
+/// Points: one mark a node.
+mod points {
+    use super::*;
+
+    #[test]
+    fn are_their_marks() {
+        for seed in 0..1_000 {
+            let mut random = Random::new(seed);
+            let arrays = random_network(&mut random);
+            let network = accepted(&arrays).unwrap();
+            let marks = some_points(&arrays, &mut random);
+            let points = Points::from_marks(&network, marks.clone()).unwrap();
+            let nodes: Vec<u32> = points.iter().collect();
+            let marked = |node: u32| marks[node as usize] == 1;
+            assert!((0..network.nodes())
+                .filter(|&node| marked(node))
+                .eq(nodes.clone()));
+            assert_eq!(
+                (points.len(), points.is_empty()),
+                (nodes.len(), nodes.is_empty())
+            );
+            let again = Points::on(&network, nodes.into_iter().rev());
+            assert_eq!(again.as_ref(), Ok(&points));
+            assert_eq!(points.marks(), marks);
+        }
+    }
+
+    #[test]
+    fn change_one_by_one() {
+        let (network, mut points) = n_and_points();
+        assert_eq!(points.insert(2), Err(Refusal::Mark));
+        assert_eq!(points.remove(3), Err(Refusal::Mark));
+        for node in [6, u32::MAX] {
+            assert_eq!(points.insert(node), Err(Refusal::Node));
+            assert_eq!(points.remove(node), Err(Refusal::Node));
+            assert!(!points.contains(node));
+        }
+        assert_eq!(points, Points::on(&network, N_POINTS).unwrap());
+        assert_eq!(points.insert(3), Ok(()));
+        assert_eq!(points.remove(2), Ok(()));
+        assert!(points.contains(3) && !points.contains(2));
+        assert!(points.iter().eq([3, 4, 5]));
+    }
+
+    #[test]
+    fn are_refused() {
+        let (network, _) = n_and_points();
+        assert_eq!(Points::on(&network, [0, 6]), Err(Refusal::Node));
+        assert_eq!(Points::on(&network, [0, 1, 0]), Err(Refusal::Mark));
+        for marks in [vec![], vec![0; 5], vec![0; 7], vec![0, 0, 0, 0, 0, 2]] {
+            assert_eq!(Points::from_marks(&network, marks), Err(Refusal::Points));
+        }
+    }
+}
+
+/// The calls without a table, one engine for many of them.
+mod engine {
+    use super::*;
+
+    /// The answer of a thin call that lists points.
+    type Thin = (Result<(), u32>, Vec<u32>, u32);
+
+    /// The list of a thin search with arrays that are long enough.
+    fn thin(
+        network: &Network,
+        k: u32,
+        call: impl FnOnce(&mut [u32], &mut [u32]) -> calls::Listing,
+    ) -> Thin {
+        let mut scratch = vec![7; network.scratch_len(k.min(16))];
+        let mut answers = vec![7; network.nodes() as usize];
+        let listing = call(&mut scratch, &mut answers);
+        answers.truncate(listing.length);
+        let number = listing.accepted().map(|_| ()).map_err(|r| r.number());
+        (number, answers, listing.count)
+    }
+
+    /// Compares each search with the plain calculation and with its thin call.
+    fn assert_searches(engine: &mut Engine, pairs: &AllPairs, points: &Points, q: u32, k: u32) {
+        let (network, marks) = (engine.network().clone(), points.marks());
+        let lent = network.lend();
+        let list = pairs.plain_listed(marks, q, k);
+        let expanded = pairs.plain_expanded(marks, q, k);
+
+        let listed = engine.eager(points, q, k, expanded).unwrap();
+        assert_eq!((listed.points, listed.expanded), (&list[..], expanded));
+        let by_call = thin(&network, k, |s, a| {
+            calls::eager(lent, marks, q, k, expanded, s, a)
+        });
+        assert_eq!(by_call, (Ok(()), list.clone(), expanded));
+        if expanded > 0 {
+            let refusal = engine.eager(points, q, k, expanded - 1);
+            assert_eq!(refusal, Err(Refusal::Limit));
+        }
+
+        assert_eq!(engine.lazy(points, q, k), Ok(&list[..]));
+        let by_call = thin(&network, k, |s, a| calls::lazy(lent, marks, q, k, s, a));
+        assert_eq!(by_call, (Ok(()), list.clone(), 0));
+
+        assert_eq!(engine.lazy_ep(points, q, k), Ok(&list[..]));
+        let by_call = thin(&network, k, |s, a| calls::lazy_ep(lent, marks, q, k, s, a));
+        assert_eq!(by_call, (Ok(()), list, 0));
+
+        let short = engine.short_query(points, q).unwrap();
+        assert_eq!(short.points, pairs.plain_listed(marks, q, 1));
+        assert_eq!(short.expanded, pairs.plain_expanded(marks, q, 1));
+    }
+
+    #[test]
+    fn and_plain_calculation_agree() {
+        for seed in 0..2_000 {
+            let mut random = Random::new(seed);
+            let arrays = random_network(&mut random);
+            let pairs = AllPairs::of(arrays.lend());
+            let network = accepted(&arrays).unwrap();
+            let mut engine = Engine::new(&network);
+            for _ in 0..8 {
+                let marks = some_points(&arrays, &mut random);
+                let points = Points::from_marks(&network, marks.clone()).unwrap();
+                let (q, k) = (some_node(&arrays, &mut random), some_k(&mut random));
+                assert_searches(&mut engine, &pairs, &points, q, k);
+                let distances = engine.distances(q).unwrap();
+                assert_eq!(distances.words(), pairs.plain_distances(q));
+                let e = some_e(pairs.row(q), &mut random);
+                let nearest = engine.nearest(&points, q, e, k).unwrap();
+                let near = pairs.plain_nearest(&marks, q, e, k);
+                assert_eq!(nearest.into_iter().collect::<Vec<_>>(), near);
+                assert_eq!(
+                    (nearest.len(), nearest.is_empty()),
+                    (near.len(), near.is_empty())
+                );
+                for p in points.iter() {
+                    let yes = pairs.plain_verify(&marks, p, q, k);
+                    assert_eq!(engine.verify(&points, p, q, k), Ok(yes));
+                }
+            }
+        }
+    }
+
+    #[test]
+    fn refuses_what_the_thin_calls_refuse() {
+        let (network, points) = n_and_points();
+        let mut engine = Engine::new(&network);
+        let foreign = Points::none(&Network::from_roads(5, &[]).unwrap());
+        let (mut random, arrays) = (Random::new(1), network_n());
+        // In this order they are met: 6, 7, 9, 11.
+        for _ in 0..200 {
+            let (none, k) = (no_node(&arrays, &mut random), no_k(&mut random));
+            assert_all(&mut engine, &foreign, none, k, Refusal::Points);
+            assert_all(&mut engine, &points, none, k, Refusal::Node);
+            assert_eq!(engine.distances(none), Err(Refusal::Node));
+            let short = engine.short_query(&points, none);
+            assert_eq!(short, Err(Refusal::Node));
+            assert_all(&mut engine, &points, 3, k, Refusal::K);
+            let node_of_q = engine.verify(&points, 2, none, 1);
+            assert_eq!(node_of_q, Err(Refusal::Node));
+        }
+        assert_eq!(engine.short_query(&foreign, 0), Err(Refusal::Points));
+        assert_eq!(engine.verify(&points, 3, 0, 1), Err(Refusal::Mark));
+        assert_eq!(engine.eager(&points, 0, 2, 3), Err(Refusal::Limit));
+    }
+
+    /// Sees that all calls of points, a node and k give this refusal.
+    fn assert_all(engine: &mut Engine, points: &Points, node: u32, k: u32, refusal: Refusal) {
+        assert_eq!(engine.nearest(points, node, NONE, k), Err(refusal));
+        assert_eq!(engine.verify(points, node, 0, k), Err(refusal));
+        assert_eq!(engine.eager(points, node, k, u32::MAX), Err(refusal));
+        assert_eq!(engine.lazy(points, node, k), Err(refusal));
+        assert_eq!(engine.lazy_ep(points, node, k), Err(refusal));
+    }
+
+    /// Each thread has an engine; the network and the points are lent to all.
+    #[test]
+    fn threads_share_a_network() {
+        let arrays = weighted(60, &grid(6, 10), weight_by_product);
+        let (network, pairs) = (accepted(&arrays).unwrap(), AllPairs::of(arrays.lend()));
+        let points = Points::on(&network, (0..network.nodes()).step_by(3)).unwrap();
+        let lists_of = |k| {
+            let mut engine = Engine::new(&network);
+            for q in 0..network.nodes() {
+                let list = pairs.plain_listed(points.marks(), q, k);
+                assert_eq!(engine.lazy(&points, q, k), Ok(&list[..]));
+            }
+        };
+        let lists_of = &lists_of;
+        std::thread::scope(|scope| {
+            for k in 1..=16 {
+                scope.spawn(move || lists_of(k));
+            }
+        });
+    }
+
+    #[test]
+    fn a_clone_answers_alike() {
+        let (network, points) = n_and_points();
+        let mut engine = Engine::new(&network);
+        assert_eq!(engine.lazy(&points, 0, 16).unwrap(), [2, 4]);
+        let mut clone = engine.clone();
+        assert_eq!(clone.lazy(&points, 0, 16), engine.lazy(&points, 0, 16));
+        assert_eq!(clone.network(), &network);
+    }
+}
+
+/// The table with its points.
+mod table {
+    use super::*;
+
+    /// Sees that the table is the one of these marks.
+    fn assert_table(table: &Table, pairs: &AllPairs, marks: &[u8], places: u32) {
+        let plain = PlainTable::of(pairs, marks, places);
+        assert_eq!(table.points().marks(), marks);
+        assert_eq!((table.places(), table.lend().places), (places, places));
+        assert_eq!(table.lend().ids, plain.ids);
+        assert_eq!(table.lend().distances, plain.distances);
+        assert!(table.check());
+        for node in 0..table.network().nodes() {
+            let mut row = plain.row(node);
+            row.retain(|entry| entry.0 != NONE);
+            assert!(table.row(node).unwrap().iter().eq(row));
+        }
+    }
+
+    #[test]
+    fn follows_its_points() {
+        for seed in 0..1_000 {
+            let mut random = Random::new(seed);
+            let arrays = random_network(&mut random);
+            let pairs = AllPairs::of(arrays.lend());
+            let network = accepted(&arrays).unwrap();
+            let mut marks = some_points(&arrays, &mut random);
+            let places = some_places(&mut random);
+            let points = Points::from_marks(&network, marks.clone()).unwrap();
+            let mut table = Table::build(&network, points, places).unwrap();
+            assert_table(&table, &pairs, &marks, places);
+            for _ in 0..20 {
+                let node = some_node(&arrays, &mut random);
+                let before = PlainTable::of(&pairs, &marks, places);
+                let mark = marks[node as usize];
+                marks[node as usize] = 1 - mark;
+                let changed = before.changed(&PlainTable::of(&pairs, &marks, places));
+                let (done, again) = match mark {
+                    0 => (table.insert(node), table.insert(node)),
+                    _ => (table.remove(node), table.remove(node)),
+                };
+                assert_eq!((done, again), (Ok(changed), Err(Refusal::Mark)));
+                assert_table(&table, &pairs, &marks, places);
+                let (q, k) = (
+                    some_node(&arrays, &mut random),
+                    random.between(1, places - 1),
+                );
+                let list = pairs.plain_listed(&marks, q, k);
+                assert_eq!(table.query(q, k), Ok(&list[..]));
+            }
+        }
+    }
+
+    /// "Table check: yes exactly when both arrays are the table that build would write, whoever
+    /// filled them."
+    #[test]
+    fn comes_from_arrays_behind_the_check_alone() {
+        let (mut taken, mut denied) = (0, 0);
+        for seed in 0..10_000 {
+            let mut random = Random::new(seed);
+            let arrays = random_network(&mut random);
+            let pairs = AllPairs::of(arrays.lend());
+            let network = accepted(&arrays).unwrap();
+            let marks = some_points(&arrays, &mut random);
+            let points = Points::from_marks(&network, marks.clone()).unwrap();
+            let right = PlainTable::of(&pairs, &marks, some_places(&mut random));
+            let mut lent = right.clone();
+            table_damage::damage(&mut lent, random.pick(&[0, 1, 2]), &mut random);
+            let is_table = lent == right;
+            let PlainTable {
+                places,
+                ids,
+                distances,
+            } = lent;
+            let table = Table::from_arrays(&network, points, places, ids, distances).unwrap();
+            assert_eq!(table.is_some(), is_table);
+            match table {
+                Some(table) => assert_table(&table, &pairs, &marks, places),
+                None => denied += 1,
+            }
+            taken += u32::from(is_table);
+        }
+        assert!(taken >= 2_000 && denied >= 2_000, "{taken}, {denied}");
+    }
+
+    #[test]
+    fn refuses_what_the_thin_calls_refuse() {
+        let (network, points) = n_and_points();
+        let foreign = Points::none(&Network::from_roads(5, &[]).unwrap());
+        let mut random = Random::new(2);
+        for _ in 0..200 {
+            let places = no_places(&mut random);
+            let refusal = |points: &Points, places| {
+                let points = points.clone();
+                Table::build(&network, points, places).err()
+            };
+            assert_eq!(refusal(&foreign, places), Some(Refusal::Points));
+            assert_eq!(refusal(&points, places), Some(Refusal::Table));
+        }
+        let from_arrays = |points: &Points, places, ids, distances| {
+            let (ids, distances) = (vec![0; ids], vec![0; distances]);
+            Table::from_arrays(&network, points.clone(), places, ids, distances).err()
+        };
+        assert_eq!(from_arrays(&foreign, 1, 0, 0), Some(Refusal::Points));
+        // The example of document 01 for number 8.
+        assert_eq!(from_arrays(&points, 2, 11, 12), Some(Refusal::Table));
+        assert_eq!(from_arrays(&points, 2, 12, 13), Some(Refusal::Table));
+        assert_eq!(from_arrays(&points, 18, 108, 108), Some(Refusal::Table));
+        assert_eq!(from_arrays(&points, 2, 12, 12), None);
+        let mut table = Table::build(&network, points, 3).unwrap();
+        for node in [6, 65_536, u32::MAX] {
+            assert_eq!(table.row(node), Err(Refusal::Node));
+            assert_eq!(table.insert(node), Err(Refusal::Node));
+            assert_eq!(table.remove(node), Err(Refusal::Node));
+            // 7 is tried before 9.
+            assert_eq!(table.query(node, 3), Err(Refusal::Node));
+        }
+        for k in [0, 3, 16, 17, u32::MAX] {
+            assert_eq!(table.query(0, k), Err(Refusal::K));
+        }
+        assert_table(
+            &table,
+            &AllPairs::of(network.lend()),
+            &[0, 0, 1, 0, 1, 1],
+            3,
+        );
+    }
+
+    /// A clone of the points, or of the table, goes its own way.
+    #[test]
+    fn is_not_changed_by_clones() {
+        let (network, points) = n_and_points();
+        let mut table = Table::build(&network, points, 2).unwrap();
+        let mut points = table.points().clone();
+        points.insert(0).unwrap();
+        let mut other = table.clone();
+        assert_eq!(other.insert(0), Ok(4));
+        assert_eq!(other.points(), &points);
+        let pairs = AllPairs::of(network.lend());
+        assert_table(&table, &pairs, &[0, 0, 1, 0, 1, 1], 2);
+        assert_table(&other, &pairs, &[1, 0, 1, 0, 1, 1], 2);
+        assert_eq!(table.query(0, 1), Ok(&[2][..]));
+    }
+}
+
+/// The refusals.
+mod refusals {
+    use super::*;
+
+    #[test]
+    fn are_the_numbers_1_to_12() {
+        for (number, refusal) in (1..).zip(Refusal::ALL) {
+            assert_eq!(refusal.number(), number);
+            assert_eq!(Refusal::from_number(number), Some(refusal));
+            let message = format!("refused by number {number}: {}", refusal.condition());
+            assert_eq!(refusal.to_string(), message);
+        }
+        for number in [0, 13, u32::MAX] {
+            assert_eq!(Refusal::from_number(number), None);
+        }
+    }
+
+    /// The column "Condition" of document 01's table of refusals.
+    #[test]
+    fn have_the_wording_of_document_01() {
+        let conditions = [
+            "starts has fewer than 2 or more than 65,536 entries",
+            "starts doesn't begin with 0, falls, or doesn't end with A; neighbours and weights differ in length; A above 524,288",
+            "a neighbour is n or more, is its own node, or doesn't rise strictly within a node",
+            "a weight is 0 or above 65,535",
+            "an arc lacks its return of equal weight",
+            "points has not n entries, or a byte above 1",
+            "a node given is n or more",
+            "K not 2 to 17, or a table array not n × K long",
+            "k is 0 or above 16; by table, above K - 1",
+            "scratch shorter than S, or an array for answers shorter than n (nearest: than k)",
+            "insert on a marked node; remove or verify of an unmarked one",
+            "eager: the expanded count would exceed the limit",
+        ];
+        assert_eq!(Refusal::ALL.map(Refusal::condition), conditions);
+    }
+}

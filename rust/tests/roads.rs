@@ -1,0 +1,175 @@
+//! The example `roads`: its output for the sample data, its messages and its exit status.
+
+mod common;
+#[path = "../examples/roads/report.rs"]
+mod report;
+
+use common::all_pairs::AllPairs;
+use common::table::PlainTable;
+use overlap::road_list::{read_network, read_points};
+use overlap::{Points, NONE};
+use std::fs;
+use std::path::PathBuf;
+
+/// The exit status, what was printed and what was complained of.
+fn run(arguments: &[&str]) -> (u8, String, String) {
+    let arguments: Vec<String> = arguments.iter().map(|word| word.to_string()).collect();
+    let (mut out, mut err) = (Vec::new(), Vec::new());
+    let status = report::run(&arguments, &mut out, &mut err);
+    let text = |bytes| String::from_utf8(bytes).unwrap();
+    (status, text(out), text(err))
+}
+
+fn data(name: &str) -> String {
+    format!("{}/examples/data/{name}", env!("CARGO_MANIFEST_DIR"))
+}
+
+/// A file of this text, in the directory that cargo keeps for tests.
+fn file(name: &str, bytes: &[u8]) -> String {
+    let path = PathBuf::from(env!("CARGO_TARGET_TMPDIR")).join(name);
+    fs::write(&path, bytes).unwrap();
+    path.to_str().unwrap().to_string()
+}
+
+/// Runs the program on sample data.
+fn run_sample(name: &str, options: &[&str]) -> (u8, String, String) {
+    let (roads, points) = (
+        data(&format!("{name}.roads")),
+        data(&format!("{name}.points")),
+    );
+    run(&[&[&roads[..], &points[..]], options].concat())
+}
+
+/// The output of the sample data.
+mod samples {
+    use super::*;
+
+    #[test]
+    fn network_n() {
+        let expected = include_str!("../examples/data/n.expected").to_string();
+        let output = run_sample("n", &[]);
+        assert_eq!(output, (0, expected, String::new()));
+    }
+
+    #[test]
+    fn the_town_for_k_2() {
+        let expected = include_str!("../examples/data/town.expected").to_string();
+        let output = run_sample("town", &["--k", "2", "--K", "4"]);
+        assert_eq!(output, (0, expected, String::new()));
+    }
+
+    /// The line of a site.
+    fn site_line(pairs: &AllPairs, points: &Points, q: u32, k: u32) -> String {
+        let list = pairs.plain_listed(points.marks(), q, k);
+        let texts: Vec<String> = list.iter().map(u32::to_string).collect();
+        let list = match texts.is_empty() {
+            true => "none".to_string(),
+            false => texts.join(", "),
+        };
+        let expanded = pairs.plain_expanded(points.marks(), q, k);
+        format!("{q:<6} {expanded:<10} {list}\n")
+    }
+
+    /// The lines of the table.
+    fn table_lines(pairs: &AllPairs, points: &Points, places: u32) -> String {
+        let table = PlainTable::of(pairs, points.marks(), places);
+        let rows = table.ids.chunks(places as usize);
+        let full = rows.clone().filter(|row| !row.contains(&NONE)).count();
+        let empty = rows.clone().filter(|row| row[0] == NONE).count();
+        let farthest = table.distances.iter().filter(|&&far| far != NONE).max();
+        let (rows, farthest) = (rows.len(), farthest.unwrap());
+        let rows = format!("rows        {rows}: {full} full, {empty} empty\n");
+        format!("\ntable with K = {places}\n{rows}farthest    {farthest}\ncheck       yes\n")
+    }
+
+    /// All sites and all k, by the plain all-pairs calculation.
+    #[test]
+    fn all_lines_are_those_of_the_plain_calculation() {
+        for name in ["n", "town"] {
+            let read = |kind: &str| fs::read_to_string(data(&format!("{name}.{kind}"))).unwrap();
+            let network = read_network(&read("roads")).unwrap();
+            let points = read_points(&read("points"), &network).unwrap();
+            let pairs = AllPairs::of(network.lend());
+            for k in 1..=16 {
+                let (status, out, _) = run_sample(name, &["--k", &k.to_string()]);
+                assert_eq!(status, 0);
+                let sites = 0..network.nodes();
+                let lines: String = sites.map(|q| site_line(&pairs, &points, q, k)).collect();
+                let heading = format!("\nsite   expanded   list for k = {k}\n");
+                let expected = heading + &lines + &table_lines(&pairs, &points, k + 1);
+                assert!(out.ends_with(&expected), "{name}, k {k}: {out}");
+            }
+        }
+    }
+
+    #[test]
+    fn chosen_sites_only() {
+        let (status, out, _) = run_sample("n", &["--site", "5", "--site", "0"]);
+        assert_eq!(status, 0);
+        assert!(out.contains("list for k = 1\n5      1          5\n0      1          2\n\ntable"));
+    }
+}
+
+/// Bad input.
+mod messages {
+    use super::*;
+
+    /// Sees that nothing but the message comes out.
+    fn assert_message(arguments: &[&str], status: u8, message: &str) {
+        let output = run(arguments);
+        let expected = (status, String::new(), format!("{message}\n"));
+        assert_eq!(output, expected);
+    }
+
+    #[test]
+    fn name_the_file_and_the_line() {
+        let roads = file("bad.roads", b"0 1 4\n1 2 0\n");
+        let message = format!("{roads}, line 2: the weight 0 is not 1 to 65,535");
+        assert_message(&[&roads, "none"], 1, &message);
+        let points = file("bad.points", b"2\n\n6\n");
+        let message = format!("{points}, line 3: there is no junction 6: they are 0 to 5");
+        assert_message(&[&data("n.roads"), &points], 1, &message);
+        let binary = file("binary.roads", b"# \xff\n0 1 \xff\n");
+        let message = "line 2: `\u{fffd}` is not a whole number from 0 to 4,294,967,295";
+        assert_message(&[&binary, "none"], 1, &format!("{binary}, {message}"));
+    }
+
+    #[test]
+    fn name_the_file_that_is_missing() {
+        let (status, out, err) = run(&["no such file", "none"]);
+        assert_eq!((status, out), (1, String::new()));
+        assert!(err.starts_with("no such file: "), "{err}");
+    }
+
+    #[test]
+    fn name_what_the_engine_refuses() {
+        let refused = |options: &[&str]| {
+            let (status, _, err) = run_sample("n", options);
+            assert_eq!(status, 1);
+            err
+        };
+        let node = "refused by number 7: a node given is n or more\n";
+        assert_eq!(refused(&["--site", "6"]), format!("site 6: {node}"));
+        for k in ["0", "17", "4294967295"] {
+            assert!(refused(&["--k", k]).starts_with("site 0: refused by number 9: "));
+        }
+        assert!(refused(&["--K", "2", "--k", "2"]).starts_with("site 0: refused by number 9: "));
+        for places in ["0", "1", "18", "4294967295"] {
+            let expected = format!("K = {places}: refused by number 8: ");
+            assert!(refused(&["--K", places]).starts_with(&expected));
+        }
+    }
+
+    #[test]
+    fn explain_the_command_line() {
+        let usage = "usage: roads ROADS POINTS [--site q].. [--k k] [--K K]";
+        let assert_usage = |arguments: &[&str], message: &str| {
+            assert_message(arguments, 2, &format!("{message}\n{usage}"));
+        };
+        assert_usage(&[], "two files are needed");
+        assert_usage(&["a", "b", "c"], "two files are needed");
+        assert_usage(&["a", "b", "--k"], "--k needs a number");
+        assert_usage(&["a", "b", "--site", "x"], "--site needs a number");
+        assert_usage(&["a", "b", "--help"], "no option --help");
+    }
+}
