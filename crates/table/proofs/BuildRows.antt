@@ -1,14 +1,17 @@
--- A row that is lent as a part of both arrays, at its node's place, and is appended to: what the whole arrays then are.
+-- A row that is lent as a part of the arrays, at its node's place, and is looked at or appended to: what that says of the whole arrays.
 -- Assumes nothing.
 use Prim.Native.Nat.{ℕ, _+_, _-_, _*_, _≤_, _<_}
 use mathlib.Core.Path.{_≡_, refl, sym, ap, _∙_}
-use mathlib.Core.Logic.{⊎-elim, inl, inr}
+use mathlib.Core.Logic.{_⊎_, ⊎-elim, inl, inr}
+use mathlib.Core.Bool.{Bool}
 use mathlib.Core.List.{List}
+use native.Mathlib.Nat.{zero-add}
 use native.Mathlib.Omega.{arith}
 use lib.ListN.{length, getD, set, drop}
 use lib.Seq.{getD-take, getD-drop}
 use borrow.Rule.Slice.PartMut.{midOf, putMid, mid-len, put-same, set-mid-at}
-use Rattle.table.specs.Build.{StandsIn, Takes, Refuses, StandsAt, CanAppend, TakesAt, RefusesAt}
+use Rattle.rows.specs.Check.{rowPart}
+use Rattle.table.specs.Build.{Stands, HasPlace, NoPlace, HasPlaceIs, HasPlaceAtIs, Takes, Refuses, CanLook, HasPlaceAt, NoPlaceAt, CanAppend, TakesAt, RefusesAt}
 
 module _ (a e : ℕ) (xs : List ℕ) where
   -- place j of the part
@@ -18,42 +21,73 @@ module _ (a e : ℕ) (xs : List ℕ) where
   part-set : (j v : ℕ) (zs : List ℕ) → e ≤ length xs → j < e - a → zs ≡ set (midOf a (e - a) xs) j v → putMid a (e - a) xs zs ≡ set xs (a + j) v
   part-set j v zs fits h q = ap (putMid a (e - a) xs) q ∙ set-mid-at a (e - a) j xs v (omega (arith, mid-len a e xs fits))
 
-  stands-part : (size p : ℕ) → size ≤ e - a → StandsIn (midOf a (e - a) xs) size p → StandsAt xs a size p
-  stands-part size p h s = record { index = s .index; low = s .low; is = sym (part-at (s .index) (omega (arith, s .low))) ∙ s .is }
+  stands-part : (size p : ℕ) → size ≤ e - a → Stands (midOf a (e - a) xs) 0 size p → Stands xs a size p
+  stands-part size p h s = record { index = s .index; low = s .low; is = sym (part-at (s .index) (omega (arith, s .low))) ∙ rw (zero-add (s .index)) at (s .is) }
 
-  part-stands : (size p : ℕ) → size ≤ e - a → StandsAt xs a size p → StandsIn (midOf a (e - a) xs) size p
-  part-stands size p h s = record { index = s .index; low = s .low; is = part-at (s .index) (omega (arith, s .low)) ∙ s .is }
+  part-stands : (size p : ℕ) → size ≤ e - a → Stands xs a size p → Stands (midOf a (e - a) xs) 0 size p
+  part-stands size p h s = record { index = s .index; low = s .low; is = rw (zero-add (s .index)) (part-at (s .index) (omega (arith, s .low)) ∙ s .is) }
+
+  -- what a place for p in the part of K places from a on says of the whole
+  module _ {K : ℕ} (size p : ℕ) (end : e ≡ a + K) (fits : e ≤ length xs) (short : size ≤ K) where
+    place-part : HasPlace (midOf a (e - a) xs) size p → (size < K) × (Stands xs a size p → ⊥)
+    place-part h = (omega (arith, h .free, mid-len a e xs fits), λ s. h .lacks (part-stands size p (omega arith) s))
+
+    none-part : NoPlace (midOf a (e - a) xs) size p → (size ≡ K) ⊎ Stands xs a size p
+    none-part h = ⊎-elim (λ q. inl (omega (arith, mid-len a e xs fits))) (λ s. inr (stands-part size p (omega arith) s)) (h .why)
 
 -- the row of node i starts at a, and ends before e; w is the node's word
-module _ {xs ids dists : List ℕ} {K i : ℕ} (can : CanAppend xs ids dists K i) (a e w size p d : ℕ) (from : a ≡ i * K) (end : e ≡ a + K) (word : w ≡ i)
-    (is : size ≡ getD xs w 0) where
+module _ {xs ids : List ℕ} {K i : ℕ} (look : CanLook xs ids K i) (a e w size p : ℕ) (from : a ≡ i * K) (end : e ≡ a + K) (word : w ≡ i) (is : size ≡ getD xs w 0) where
   size-is : size ≡ getD xs i 0
   size-is = is ∙ ap (λ (x : ℕ). getD xs x 0) word
 
+  place-at : HasPlace (midOf a (e - a) ids) size p → HasPlaceAt xs ids K i p
+  place-at h =
+      let q = place-part a e ids size p end (omega (arith, look .ids-room)) (omega (arith, look .size, size-is)) h in
+      record { free = omega (arith, size-is, q .0); lacks = λ s. q .1 (rw (from, size-is) s) }
+
+  none-at : NoPlace (midOf a (e - a) ids) size p → NoPlaceAt xs ids K i p
+  none-at h = record { why = rw (sym from, sym size-is) (none-part a e ids size p end (omega (arith, look .ids-room)) (omega (arith, look .size, size-is)) h) }
+
+-- the row of node w as `row_of` hands it out: its length, and whether it has a place for p
+pub part-size : {xs ids l : List ℕ} {K i : ℕ} → CanLook xs ids K i → (w : ℕ) → w ≡ i → l ≡ rowPart K w ids → length l ≡ K
+unfolding rowPart
+part-size {ids} {K} look w word part =
+    let e : w * K + K - w * K ≡ K = omega arith in
+    ap length part ∙ rw e at (mid-len (w * K) (w * K + K) ids (omega (arith, ap (λ (x : ℕ). x * K) word, look .ids-room)))
+
+pub place-look : {xs ids : List ℕ} {K i : ℕ} → CanLook xs ids K i → (w size p : ℕ) (l : List ℕ) → w ≡ i → size ≡ getD xs w 0 → l ≡ rowPart K w ids → {r : Bool}
+    → HasPlaceIs l size p r → HasPlaceAtIs xs ids K i p r
+unfolding rowPart
+place-look {xs} {ids} {K} {i} look w size p l word is part h =
+    let e : w * K + K - w * K ≡ K = omega arith in
+    let from = ap (λ (x : ℕ). x * K) word in
+    record {
+      yes = λ q. place-at look (w * K) (w * K + K) w size p from refl word is (rw e (rw part at (h .yes q)));
+      no = λ q. none-at look (w * K) (w * K + K) w size p from refl word is (rw e (rw part at (h .no q)));
+    }
+
+-- the row of node i is appended to
+module _ {xs ids dists : List ℕ} {K i : ℕ} (can : CanAppend xs ids dists K i) (a e w size p d : ℕ) (from : a ≡ i * K) (end : e ≡ a + K) (word : w ≡ i)
+    (is : size ≡ getD xs w 0) where
   pub takes-at : {zs es : List ℕ} → Takes (midOf a (e - a) ids) zs (midOf a (e - a) dists) es size p d
       → TakesAt xs (set xs w (getD xs w 0 + 1)) ids (putMid a (e - a) ids zs) dists (putMid a (e - a) dists es) K i p d
   takes-at {zs} {es} t =
-      let l : size < e - a = omega (arith, t .free, mid-len a e ids (omega (arith, can .ids-room))) in
-      let q : a + size ≡ i * K + getD xs i 0 = omega (arith, size-is) in
+      let s = size-is (can .look) a e w size p from end word is in
+      let l : size < e - a = omega (arith, t .place .free, mid-len a e ids (omega (arith, can .look .ids-room))) in
+      let q : a + size ≡ i * K + getD xs i 0 = omega (arith, s) in
       record {
-        free = omega (arith, size-is);
-        lacks = λ s. t .lacks (part-stands a e ids size p (omega arith) (rw (from, size-is) s));
+        place = place-at (can .look) a e w size p from end word is (t .place);
         words = rw (word);
-        new-ids = part-set a e ids size p zs (omega (arith, can .ids-room)) l (t .new-ids) ∙ ap (λ (x : ℕ). set ids x p) q;
+        new-ids = part-set a e ids size p zs (omega (arith, can .look .ids-room)) l (t .new-ids) ∙ ap (λ (x : ℕ). set ids x p) q;
         new-dists = part-set a e dists size d es (omega (arith, can .dists-room)) l (t .new-dists) ∙ ap (λ (x : ℕ). set dists x d) q;
       }
 
   pub refuses-at : {zs es : List ℕ} → Refuses (midOf a (e - a) ids) zs (midOf a (e - a) dists) es size p
       → RefusesAt xs xs ids (putMid a (e - a) ids zs) dists (putMid a (e - a) dists es) K i p
   refuses-at t =
-      let l = mid-len a e ids (omega (arith, can .ids-room)) in
       record {
+        place = none-at (can .look) a e w size p from end word is (t .place);
         words = refl;
         new-ids = ap (putMid a (e - a) ids) (t .new-ids) ∙ put-same a (e - a) ids;
         new-dists = ap (putMid a (e - a) dists) (t .new-dists) ∙ put-same a (e - a) dists;
-        why =
-            ⊎-elim
-            (λ q. inl (omega (arith, size-is)))
-            (λ s. inr (rw (sym from, sym size-is) (stands-part a e ids size p (omega (arith, can .size, size-is)) s)))
-            (t .why);
       }

@@ -60,7 +60,8 @@ pub record TakenOut (Held Left : ℕ → ℕ → ℕ → Type 0) (i p d : ℕ) :
   pub old : (j q e : ℕ) → Left j q e → Held j q e
   pub kept : (j q e : ℕ) → Held j q e → Left j q e ⊎ ((j ≡ i) × (q ≡ p) × (e ≡ d))
 
--- it is taken: the row of i has it as its last entry, and the nodes that i's arcs lead to are offered it
+-- it is taken: the row of i has it as its last entry, and the nodes that i's arcs lead to are offered it, but for those whose rows have the point or
+-- are full
 pub record RowTakes (g : Network) (T T′ : ℕ → List (ℕ × ℕ)) (i p d : ℕ) : Type 0 where
   pub here : T′ i ≡ T i ++ (p, d) ∷ []
   pub other : (j : ℕ) → j < nodeCount g → j ≢ i → T′ j ≡ T j
@@ -71,10 +72,15 @@ pub record OverArc (g : Network) (i p d j q e : ℕ) : Type 0 where
   pub point : q ≡ p
   pub far : e ≡ d + weight
 
-pub record OffersOn (g : Network) (Left New : ℕ → ℕ → ℕ → Type 0) (i p d : ℕ) : Type 0 where
+-- a row has p, or is full
+pub data Served (K : ℕ) (xs : List (ℕ × ℕ)) (p : ℕ) : Type 0 where
+  has : {e : ℕ} → List·Memᴰ (p, e) xs → Served K xs p
+  filled : length xs ≡ K → Served K xs p
+
+pub record OffersOn (g : Network) (K : ℕ) (T′ : ℕ → List (ℕ × ℕ)) (Left New : ℕ → ℕ → ℕ → Type 0) (i p d : ℕ) : Type 0 where
   pub kept : (j q e : ℕ) → Left j q e → New j q e
   pub old : (j q e : ℕ) → New j q e → Left j q e ⊎ OverArc g i p d j q e
-  pub new : {j w : ℕ} → Arc g i j w → New j p (d + w)
+  pub new : {j w : ℕ} → Arc g i j w → Served K (T′ j) p ⊎ New j p (d + w)
 
 -- an arc starts at a node
 from-in : {g : Network} → Accepted g → {a b w : ℕ} → Arc g a b w → a < nodeCount g
@@ -172,7 +178,7 @@ module _ {g : Network} (ok : Accepted g) {P : List ℕ} {K : ℕ} where
                 (λ j q e x. omega (arith, o .least j q e x, fits q (b .held j q e x .sound .inside))) free lacks r,
           )
 
-      module _ {T′ : ℕ → List (ℕ × ℕ)} {New : ℕ → ℕ → ℕ → Type 0} (t : RowTakes g T T′ i p d) (f : OffersOn g Left New i p d) where
+      module _ {T′ : ℕ → List (ℕ × ℕ)} {New : ℕ → ℕ → ℕ → Type 0} (t : RowTakes g T T′ i p d) (f : OffersOn g K T′ Left New i p d) where
         new-cases : (j : ℕ) → j < nodeCount g → (y : ℕ × ℕ) → List·Memᴰ y (T′ j) → List·Memᴰ y (T j) ⊎ ((j ≡ i) × (y ≡ (p, d)))
         new-cases j h y m =
             elim (ℕ-discrete j i) [
@@ -247,6 +253,18 @@ module _ {g : Network} (ok : Accepted g) {P : List ℕ} {K : ℕ} where
             there : (j ≡ i) × (q ≡ p) × (e ≡ d) → List·Memᴰ (q, e) (T′ j)
             there (x, y, z) = rw (x, y, z) new-last
 
+        new-passed : (j : ℕ) → j < nodeCount g → (y : ℕ × ℕ) → List·Memᴰ y (T′ j) → key y ≤ key (p, d)
+        new-passed j h y m =
+            ⊎-elim
+            (λ a. omega (arith, b .passed j h y a, b .ahead i p d (o .was)))
+            (λ a. omega (arith, ap key (a .1)))
+            (new-cases j h y m)
+
+        -- a row that has p, or is full, needs no offer of p that comes from here
+        served : (j w : ℕ) → j < nodeCount g → Served K (T′ j) p → Placed K (T′ j) p (d + w)
+        served j w h (has {e} m) = stands {e = e} (omega (arith, new-passed j h (p, e) m)) m
+        served j w h (filled l) = full l (λ y m. omega (arith, new-passed j h y m))
+
         new-closed : {j c w : ℕ} → Arc g j c w → (q e : ℕ) → List·Memᴰ (q, e) (T′ c) → Placed K (T′ j) q (e + w) ⊎ New j q (e + w)
         new-closed {j} {c} {w} r q e m =
             ⊎-elim
@@ -255,12 +273,13 @@ module _ {g : Network} (ok : Accepted g) {P : List ℕ} {K : ℕ} where
             (λ l. inl (new-placed j q (e + w) (from-in ok r) l))
             (λ l. ⊎-elim (λ x. inr x) (λ x. inl (stands (omega arith) x)) (new-held j q (e + w) (from-in ok r) l))
             (b .rows .closed r q e a))
-            (λ a. inr (given a))
+            (λ a. given a)
             (new-cases c (ok .leads-in r) (q, e) m)
           where
-            given : (c ≡ i) × (_≡_ {A = ℕ × ℕ} (q, e) (p, d)) → New j q (e + w)
+            given : (c ≡ i) × (_≡_ {A = ℕ × ℕ} (q, e) (p, d)) → Placed K (T′ j) q (e + w) ⊎ New j q (e + w)
             given (x, y) =
-                rw (ap (λ (z : ℕ × ℕ). z .0) y, ap (λ (z : ℕ × ℕ). z .1) y) (f .new (rw x at (ok .returns r)))
+                rw (ap (λ (z : ℕ × ℕ). z .0) y, ap (λ (z : ℕ × ℕ). z .1) y)
+                (⊎-elim (λ s. inl (served j w (from-in ok r) s)) (λ n. inr n) (f .new (rw x at (ok .returns r))))
 
         pub building-taken : Building g P K T′ New (key (p, d))
         building-taken =
@@ -281,12 +300,7 @@ module _ {g : Network} (ok : Accepted g) {P : List ℕ} {K : ℕ} where
                     (b .rows .source j h m);
                 closed = new-closed;
               };
-              passed =
-                  λ j h y m.
-                  ⊎-elim
-                  (λ a. omega (arith, b .passed j h y a, b .ahead i p d (o .was)))
-                  (λ a. omega (arith, ap key (a .1)))
-                  (new-cases j h y m);
+              passed = new-passed;
               ahead =
                   λ j q e x.
                   ⊎-elim

@@ -26,13 +26,14 @@ use Rattle.expansion.specs.Room.{degree}
 use Rattle.expansion.proofs.TagLaws.{entry-same}
 use Rattle.rows.specs.Exact.{Placed}
 use Rattle.rows.specs.Flat.{place, places, rowAt, Sized, IsTable}
-use Rattle.table.specs.Offer.{offerOf, OfferedBy, CanOffer}
-use Rattle.table.specs.Build.{StandsAt, CanAppend, TakesAt, RefusesAt, Offered, SeededBy, Seeded, CanSpread}
+use Rattle.table.specs.Offer.{offerOf, OfferedBy}
+use Rattle.table.specs.Build.{Stands, NoPlaceAt, CanAppend, TakesAt, RefusesAt, CanOfferOn, Offered, SeededBy, Seeded, CanSpread}
 use Rattle.rows.proofs.Exact.{exact-row}
 use Rattle.rows.proofs.Flat.{places-length, place-in, in-place, places-padded, places-same}
 use Rattle.rows.proofs.Laid.{row-fits, rows-apart, rows-table}
 use Rattle.rows.proofs.PutLaws.{places-nil}
-use Rattle.table.proofs.Building.{Offer, Building, TakenOut, RowTakes, OverArc, OffersOn, building-same, building-done, building-dropped, building-taken, offer, stands-placed, full-placed, taken-exact}
+use Rattle.table.proofs.Building.{Offer, Building, TakenOut, RowTakes, OverArc, Served, has, filled, OffersOn, building-same, building-done, building-dropped, building-taken, offer, stands-placed, full-placed, taken-exact}
+use Rattle.table.proofs.BuildSteps.{place-or}
 use Rattle.table.proofs.BuildRoom.{freeArcs, free-same, free-less, free-all}
 
 -- the row of i, without its padding
@@ -61,6 +62,10 @@ places-more ids dists at zero = ap (λ (x : ℕ). place ids dists x ∷ []) (sym
 places-more ids dists at (suc k) =
     let q : suc at + k ≡ at + suc k = omega arith in
     ap (λ (l : List (ℕ × ℕ)). place ids dists at ∷ l) (rw q at (places-more ids dists (suc at) k))
+
+-- a point that stands among the ids is in the row, with the distance at its place
+stands-in : (ids dists : List ℕ) (at size p : ℕ) (s : Stands ids at size p) → List·Memᴰ (p, getD dists (at + s .index) 0) (places ids dists at size)
+stands-in ids dists at size p s = Memᴰ·cast (λ k. (sym (s .is) k, getD dists (at + s .index) 0)) (place-in ids dists at size (s .index) (s .low))
 
 -- offers go by distance and point, then by node
 rows-order : (i p d j q e : ℕ) → i < 65536 → p < 65536 → j < 65536 → q < 65536 → offerOf i p d ≤ offerOf j q e → key (p, d) ≤ key (q, e)
@@ -191,18 +196,15 @@ module _ {g : Network} {P xs ys ids dists : List ℕ} {K len : ℕ} (ok : Accept
   can-append most =
       let r = row-fits i (nodeCount g) K popped-node in
       record {
-        word = omega (arith, popped-node, pop .size, f .room);
-        size = popped-size;
+        look = record { word = omega (arith, popped-node, pop .size, f .room); size = popped-size; ids-room = omega (arith, f .sized .all-ids) };
         places = most;
-        ids-room = omega (arith, f .sized .all-ids);
         dists-room = omega (arith, f .sized .all-dists);
       }
 
   -- a point that stands in the row
-  stands-row : StandsAt ids (i * K) (getD ys i 0) p → Placed K (rowsOf K ys ids dists i) p d
+  stands-row : Stands ids (i * K) (getD ys i 0) p → Placed K (rowsOf K ys ids dists i) p d
   stands-row s =
-      stands-placed ok some built taken-out (getD dists (i * K + s .index) 0)
-      (Memᴰ·cast (λ k. (sym (s .is) k, getD dists (i * K + s .index) 0)) (place-in ids dists (i * K) (getD ys i 0) (s .index) (s .low)))
+      stands-placed ok some built taken-out (getD dists (i * K + s .index) 0) (stands-in ids dists (i * K) (getD ys i 0) p s)
 
   module _ {zs ids′ dists′ : List ℕ} (r : RefusesAt ys zs ids ids′ dists dists′ K i p) where
     needless : Placed K (rowsOf K ys ids dists i) p d
@@ -210,7 +212,7 @@ module _ {g : Network} {P xs ys ids dists : List ℕ} {K len : ℕ} (ok : Accept
         ⊎-elim
         (λ e. full-placed ok some built taken-out (places-length ids dists (i * K) (getD ys i 0) ∙ e))
         stands-row
-        (r .why)
+        (r .place .why)
 
     dropped : Filling g P K ys ids dists (len - 1)
     dropped =
@@ -250,32 +252,51 @@ module _ {g : Network} {P xs ys ids dists : List ℕ} {K len : ℕ} (ok : Accept
     same-words = ap length (r .words) ∙ length-set ys i (size + 1) ∙ pop .size
 
     free-row : length (rowsOf K ys ids dists i) < K
-    free-row = omega (arith, places-length ids dists (i * K) size, r .free)
+    free-row = omega (arith, places-length ids dists (i * K) size, r .place .free)
 
     lacks-row : (e : ℕ) → List·Memᴰ (p, e) (rowsOf K ys ids dists i) → ⊥
     lacks-row e m =
         let a = in-place ids dists (i * K) size (p, e) m in
-        r .lacks (record { index = a .index; low = a .low; is = sym (ap (λ (z : ℕ × ℕ). z .0) (a .is)) })
+        r .place .lacks (record { index = a .index; low = a .low; is = sym (ap (λ (z : ℕ × ℕ). z .0) (a .is)) })
 
     free-taken : freeArcs g K zs (nodeCount g) + degree g i ≡ freeArcs g K xs (nodeCount g)
-    free-taken = free-less g K ys zs i (nodeCount g) popped-node (r .free) word-here (λ x h n. word-other x n) ∙ free-popped
+    free-taken = free-less g K ys zs i (nodeCount g) popped-node (r .place .free) word-here (λ x h n. word-other x n) ∙ free-popped
 
     arcs-of : length (neighboursOf g i) ≡ degree g i
     arcs-of = neighbours-length (accepted-ranges ok) i popped-node
 
+    same-ids : length ids′ ≡ nodeCount g * K
+    same-ids = ap length (r .new-ids) ∙ length-set ids (i * K + size) p ∙ f .sized .all-ids
+
+    sizes-fit : (j : ℕ) → j < nodeCount g → getD zs j 0 ≤ K
+    sizes-fit j h =
+        elim (ℕ-discrete j i) [
+          | yes e ↦ omega (arith, ap (λ (x : ℕ). getD zs x 0) e, word-here, r .place .free)
+          | no n ↦ omega (arith, word-other j n, built .rows .sorted j h .short, places-length ids dists (j * K) (getD ys j 0))
+        ]
+
     -- what `offer` requires
-    pub can-offer : CanOffer g zs (len - 1) i p d
+    pub can-offer : CanOfferOn g zs ids′ K (len - 1) i p d
     can-offer =
         let o = offer ok some built taken-out in
         let e = taken-exact ok some built taken-out free-row lacks-row in
         let u = dist-walk ok (o .sound .walk) in
         record {
-          accepted = ok;
-          inside = popped-node;
-          point = o .sound .inside;
-          fits = omega (arith, distance ok i p .bound (u .some), ok .few, ok .some);
-          queue = rw same-queue (pop .queue .queue);
-          room = omega (arith, f .room, f .left, same-words, free-taken, arcs-of);
+          can = record {
+            accepted = ok;
+            inside = popped-node;
+            point = o .sound .inside;
+            fits = omega (arith, distance ok i p .bound (u .some), ok .few, ok .some);
+            queue = rw same-queue (pop .queue .queue);
+            room = omega (arith, f .room, f .left, same-words, free-taken, arcs-of);
+          };
+          looks =
+              λ j h.
+              record {
+                word = omega (arith, f .room, same-words);
+                size = sizes-fit j h;
+                ids-room = omega (arith, row-fits j (nodeCount g) K h, same-ids);
+              };
         }
 
     -- the place that is taken
@@ -283,8 +304,8 @@ module _ {g : Network} {P xs ys ids dists : List ℕ} {K len : ℕ} (ok : Accept
     at-here =
         let c = row-fits i (nodeCount g) K popped-node in
         λ k. (
-          (ap (λ (l : List ℕ). getD l (i * K + size) 0) (r .new-ids) ∙ getD-set-same ids (i * K + size) p 0 (omega (arith, f .sized .all-ids, r .free))) k,
-          (ap (λ (l : List ℕ). getD l (i * K + size) 0) (r .new-dists) ∙ getD-set-same dists (i * K + size) d 0 (omega (arith, f .sized .all-dists, r .free))) k,
+          (ap (λ (l : List ℕ). getD l (i * K + size) 0) (r .new-ids) ∙ getD-set-same ids (i * K + size) p 0 (omega (arith, f .sized .all-ids, r .place .free))) k,
+          (ap (λ (l : List ℕ). getD l (i * K + size) 0) (r .new-dists) ∙ getD-set-same dists (i * K + size) d 0 (omega (arith, f .sized .all-dists, r .place .free))) k,
         )
 
     at-other : (j : ℕ) → j ≢ i * K + size → place ids′ dists′ j ≡ place ids dists j
@@ -294,9 +315,9 @@ module _ {g : Network} {P xs ys ids dists : List ℕ} {K len : ℕ} (ok : Accept
     )
 
     apart : (j m : ℕ) → j ≢ i → m < K → j * K + m ≢ i * K + size
-    apart j m n l = ⊎-elim (λ h. omega arith) (λ h. omega (arith, r .free)) (rows-apart j i m K n l)
+    apart j m n l = ⊎-elim (λ h. omega arith) (λ h. omega (arith, r .place .free)) (rows-apart j i m K n l)
 
-    module _ {ws : List ℕ} (o : Offered g zs ws (len - 1) i p d (length (neighboursOf g i))) where
+    module _ {ws : List ℕ} {then : ℕ} (o : Offered g zs ws ids′ K (len - 1) then i p d (length (neighboursOf g i))) where
       row-takes : RowTakes g (rowsOf K ys ids dists) (rowsOf K ws ids′ dists′) i p d
       row-takes =
           let next : size + 1 ≡ suc size = omega arith in
@@ -327,7 +348,17 @@ module _ {g : Network} {P xs ys ids dists : List ℕ} {K len : ℕ} (ok : Accept
           let s = entry-same e q j (d + getD (weightsOf g i) (y .place) 0) p (getD (neighboursOf g i) (y .place) 0) b a point-fits (omega (arith, ok .leads-in arc, ok .few)) (y .is) in
           record { weight = getD (weightsOf g i) (y .place) 0; arc = rw (s .2) arc; point = s .1; far = s .0 }
 
-      offers-on : OffersOn g (HeldIn (nodeCount g) ys (len - 1)) (HeldIn (nodeCount g) ws (len - 1 + deg)) i p d
+      -- a row that has no place for p has p, or is full
+      served : (j : ℕ) → j < nodeCount g → NoPlaceAt zs ids′ K j p → Served K (rowsOf K ws ids′ dists′ j) p
+      served j h a =
+          let s = o .frame .words j h in
+          rw s
+          (⊎-elim
+          (λ e. filled (places-length ids′ dists′ (j * K) (getD zs j 0) ∙ e))
+          (λ y. has (stands-in ids′ dists′ (j * K) (getD zs j 0) p y))
+          (a .why))
+
+      offers-on : OffersOn g K (rowsOf K ws ids′ dists′) (HeldIn (nodeCount g) ys (len - 1)) (HeldIn (nodeCount g) ws then) i p d
       offers-on =
           record {
             kept = λ j q e x. record { node = x .node; point = x .point; holds = o .holds (offerOf j q e) .1 (inl (rw same-queue (x .holds))) };
@@ -335,28 +366,34 @@ module _ {g : Network} {P xs ys ids dists : List ℕ} {K len : ℕ} (ok : Accept
                 λ j q e x.
                 ⊎-elim
                 (λ a. inl (record { node = x .node; point = x .point; holds = rw same-queue at a }))
-                (λ a. inr (over j q e (x .node) (x .point) a))
+                (λ a. inr (over j q e (x .node) (x .point) (a .by)))
                 (o .holds (offerOf j q e) .0 (x .holds));
             new =
                 λ {j} {w} arc.
                 let y = arc-place (accepted-ranges ok) arc in
-                record {
-                  node = omega (arith, ok .leads-in arc, ok .few);
+                let h = ok .leads-in arc in
+                ⊎-elim
+                (λ a.
+                inr
+                (record {
+                  node = omega (arith, h, ok .few);
                   point = point-fits;
                   holds =
                       o .holds (offerOf j p (d + w)) .1
-                      (inr (record { place = y .at; low = y .low; is = omega (arith, y .leads, y .weighs) }));
-                };
+                      (inr (record { by = record { place = y .at; low = y .low; is = omega (arith, y .leads, y .weighs) }; place = rw (y .leads) a }));
+                }))
+                (λ a. inl (served j h a))
+                (place-or zs ids′ K j p (sizes-fit j h));
           }
 
-      pub taken-less : len - 1 + deg + freeArcs g K ws (nodeCount g) < len + freeArcs g K xs (nodeCount g)
-      taken-less = omega (arith, free-taken, arcs-of, free-same g K zs ws (nodeCount g) (λ x h. o .frame .words x h))
+      pub taken-less : then + freeArcs g K ws (nodeCount g) < len + freeArcs g K xs (nodeCount g)
+      taken-less = omega (arith, free-taken, arcs-of, o .few, free-same g K zs ws (nodeCount g) (λ x h. o .frame .words x h))
 
-      pub filling-taken : Filling g P K ws ids′ dists′ (len - 1 + deg)
+      pub filling-taken : Filling g P K ws ids′ dists′ then
       filling-taken =
           record {
             sized = record {
-              all-ids = ap length (r .new-ids) ∙ length-set ids (i * K + size) p ∙ f .sized .all-ids;
+              all-ids = same-ids;
               all-dists = ap length (r .new-dists) ∙ length-set dists (i * K + size) d ∙ f .sized .all-dists;
             };
             room = omega (arith, f .room, same-words, o .frame .size);

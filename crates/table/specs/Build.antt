@@ -14,75 +14,102 @@ use Rattle.network.specs.Points.{marked}
 use Rattle.expansion.specs.Queue.{Holds, Queue}
 use Rattle.expansion.specs.Area.{Kept, Blank, Wiped}
 use Rattle.rows.specs.Flat.{Sized, IsTable}
-use Rattle.table.specs.Offer.{offerOf, OfferedBy}
+use Rattle.table.specs.Offer.{offerOf, OfferedBy, CanOffer}
 
--- a point stands among the first `size` ids of a row
-pub record StandsIn (ids : List ℕ) (size p : ℕ) : Type 0 where
+-- a point stands among the `size` ids from place `from` on
+pub record Stands (ids : List ℕ) (from size p : ℕ) : Type 0 where
   pub index : ℕ
   pub low : index < size
-  pub is : getD ids index 0 ≡ p
+  pub is : getD ids (from + index) 0 ≡ p
 
--- whether it does
+-- whether it stands among the first `size` ids of a row
 pub record StandsIs (ids : List ℕ) (size p : ℕ) (r : Bool) : Type 0 where
-  pub yes : r ≡ true → StandsIn ids size p
-  pub no : r ≡ false → StandsIn ids size p → ⊥
+  pub yes : r ≡ true → Stands ids 0 size p
+  pub no : r ≡ false → Stands ids 0 size p → ⊥
 
--- a row of `size` entries takes (p, d) behind them where it has a free place and lacks p; else it stays as it is
-pub record Takes (ids ids′ dists dists′ : List ℕ) (size p d : ℕ) : Type 0 where
+-- a row of `size` entries has a place for p: one is free, and it lacks p
+pub record HasPlace (ids : List ℕ) (size p : ℕ) : Type 0 where
   pub free : size < length ids
-  pub lacks : StandsIn ids size p → ⊥
+  pub lacks : Stands ids 0 size p → ⊥
+
+-- it has none: it is full, or p stands there
+pub record NoPlace (ids : List ℕ) (size p : ℕ) : Type 0 where
+  pub why : (size ≡ length ids) ⊎ Stands ids 0 size p
+
+-- whether it has one
+pub record HasPlaceIs (ids : List ℕ) (size p : ℕ) (r : Bool) : Type 0 where
+  pub yes : r ≡ true → HasPlace ids size p
+  pub no : r ≡ false → NoPlace ids size p
+
+-- the row takes (p, d) behind its entries where it has a place for p; else it stays as it is
+pub record Takes (ids ids′ dists dists′ : List ℕ) (size p d : ℕ) : Type 0 where
+  pub place : HasPlace ids size p
   pub new-ids : ids′ ≡ set ids size p
   pub new-dists : dists′ ≡ set dists size d
 
 pub record Refuses (ids ids′ dists dists′ : List ℕ) (size p : ℕ) : Type 0 where
+  pub place : NoPlace ids size p
   pub new-ids : ids′ ≡ ids
   pub new-dists : dists′ ≡ dists
-  pub why : (size ≡ length ids) ⊎ StandsIn ids size p
 
 pub record Appended (ids ids′ dists dists′ : List ℕ) (size p d : ℕ) (r : Bool) : Type 0 where
   pub taken : r ≡ true → Takes ids ids′ dists dists′ size p d
   pub refused : r ≡ false → Refuses ids ids′ dists dists′ size p
 
 -- the same of node i's row, from place i * K on, whose size is the node's word of scratch
-pub record StandsAt (ids : List ℕ) (from size p : ℕ) : Type 0 where
-  pub index : ℕ
-  pub low : index < size
-  pub is : getD ids (from + index) 0 ≡ p
-
-pub record CanAppend (xs ids dists : List ℕ) (K i : ℕ) : Type 0 where
+pub record CanLook (xs ids : List ℕ) (K i : ℕ) : Type 0 where
   pub word : i < length xs
   pub size : getD xs i 0 ≤ K
-  pub places : K ≤ 17
   pub ids-room : i * K + K ≤ length ids
+
+pub record HasPlaceAt (xs ids : List ℕ) (K i p : ℕ) : Type 0 where
+  pub free : getD xs i 0 < K
+  pub lacks : Stands ids (i * K) (getD xs i 0) p → ⊥
+
+pub record NoPlaceAt (xs ids : List ℕ) (K i p : ℕ) : Type 0 where
+  pub why : (getD xs i 0 ≡ K) ⊎ Stands ids (i * K) (getD xs i 0) p
+
+pub record HasPlaceAtIs (xs ids : List ℕ) (K i p : ℕ) (r : Bool) : Type 0 where
+  pub yes : r ≡ true → HasPlaceAt xs ids K i p
+  pub no : r ≡ false → NoPlaceAt xs ids K i p
+
+pub record CanAppend (xs ids dists : List ℕ) (K i : ℕ) : Type 0 where
+  pub look : CanLook xs ids K i
+  pub places : K ≤ 17
   pub dists-room : i * K + K ≤ length dists
 
 pub record TakesAt (xs ys ids ids′ dists dists′ : List ℕ) (K i p d : ℕ) : Type 0 where
-  pub free : getD xs i 0 < K
-  pub lacks : StandsAt ids (i * K) (getD xs i 0) p → ⊥
+  pub place : HasPlaceAt xs ids K i p
   pub words : ys ≡ set xs i (getD xs i 0 + 1)
   pub new-ids : ids′ ≡ set ids (i * K + getD xs i 0) p
   pub new-dists : dists′ ≡ set dists (i * K + getD xs i 0) d
 
 pub record RefusesAt (xs ys ids ids′ dists dists′ : List ℕ) (K i p : ℕ) : Type 0 where
+  pub place : NoPlaceAt xs ids K i p
   pub words : ys ≡ xs
   pub new-ids : ids′ ≡ ids
   pub new-dists : dists′ ≡ dists
-  pub why : (getD xs i 0 ≡ K) ⊎ StandsAt ids (i * K) (getD xs i 0) p
 
 pub record AppendedAt (xs ys ids ids′ dists dists′ : List ℕ) (K i p d : ℕ) (r : Bool) : Type 0 where
   pub taken : r ≡ true → TakesAt xs ys ids ids′ dists dists′ K i p d
   pub refused : r ≡ false → RefusesAt xs ys ids ids′ dists dists′ K i p
 
--- the arcs of v before place `end` have each put in an entry
-pub record Offered (g : Network) (xs ys : List ℕ) (len v p d end : ℕ) : Type 0 where
-  pub frame : Kept xs ys (nodeCount g)
-  pub queue : Queue (drop (nodeCount g) ys) (len + end)
-  pub holds : (k : ℕ) → Holds (drop (nodeCount g) ys) (len + end) k ↔ (Holds (drop (nodeCount g) xs) len k ⊎ OfferedBy g v p d end k)
+-- what offering (p, d), of the row of v, over v's arcs requires: the distance and the queue have room, and each node's row can be looked at
+pub record CanOfferOn (g : Network) (xs ids : List ℕ) (K len v p d : ℕ) : Type 0 where
+  pub can : CanOffer g xs len v p d
+  pub looks : (i : ℕ) → i < nodeCount g → CanLook xs ids K i
 
--- all arcs of v have; `more` is the queue's length then
-pub record OfferedAll (g : Network) (xs ys : List ℕ) (len more v p d : ℕ) : Type 0 where
-  pub count : more ≡ len + length (neighboursOf g v)
-  pub offered : Offered g xs ys len v p d (length (neighboursOf g v))
+-- some arc of v before place `end` put in the key: the row that it leads to has a place for p
+pub record OfferedTo (g : Network) (xs ids : List ℕ) (K v p d end k : ℕ) : Type 0 where
+  pub by : OfferedBy g v p d end k
+  pub place : HasPlaceAt xs ids K (getD (neighboursOf g v) (by .place) 0) p
+
+-- the arcs of v before place `end` that lead to a row with a place for p have each put in an entry; `more` is the queue's length then
+pub record Offered (g : Network) (xs ys ids : List ℕ) (K len more v p d end : ℕ) : Type 0 where
+  pub frame : Kept xs ys (nodeCount g)
+  pub few : more ≤ len + end
+  pub queue : Queue (drop (nodeCount g) ys) more
+  pub holds : (k : ℕ) → Holds (drop (nodeCount g) ys) more k ↔ (Holds (drop (nodeCount g) xs) len k ⊎ OfferedTo g xs ids K v p d end k)
 
 -- the points below `end` have each put in an entry: itself, at distance 0
 pub record SeededBy (P : List ℕ) (end k : ℕ) : Type 0 where

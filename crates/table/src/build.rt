@@ -1,18 +1,19 @@
 // Build: source 000, Fig. 8. Every point is offered to its own node's row; the least offer by distance, point and node is taken out, and where the row
-// has a free place and lacks the point it takes it, and the node's neighbours are offered it in turn. Document 01, 'The table': 'Build fills it.'
+// has a free place and lacks the point it takes it, and those neighbours whose rows have a place for it are offered it in turn. Document 01, 'The
+// table': 'Build fills it.'
 ghost use mathlib.Core.Path.{_≡_};
 ghost use Prim.Native.Nat.{_≤_};
 ghost use lib.ListN.{length, replicate};
-ghost use Rattle.network.specs.Network.{network};
+ghost use Rattle.network.specs.Network.{network, neighboursOf};
 ghost use Rattle.network.specs.Distance.{NONE};
-ghost use Rattle.table.specs.Offer.{CanOffer};
-ghost use Rattle.table.specs.Build.{StandsIs, Appended, CanAppend, AppendedAt, OfferedAll, CanSeed, Seeded, CanSpread, SpreadLeft, CanBuild, BuildLeft};
+ghost use Rattle.table.specs.Build.{StandsIs, HasPlaceIs, CanLook, HasPlaceAtIs, Appended, CanAppend, AppendedAt, CanOfferOn, Offered, CanSeed, Seeded, CanSpread, SpreadLeft, CanBuild, BuildLeft};
 use expansion::queue;
 use expansion::tags;
 use expansion::words;
 use network::arcs;
 use network::arcs::wide;
 use network::distance::Distance;
+use rows::rows::row_of;
 
 // Makes every place empty.
 fn empty(places: &mut [u32])
@@ -41,20 +42,39 @@ fn stands(ids_row: &[u32], size: usize, p: u32) -> bool
     false
 }
 
-// Puts (p, d) behind the `size` entries of a row, where it has a free place and lacks p. Returns whether it did.
-fn append(ids_row: &mut [u32], distances_row: &mut [u32], size: usize, p: u32, d: u32) -> bool
-    requires { ⌜ (length (now «distances_row») ≡ length (now «ids_row»)) × (size ≤ length (now «ids_row»)) ⌝ }
-    ensures { λ r. ⌜ Appended (now («ids_row» .entry)) (now («ids_row» .exit)) (now («distances_row» .entry)) (now («distances_row» .exit)) size p d r ⌝ }
+// Whether a row of `size` entries has a place for a point: one is free, and the row lacks the point.
+fn has_place(ids_row: &[u32], size: usize, p: u32) -> bool
+    requires { ⌜ size ≤ length (now «ids_row») ⌝ }
+    ensures { λ r. ⌜ HasPlaceIs (now («ids_row» .entry)) size p r ⌝ }
 {
     if size == ids_row.len() {
         return false;
     }
-    if stands(ids_row, size, p) {
-        return false;
+    !stands(ids_row, size, p)
+}
+
+// The same of a node's row, lent as the part of the ids that it is. Its size is the node's word of scratch.
+fn has_place_at(s: &[u32], ids: &[u32], places: usize, node: u32, p: u32) -> bool
+    requires { ⌜ CanLook (now s) (now ids) places node ⌝ }
+    ensures { λ r. ⌜ HasPlaceAtIs (now (s .entry)) (now (ids .entry)) places node p r ⌝ }
+{
+    let at = wide(node);
+    let ids_row = row_of(ids, at, places);
+    let size = s[at];
+    has_place(ids_row, wide(size), p)
+}
+
+// Puts (p, d) behind the `size` entries of a row, where it has a place for p. Returns whether it did.
+fn append(ids_row: &mut [u32], distances_row: &mut [u32], size: usize, p: u32, d: u32) -> bool
+    requires { ⌜ (length (now «distances_row») ≡ length (now «ids_row»)) × (size ≤ length (now «ids_row»)) ⌝ }
+    ensures { λ r. ⌜ Appended (now («ids_row» .entry)) (now («ids_row» .exit)) (now («distances_row» .entry)) (now («distances_row» .exit)) size p d r ⌝ }
+{
+    if has_place(ids_row, size, p) {
+        ids_row[size] = p;
+        distances_row[size] = d;
+        return true;
     }
-    ids_row[size] = p;
-    distances_row[size] = d;
-    true
+    false
 }
 
 // The same of a node's row, lent as the part of both arrays that it is. Its size is the node's word of scratch.
@@ -87,32 +107,39 @@ fn append_at(
     taken
 }
 
-// Offers a point of a node's row to the nodes that its arcs lead to, at the distance over the arc. Returns the queue's length then.
+// Offers a point of a node's row to the nodes that its arcs lead to, at the distance over the arc, where their rows have a place for it: a row that has
+// none now has none later, and would refuse the offer. Returns the queue's length then.
 fn offer(
     starts: &[u32],
     neighbours: &[u32],
     weights: &[u32],
     s: &mut [u32],
+    ids: &[u32],
+    places: usize,
     len: usize,
     node: u32,
     p: u32,
     d: u32,
 ) -> usize
-    requires { ⌜ CanOffer (network (now starts) (now neighbours) (now weights)) (now s) len node p d ⌝ }
-    ensures { λ r. ⌜ OfferedAll (network (now (starts .entry)) (now (neighbours .entry)) (now (weights .entry))) (now (s .entry)) (now (s .exit)) len r node p d ⌝ }
+    requires { ⌜ CanOfferOn (network (now starts) (now neighbours) (now weights)) (now s) (now ids) places len node p d ⌝ }
+    ensures { λ r. ⌜ Offered (network (now (starts .entry)) (now (neighbours .entry)) (now (weights .entry))) (now (s .entry)) (now (s .exit)) (now (ids .entry)) places len r node p d (length (neighboursOf (network (now (starts .entry)) (now (neighbours .entry)) (now (weights .entry))) node)) ⌝ }
 {
     let at = starts.len() - 1;
     let ahead = arcs::neighbours_of(starts, neighbours, wide(node));
     let weighed = arcs::weights_of(starts, weights, wide(node));
+    let mut more = len;
     let mut j = 0;
     while j < ahead.len() {
         let to = ahead[j];
         let far = d + weighed[j];
-        let tag = tags::tag_of(p, to);
-        queue::push_at(s, at, len + j, far, tag);
         j += 1;
+        if has_place_at(s, ids, places, to, p) {
+            let tag = tags::tag_of(p, to);
+            queue::push_at(s, at, more, far, tag);
+            more += 1;
+        }
     }
-    len + j
+    more
 }
 
 // Offers every point to its own node's row. Returns how many there are.
@@ -136,8 +163,8 @@ fn seed(points: &[u8], s: &mut [u32]) -> usize
     len
 }
 
-// Offers every point to its own node's row, and takes the offers out, least first: a row that has a free place and lacks the point takes it, and the
-// node's neighbours are offered it. The queue is empty at the end.
+// Offers every point to its own node's row, and takes the offers out, least first: a row that has a place for the point takes it, and the node's
+// neighbours are offered it. The queue is empty at the end.
 fn spread(
     starts: &[u32],
     neighbours: &[u32],
@@ -162,7 +189,18 @@ fn spread(
         let p = tags::tag_node(tag);
         let node = tags::tag_parent(tag);
         if append_at(s, ids, distances, places, node, p, d) {
-            left = offer(starts, neighbours, weights, s, left, node, p, d);
+            left = offer(
+                starts,
+                neighbours,
+                weights,
+                s,
+                ids,
+                places,
+                left,
+                node,
+                p,
+                d,
+            );
         }
     }
 }

@@ -102,8 +102,8 @@ pub fn change_number(
 }
 
 /// Offers each point to its own row. The least offer is taken out; a row that has a free place and
-/// lacks the point takes it, and the neighbours are offered it. The words are all zero and all places
-/// of the table empty.
+/// lacks the point takes it, and those neighbours whose rows have a place for it are offered it. The
+/// words are all zero and all places of the table empty.
 fn spread(network: Network<'_>, points: &[u8], words: &mut [u32], table: &mut TableMut<'_>) {
     let (lengths, words) = words.split_at_mut(points.len());
     let mut queue = Queue::new(words);
@@ -118,20 +118,27 @@ fn spread(network: Network<'_>, points: &[u8], words: &mut [u32], table: &mut Ta
             let arcs = network.starts[node] as usize..network.starts[node + 1] as usize;
             let weights = &network.weights[arcs.clone()];
             for (&to, &weight) in network.neighbours[arcs].iter().zip(weights) {
-                queue.push(Entry::new(entry.distance + weight, p, to));
+                if has_place(table, lengths[to as usize], to as usize, p) {
+                    queue.push(Entry::new(entry.distance + weight, p, to));
+                }
             }
         }
     }
 }
 
-/// Puts the point behind the entries of a row that has a free place and lacks it.
+/// Whether a row has a free place and lacks the point.
+fn has_place(table: &TableMut<'_>, length: u32, node: usize, p: u32) -> bool {
+    let first = node * table.places as usize;
+    length < table.places && !table.ids[first..first + length as usize].contains(&p)
+}
+
+/// Puts the point behind the entries of a row that has a place for it.
 fn append(table: &mut TableMut<'_>, length: &mut u32, node: usize, p: u32, distance: u32) -> bool {
-    let places = table.places as usize;
-    let (ids, distances) = row(table, node);
-    let taken = *length as usize;
-    if taken == places || ids[..taken].contains(&p) {
+    if !has_place(table, *length, node, p) {
         return false;
     }
+    let (ids, distances) = row(table, node);
+    let taken = *length as usize;
     ids[taken] = p;
     distances[taken] = distance;
     *length += 1;

@@ -21,16 +21,16 @@ from c = ap (λ (x : ℕ). x * start c .args .places) (c .wide .ensures)
 small : (c : tie.After-wide2) → c .wide2 .result ≤ start (c .before .before .before .before) .args .places
 small c =
     let w = c .before .before .before .before in
-    omega (arith, c .wide2 .ensures, ap (λ (x : ℕ). getD (start w .args .s .now) x 0) (w .wide .ensures), start w .pre .size)
+    omega (arith, c .wide2 .ensures, ap (λ (x : ℕ). getD (start w .args .s .now) x 0) (w .wide .ensures), start w .pre .look .size)
 
 wide-requires : tie.Need-wide-requires
 wide-requires c κs = search needs
 
 mul-from : tie.Need-mul-from
-mul-from c = omega (arith, from c, start c .pre .ids-room)
+mul-from c = omega (arith, from c, start c .pre .look .ids-room)
 
 add-end : tie.Need-add-end
-add-end c = omega (arith, from c, start c .pre .ids-room)
+add-end c = omega (arith, from c, start c .pre .look .ids-room)
 
 mul-size : tie.Need-mul-size
 mul-size c = search needs
@@ -39,7 +39,7 @@ slice-read-size : tie.Need-slice-read-size
 slice-read-size c = search needs
 
 mul-append : tie.Need-mul-append
-mul-append c = let w = c .before in omega (arith, from w, start w .pre .ids-room)
+mul-append c = let w = c .before in omega (arith, from w, start w .pre .look .ids-room)
 
 sub-append : tie.Need-sub-append
 sub-append c = search needs
@@ -48,7 +48,7 @@ part-append-start : tie.Need-part-append-start
 part-append-start c = search needs
 
 part-append-end : tie.Need-part-append-end
-part-append-end c = let w = c .before in omega (arith, from w, start w .pre .ids-room)
+part-append-end c = let w = c .before in omega (arith, from w, start w .pre .look .ids-room)
 
 mul-append-2 : tie.Need-mul-append-2
 mul-append-2 c = let w = c .before .before in omega (arith, from w, start w .pre .dists-room)
@@ -70,7 +70,7 @@ append-requires c κs =
     let w = c .before .before .before .before in
     let a = w .wide .result * start w .args .places in
     let e = a + start w .args .places in
-    let k = mid-len a e (start w .args .ids .now) (omega (arith, from w, start w .pre .ids-room)) in
+    let k = mid-len a e (start w .args .ids .now) (omega (arith, from w, start w .pre .look .ids-room)) in
     let l = mid-len a e (start w .args .distances .now) (omega (arith, from w, start w .pre .dists-room)) in
     (omega arith, omega (arith, small c))
 

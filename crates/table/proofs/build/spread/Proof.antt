@@ -101,31 +101,31 @@ append-at-requires c κs =
 
 offer-requires : tie.Need-offer-requires Inv-loop μ-loop
 offer-requires c κs =
-    let a = c .before .before .before .before .before .before .before .before in
+    let a = c .before .before .before .before .before .before .before .before .before in
     let t = a .before .before .before .before in
     let s = start-of (turn t) in
-    can-offer (s .pre .can .accepted) (some t) (turn t .loop .inv .1) (more t) (node t) (point t) (far t) (node-fits t) (point-fits t) (popped t) (a .append-at .ensures .taken (c .before .if1 .taken))
+    can-offer (s .pre .can .accepted) (some t) (turn t .loop .inv .1) (more t) (node t) (point t) (far t) (node-fits t) (point-fits t) (popped t) (a .append-at .ensures .taken (c .before .before .if1 .taken))
 
 loop-less : tie.Need-loop-less Inv-loop μ-loop
 loop-less c =
     let o = c .before .before in
-    let i = o .before .before in
+    let i = o .before .before .before in
     let a = i .before .before .before .before .before .before .before in
     let t = a .before .before .before .before in
     let s = start-of (turn t) in
     let r = a .append-at .ensures .taken (i .if1 .taken) in
-    omega (arith, o .offer .ensures .count, taken-less (s .pre .can .accepted) (some t) (turn t .loop .inv .1) (more t) (node t) (point t) (far t) (node-fits t) (point-fits t) (popped t) r (o .offer .ensures .offered))
+    taken-less (s .pre .can .accepted) (some t) (turn t .loop .inv .1) (more t) (node t) (point t) (far t) (node-fits t) (point-fits t) (popped t) r (o .offer .ensures)
 
 loop-again : tie.Need-loop-again Inv-loop μ-loop
 loop-again c =
     let o = c .before .before in
-    let i = o .before .before in
+    let i = o .before .before .before in
     let a = i .before .before .before .before .before .before .before in
     let t = a .before .before .before .before in
     let s = start-of (turn t) in
     let r = a .append-at .ensures .taken (i .if1 .taken) in (
-      taken-size (s .pre .can .accepted) (some t) (turn t .loop .inv .1) (more t) (node t) (point t) (far t) (node-fits t) (point-fits t) (popped t) r (o .offer .ensures .offered) ∙ turn t .loop .inv .0,
-      rw (o .offer .ensures .count) (filling-taken (s .pre .can .accepted) (some t) (turn t .loop .inv .1) (more t) (node t) (point t) (far t) (node-fits t) (point-fits t) (popped t) r (o .offer .ensures .offered)),
+      taken-size (s .pre .can .accepted) (some t) (turn t .loop .inv .1) (more t) (node t) (point t) (far t) (node-fits t) (point-fits t) (popped t) r (o .offer .ensures) ∙ turn t .loop .inv .0,
+      filling-taken (s .pre .can .accepted) (some t) (turn t .loop .inv .1) (more t) (node t) (point t) (far t) (node-fits t) (point-fits t) (popped t) r (o .offer .ensures),
     )
 
 loop-less-2 : tie.Need-loop-less-2 Inv-loop μ-loop

@@ -2,15 +2,16 @@
 -- Assumes nothing.
 use Prim.Native.Nat.{_≤_, _-_}
 use mathlib.Core.Bool.{false≢true, true≢false}
+use native.Mathlib.Nat.{zero-add}
 use native.Mathlib.Omega.{arith}
-use Rattle.table.specs.Build.{StandsIn}
+use Rattle.table.specs.Build.{Stands}
 use Rattle.table.proofs.BuildSteps.{stands-none, stands-more}
 use borrow.Author.Needs.{needs}
 use Rattle.table.proofs.build.stands.Statement.{statement}
 use Rattle.table.proofs.build.stands.Tie as tie
 
 abbrev Inv-loop : tie.InvT-loop
-Inv-loop ids-row size p j₀ j = (j ≤ size) × (StandsIn ids-row j p → ⊥)
+Inv-loop ids-row size p j₀ j = (j ≤ size) × (Stands ids-row 0 j p → ⊥)
 
 abbrev μ-loop : tie.MeasureT-loop
 μ-loop ids-row size p j₀ j = size - j
@@ -27,7 +28,7 @@ shared-slice-read-id c = search needs
 returns : tie.Need-returns Inv-loop μ-loop
 returns c =
     record {
-      yes = λ e. record { index = c .before .before .before .loop .j; low = c .before .before .loop-test .taken; is = c .if1 .taken };
+      yes = λ e. record { index = c .before .before .before .loop .j; low = c .before .before .loop-test .taken; is = rw (zero-add (c .before .before .before .loop .j)) (c .if1 .taken) };
       no = λ e. absurd (true≢false e);
     }
 
@@ -38,7 +39,7 @@ loop-less : tie.Need-loop-less Inv-loop μ-loop
 loop-less c = search needs
 
 loop-again : tie.Need-loop-again Inv-loop μ-loop
-loop-again c = (omega arith, stands-more (c .before .before .before .loop .inv .1) (c .if1 .left))
+loop-again c = (omega arith, stands-more (c .before .before .before .loop .inv .1) (rw (zero-add (c .before .before .before .loop .j)) (c .if1 .left)))
 
 returns-2 : tie.Need-returns-2 Inv-loop μ-loop
 returns-2 c = record { yes = λ e. absurd (false≢true e); no = λ e s. c .before .loop .inv .1 (record { index = s .index; low = omega (arith, s .low); is = s .is }) }
