@@ -77,6 +77,13 @@ fn measure_networks(settings: &Settings) -> Vec<Measured> {
     subjects.into_iter().map(measured).collect()
 }
 
+/// Times build at the limits with tables of more and more places.
+fn measure_builds(settings: &Settings) -> Vec<Measured> {
+    let of_places =
+        |&places: &u32| measure_calls(limits(), &[calls::BUILD], (1, places), settings.budget);
+    settings.build_places.iter().map(of_places).collect()
+}
+
 /// The panels of these calls, with a sample for each x.
 fn panels(calls: &[Call], measured: &[(f64, Measured)]) -> Vec<Panel> {
     let sample = |place: usize, x: f64, of_network: &Measured| Sample {
@@ -159,12 +166,14 @@ fn main() {
     let settings = Settings::from_arguments();
     let tried = agree::try_small_networks(settings.small_networks);
     let measured = measure_networks(&settings);
+    let builds = measure_builds(&settings);
     let extremes = extremes_text(&measured[1].subject, &settings);
     write_charts(&settings);
     let mut text = report::heading(start.elapsed(), tried);
     text += &report::networks_table(&measured);
     text += &report::calls_tables(&measured);
     text += &report::notes(&measured);
+    text += &report::builds_text(&builds);
     text += &extremes;
     println!("{text}");
     report::write_between_markers(&settings.document, &text);

@@ -114,6 +114,18 @@ fn removal_part(of_network: &Measured) -> String {
     format!("{part:.3} ({})", of_network.subject.name)
 }
 
+/// The times of build at the limits, by K.
+pub fn builds_text(builds: &[Measured]) -> String {
+    let mut text = format!(
+        "\n### Build at the limits\n\n{}",
+        TIMES_HEAD.replace("Call", "K")
+    );
+    for Measured { places, times, .. } in builds {
+        text += &times_row(&places.to_string(), &times[0].1);
+    }
+    text
+}
+
 /// How far each search goes on a network, for each k.
 pub fn reach_text(network: &str, rows: &[(u32, [Range; 3])]) -> String {
     let mut text = format!(

@@ -15,6 +15,8 @@ pub struct Settings {
     /// K on the grid and on the road-like network, and on the one at the limits.
     pub places: u32,
     pub limits_places: u32,
+    /// The values of K for which build is timed at the limits.
+    pub build_places: Vec<u32>,
     /// The values of k of the first chart, and the sides of the grids of the second.
     pub ks: Vec<u32>,
     pub sides: Vec<u32>,
@@ -45,6 +47,7 @@ impl Settings {
             k: 4,
             places: 5,
             limits_places: 17,
+            build_places: vec![2, 5, 9, 17],
             ks: vec![1, 2, 4, 8, 12, 16],
             sides: vec![32, 45, 64, 90, 128, 181, 255],
             reach_ks: vec![1, 4, 16],
@@ -63,6 +66,7 @@ impl Settings {
             road_nodes: 4_096,
             k: 2,
             limits_places: 3,
+            build_places: vec![2, 3],
             ks: vec![1, 4, 16],
             sides: vec![32, 64],
             reach_ks: vec![1, 4],
