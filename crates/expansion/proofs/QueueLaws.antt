@@ -9,7 +9,7 @@ use native.Mathlib.Decide.{ℕ-discrete, decLt}
 use lib.ListN.{length, getD, set, drop, length-set, length-drop}
 use lib.Seq.{getD-set-same, getD-set-other}
 use borrow.Rule.Slice.PartMut.{midOf, putMid}
-use Rattle.expansion.specs.Queue.{keyOf, keyAt, parentOf, Holds, HoldsBeside, Ordered, ZeroFrom, Put, Hole, AtLeastParent, AtMostChildren, CanSink, CanRise, Filled, LeastChild, Queue, Pushed, Popped, Cleared, PushedAt, PoppedAt, ClearedAt}
+use Rattle.expansion.specs.Queue.{keyOf, keyAt, parentOf, Holds, HoldsBeside, Ordered, ZeroFrom, Put, Hole, AtLeastParent, AtMostChildren, CanSink, CanRise, Filled, LeastChild, Children, Chosen, Queue, Pushed, Popped, Cleared, PushedAt, PoppedAt, ClearedAt}
 use Rattle.expansion.proofs.LentParts.{lent-part, rejoined}
 
 -- ---- An entry is stored.
@@ -65,6 +65,63 @@ least-child xs len i c inside low high left right =
             | no n ↦ let q : j ≡ 2 * i + 2 = omega arith in omega (arith, ap (keyAt xs) q, right (omega arith))
           ];
     }
+
+-- ---- The keys of a hole's children are known.
+module _ (xs : List ℕ) (len i a b c : ℕ) (ch : Children xs len i a b) (is : Chosen a b (2 * i + 1) (2 * i + 2) c) where
+  -- the child that is chosen by them is the lesser one, and its key is chosen likewise
+  pub chosen-child : LeastChild xs len i c
+  chosen-child =
+      elim (decLt b a) [
+        | yes lt ↦
+            let e : c ≡ 2 * i + 2 = is .second lt in
+            least-child xs len i c (omega (arith, ch .two)) (omega arith) (omega arith) (λ h. omega (arith, ap (keyAt xs) e, ch .left, ch .right)) (λ h. omega (arith, ap (keyAt xs) e))
+        | no n ↦
+            let e : c ≡ 2 * i + 1 = is .first (omega arith) in
+            least-child xs len i c (omega (arith, ch .two)) (omega arith) (omega arith) (λ h. omega (arith, ap (keyAt xs) e)) (λ h. omega (arith, ap (keyAt xs) e, ch .left, ch .right))
+      ]
+
+  pub chosen-key : (k : ℕ) → Chosen a b a b k → keyAt xs c ≡ k
+  chosen-key k ck =
+      elim (decLt b a) [
+        | yes lt ↦ omega (arith, ap (keyAt xs) (is .second lt), ch .right, ck .second lt)
+        | no n ↦ let le : a ≤ b = omega arith in omega (arith, ap (keyAt xs) (is .first le), ch .left, ck .first le)
+      ]
+
+  -- where all four grandchildren are in the queue, the chosen child's children have the keys that are chosen likewise, and the hole's filling leaves them
+  pub chosen-children : (l r l' r' a' b' : ℕ) → 4 * i + 6 < len → l ≡ keyAt xs (4 * i + 3) → r ≡ keyAt xs (4 * i + 3 + 1) → l' ≡ keyAt xs (4 * i + 3 + 2) → r' ≡ keyAt xs (4 * i + 3 + 3) → Chosen a b l l' a' → Chosen a b r r' b' → (ys : List ℕ) (d t : ℕ) → Put xs ys i d t → Children ys len c a' b'
+  chosen-children l r l' r' a' b' room kl kr kl' kr' ca cb ys d t p =
+      elim (decLt b a) [
+        | yes lt ↦
+            let e : c ≡ 2 * i + 2 = is .second lt in
+            record {
+              two = omega arith;
+              left = ca .second lt ∙ kl' ∙ sym (p .other (4 * i + 3 + 2) (omega arith)) ∙ ap (keyAt ys) (omega arith);
+              right = cb .second lt ∙ kr' ∙ sym (p .other (4 * i + 3 + 3) (omega arith)) ∙ ap (keyAt ys) (omega arith);
+            }
+        | no n ↦
+            let e : c ≡ 2 * i + 1 = is .first (omega arith) in
+            record {
+              two = omega arith;
+              left = ca .first (omega arith) ∙ kl ∙ sym (p .other (4 * i + 3) (omega arith)) ∙ ap (keyAt ys) (omega arith);
+              right = cb .first (omega arith) ∙ kr ∙ sym (p .other (4 * i + 3 + 1) (omega arith)) ∙ ap (keyAt ys) (omega arith);
+            }
+      ]
+
+-- the lesser of two keys is at most both
+lesser-key : (a b k : ℕ) → Chosen a b a b k → (k ≤ a) × (k ≤ b)
+lesser-key a b k ck =
+    elim (decLt b a) [
+      | yes lt ↦ (omega (arith, ck .second lt), omega (arith, ck .second lt))
+      | no n ↦ let le : a ≤ b = omega arith in (omega (arith, ck .first le), omega (arith, ck .first le))
+    ]
+
+-- a key that is at most the lesser child's is at most each child's
+pub at-most-children : (xs : List ℕ) (len i a b k key : ℕ) → Children xs len i a b → Chosen a b a b k → key ≤ k → AtMostChildren xs len i key
+at-most-children xs len i a b k key ch ck le j pos lt e =
+    elim (ℕ-discrete j (2 * i + 1)) [
+      | yes q ↦ omega (arith, ap (keyAt xs) q, ch .left, lesser-key a b k ck .0)
+      | no n ↦ let q : j ≡ 2 * i + 2 = omega arith in omega (arith, ap (keyAt xs) q, ch .right, lesser-key a b k ck .1)
+    ]
 
 -- ---- A hole is filled where it is.
 module _ (xs ys : List ℕ) (len hole d t : ℕ) (h : Hole xs len hole) (p : Put xs ys hole d t) where

@@ -101,6 +101,17 @@ pub record LeastChild (xs : List ℕ) (len i c : ℕ) : Type 0 where
   pub high : c ≤ 2 * i + 2
   pub least : (j : ℕ) → 0 < j → j < len → parentOf j ≡ i → keyAt xs c ≤ keyAt xs j
 
+-- entry i has two children, with the keys a and b
+pub record Children (xs : List ℕ) (len i a b : ℕ) : Type 0 where
+  pub two : 2 * i + 2 < len
+  pub left : a ≡ keyAt xs (2 * i + 1)
+  pub right : b ≡ keyAt xs (2 * i + 2)
+
+-- r is x if a is the lesser of a and b, else y
+pub record Chosen (a b x y r : ℕ) : Type 0 where
+  pub first : a ≤ b → r ≡ x
+  pub second : b < a → r ≡ y
+
 -- A hole, as Rust's BinaryHeap calls it: an index whose entry is out of the queue, so that its words mean nothing, until an entry is stored
 -- there. All other entries are in order, and so are the hole's children with the hole's parent.
 pub record Hole (xs : List ℕ) (len hole : ℕ) : Type 0 where

@@ -4,7 +4,7 @@
 ghost use mathlib.Core.Path.{_≡_};
 ghost use Prim.Native.Nat.{_+_, _*_, _≤_, _<_};
 ghost use lib.ListN.{length, getD, drop};
-ghost use Rattle.expansion.specs.Queue.{keyOf, keyAt, Queue, Pushed, Popped, Cleared, PushedAt, PoppedAt, ClearedAt, Put, LeastChild, CanSink, CanRise, Filled};
+ghost use Rattle.expansion.specs.Queue.{keyOf, keyAt, Queue, Pushed, Popped, Cleared, PushedAt, PoppedAt, ClearedAt, Put, LeastChild, Children, Chosen, CanSink, CanRise, Filled};
 
 // An entry of a queue.
 pub struct Entry {
@@ -83,6 +83,66 @@ fn sink(q: &mut [u32], len: usize, hole: usize, distance: u32, tag: u32)
     }
 }
 
+// x if a is the lesser key, y if b is. The back end makes a conditional move of it, not a branch.
+fn choose_key(a: u64, b: u64, x: u64, y: u64) -> u64
+    ensures { λ r. ⌜ Chosen a b x y r ⌝ }
+{
+    if b < a { y } else { x }
+}
+
+// The same of two indices.
+fn choose_index(a: u64, b: u64, x: usize, y: usize) -> usize
+    ensures { λ r. ⌜ Chosen a b x y r ⌝ }
+{
+    if b < a { y } else { x }
+}
+
+// Fills the hole as `sink` does, given the keys a and b of its two children. It reads the keys of all four grandchildren before it knows which two
+// of them come next, so that the waits for memory of two levels overlap.
+fn sink_ahead(q: &mut [u32], len: usize, hole: usize, a: u64, b: u64, distance: u32, tag: u32)
+    requires { ⌜ CanSink (now q) len hole (keyOf distance tag) ⌝ }
+    requires { ⌜ Children (now q) len hole a b ⌝ }
+    ensures { λ _. ⌜ Filled (now (q .entry)) (now (q .exit)) len hole (keyOf distance tag) ⌝ }
+{
+    let below = 4 * hole + 3;
+    if below + 3 < len {
+        let c = key_at(q, below);
+        let d = key_at(q, below + 1);
+        let e = key_at(q, below + 2);
+        let f = key_at(q, below + 3);
+        let least = choose_key(a, b, a, b);
+        let key = key_of(distance, tag);
+        if least < key {
+            let child = choose_index(a, b, 2 * hole + 1, 2 * hole + 2);
+            copy(q, child, hole);
+            let next_a = choose_key(a, b, c, e);
+            let next_b = choose_key(a, b, d, f);
+            sink_ahead(q, len, child, next_a, next_b, distance, tag);
+        } else {
+            put(q, hole, distance, tag);
+        }
+    } else {
+        sink(q, len, hole, distance, tag);
+    }
+}
+
+// From how many entries on reading ahead pays: fewer stand in the caches next to the processor.
+const AHEAD_FROM: usize = 16384;
+
+// Fills the hole that the first entry leaves.
+fn sink_first(q: &mut [u32], len: usize, distance: u32, tag: u32)
+    requires { ⌜ CanSink (now q) len 0 (keyOf distance tag) ⌝ }
+    ensures { λ _. ⌜ Filled (now (q .entry)) (now (q .exit)) len 0 (keyOf distance tag) ⌝ }
+{
+    if AHEAD_FROM <= len {
+        let a = key_at(q, 1);
+        let b = key_at(q, 2);
+        sink_ahead(q, len, 0, a, b, distance, tag);
+    } else {
+        sink(q, len, 0, distance, tag);
+    }
+}
+
 // Fills the hole at `start` with an entry: parents with greater keys move down, and the entry is stored once, in its final place.
 fn rise(q: &mut [u32], len: usize, start: usize, distance: u32, tag: u32)
     requires { ⌜ CanRise (now q) len start (keyOf distance tag) ⌝ }
@@ -127,7 +187,7 @@ pub fn pop(q: &mut [u32], len: usize) -> Entry
     if last == 0 {
         return Entry { distance, tag };
     }
-    sink(q, last, 0, last_distance, last_tag);
+    sink_first(q, last, last_distance, last_tag);
     Entry { distance, tag }
 }
 

@@ -49,8 +49,8 @@ returns c =
     let start = at-put .before .before .before .before .before .before .before in
     popped-one _ _ _ (start .pre .0) (start .pre .1) (at-put .put .ensures) (c .if1 .taken)
 
-sink-requires : tie.Need-sink-requires
-sink-requires c κs =
+sink-first-requires : tie.Need-sink-first-requires
+sink-first-requires c κs =
     let at-put = c .before .before .before .before in
     let start = at-put .before .before .before .before .before .before .before in
     pop-sinks _ _ _ (start .pre .0) (start .pre .1) (at-put .put .ensures) _ (c .before .if1 .left)
@@ -64,7 +64,7 @@ returns-2 c =
     let at-sink = c .before .before in
     let at-put = at-sink .before .before .before .before .before in
     let start = at-put .before .before .before .before .before .before .before in
-    popped-more _ _ _ (start .pre .0) (start .pre .1) (at-put .put .ensures) _ (at-sink .sink .ensures)
+    popped-more _ _ _ (start .pre .0) (start .pre .1) (at-put .put .ensures) _ (at-sink .sink-first .ensures)
 
 pub pop-spec : {M : Type 1} → statement M
 pop-spec =
@@ -83,6 +83,6 @@ pop-spec =
     put-requires
     same-length
     returns
-    sink-requires
+    sink-first-requires
     same-length-2
     returns-2)
