@@ -1,11 +1,13 @@
 //! Networks and points from plain text.
 //!
 //! A road list has one road a line: its two junctions and its weight, in base ten, with spaces or
-//! tabs between them. A list of points has one point a line: its junction. Blank lines and what
-//! follows a `#` are left out.
+//! tabs between them. A list of points has one point a line: its junction. Blank lines, what follows
+//! a `#`, and a byte order mark before the first line are left out. A line ends with or without a
+//! carriage return.
 //!
-//! The junctions of a road list are 0 to the largest that it names. A line `nodes n` before the
-//! first road says that they are 0 to n - 1, so that the last ones may have no road.
+//! The junctions of a road list are 0 to the largest that it names; those between that no road names
+//! are junctions without a road. A line `nodes n` before the first road says that they are 0 to
+//! n - 1, so that the last ones may have no road either.
 //!
 //! A list that is no network, or no set of points of it, is turned away with its first bad line:
 //!
@@ -117,6 +119,7 @@ impl fmt::Display for Fault {
                 write!(f, "{found} {fields} where a line is {wanted}")
             }
             Self::NotANumber(field) => {
+                let field = shown(field);
                 write!(f, "`{field}` is not a whole number from 0 to 4,294,967,295")
             }
             Self::Weight(weight) => write!(f, "the weight {weight} is not 1 to 65,535"),
@@ -158,7 +161,7 @@ impl Error for BadLine {}
 /// assert!(network.roads().eq([(0, 1, 4), (1, 2, 3)]));
 ///
 /// let message = |text| read_network(text).unwrap_err().to_string();
-/// assert_eq!(message("0 1"), "line 1: 2 fields where a line is `a b weight`");
+/// assert_eq!(message("0 1"), "line 1: 2 fields where a line is `a b weight`, with spaces between");
 /// assert_eq!(message("0 1 0"), "line 1: the weight 0 is not 1 to 65,535");
 /// # Ok(())
 /// # }
@@ -217,6 +220,7 @@ pub fn read_points(text: &str, network: &Network) -> Result<Points, BadLine> {
 
 /// Each line that is not blank, with its number, as fields without the comment.
 fn lines(text: &str) -> impl Iterator<Item = (usize, Vec<&str>)> {
+    let text = text.strip_prefix('\u{feff}').unwrap_or(text);
     let numbered = (1..).zip(text.lines().map(fields));
     numbered.filter(|(_, fields)| !fields.is_empty())
 }
@@ -247,7 +251,7 @@ impl RoadList {
             [a, b, weight] => self.take_road(line, (number(a)?, number(b)?, number(weight)?)),
             _ => Err(Fault::Fields {
                 found: fields.len(),
-                wanted: "`a b weight`",
+                wanted: "`a b weight`, with spaces between",
             }),
         }
     }
@@ -323,6 +327,14 @@ fn take_point(
     inserted.map_err(|_| Fault::NoNode { node, nodes })?;
     first_lines.insert(node, line);
     Ok(())
+}
+
+/// A field as a message shows it: a long one cut, and signs that can't be seen written out.
+fn shown(field: &str) -> String {
+    const MOST: usize = 40;
+    let first: String = field.chars().take(MOST).collect();
+    let rest = if first.len() < field.len() { ".." } else { "" };
+    format!("{}{rest}", first.escape_debug())
 }
 
 /// A whole number of digits alone.

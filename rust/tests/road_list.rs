@@ -49,6 +49,17 @@ mod taken {
         assert!(points.iter().eq([0, 2]));
     }
 
+    /// Some editors write one at the start of a file.
+    #[test]
+    fn a_byte_order_mark() {
+        let network = read_network("\u{feff}0 1 4").unwrap();
+        assert!(network.roads().eq([(0, 1, 4)]));
+        let points = read_points("\u{feff}1\r\n", &network).unwrap();
+        assert!(points.iter().eq([1]));
+        let behind = not_a_number("\u{feff}1");
+        assert_eq!(bad_road("\u{feff}0 1 4\n\u{feff}1 2 3"), (2, behind));
+    }
+
     #[test]
     fn a_nodes_line_alone() {
         let network = read_network("nodes 3").unwrap();
@@ -58,7 +69,9 @@ mod taken {
 
     #[test]
     fn without_a_nodes_line_up_to_the_largest_junction() {
-        assert_eq!(read_network("7 2 1").unwrap().nodes(), 8);
+        let network = read_network("7 2 1").unwrap();
+        assert_eq!(network.nodes(), 8);
+        assert_eq!(network.roads_of(5).unwrap().count(), 0);
         assert_eq!(read_network("0 65534 65535").unwrap().nodes(), 65_535);
     }
 
@@ -106,12 +119,13 @@ mod turned_away {
     fn fields() {
         let road = |found| Fault::Fields {
             found,
-            wanted: "`a b weight`",
+            wanted: "`a b weight`, with spaces between",
         };
         assert_eq!(bad_road("0"), (1, road(1)));
         assert_eq!(bad_road("0 1 4\n0 1"), (2, road(2)));
         assert_eq!(bad_road("0 1 4 4"), (1, road(4)));
         assert_eq!(bad_road("0 1 # 4"), (1, road(2)));
+        assert_eq!(bad_road("0,1,4"), (1, road(1)));
         let nodes = |found| Fault::Fields {
             found,
             wanted: "`nodes n`",
@@ -243,12 +257,24 @@ mod messages {
         let road = |text: &str| read_network(text).unwrap_err().to_string();
         let point = |text: &str| read_points(text, &network_n()).unwrap_err().to_string();
         for (message, expected) in [
-            (road("0"), "line 1: 1 field where a line is `a b weight`"),
+            (
+                road("0"),
+                "line 1: 1 field where a line is `a b weight`, with spaces between",
+            ),
             (road("nodes"), "line 1: 1 field where a line is `nodes n`"),
             (point("1 2"), "line 1: 2 fields where a line is one junction"),
             (
                 road("0 1 x"),
                 "line 1: `x` is not a whole number from 0 to 4,294,967,295",
+            ),
+            (
+                road("0 1 \u{1b}[31m"),
+                "line 1: `\\u{1b}[31m` is not a whole number from 0 to 4,294,967,295",
+            ),
+            (
+                road(&format!("0 1 {}", "9".repeat(41))),
+                "line 1: `9999999999999999999999999999999999999999..` is not a whole number from 0 to \
+                 4,294,967,295",
             ),
             (road("0 1 0"), "line 1: the weight 0 is not 1 to 65,535"),
             (road("4 4 1"), "line 1: the road leads from junction 4 to itself"),

@@ -8,12 +8,13 @@ use common::all_pairs::AllPairs;
 use common::table::PlainTable;
 use overlap::road_list::{read_network, read_points};
 use overlap::{Points, NONE};
+use std::ffi::OsString;
 use std::fs;
 use std::path::PathBuf;
 
 /// The exit status, what was printed and what was complained of.
 fn run(arguments: &[&str]) -> (u8, String, String) {
-    let arguments: Vec<String> = arguments.iter().map(|word| word.to_string()).collect();
+    let arguments: Vec<OsString> = arguments.iter().map(OsString::from).collect();
     let (mut out, mut err) = (Vec::new(), Vec::new());
     let status = report::run(&arguments, &mut out, &mut err);
     let text = |bytes| String::from_utf8(bytes).unwrap();
@@ -136,9 +137,23 @@ mod messages {
 
     #[test]
     fn name_the_file_that_is_missing() {
-        let (status, out, err) = run(&["no such file", "none"]);
-        assert_eq!((status, out), (1, String::new()));
-        assert!(err.starts_with("no such file: "), "{err}");
+        let roads = data("n.roads");
+        for files in [["no such file", "none"], [&roads, "no such file"]] {
+            let (status, out, err) = run(&files);
+            assert_eq!((status, out), (1, String::new()));
+            assert!(err.starts_with("no such file: "), "{err}");
+        }
+    }
+
+    /// A file name that is no text.
+    #[cfg(unix)]
+    #[test]
+    fn name_a_file_of_any_name() {
+        use std::os::unix::ffi::OsStringExt;
+        let arguments = [b"\xff".to_vec(), b"none".to_vec()].map(OsString::from_vec);
+        let mut err = Vec::new();
+        assert_eq!(report::run(&arguments, &mut Vec::new(), &mut err), 1);
+        assert!(err.starts_with("\u{fffd}: ".as_bytes()));
     }
 
     #[test]
@@ -150,10 +165,11 @@ mod messages {
         };
         let node = "refused by number 7: a node given is n or more\n";
         assert_eq!(refused(&["--site", "6"]), format!("site 6: {node}"));
-        for k in ["0", "17", "4294967295"] {
-            assert!(refused(&["--k", k]).starts_with("site 0: refused by number 9: "));
+        for (k, places) in [("0", "2"), ("2", "2"), ("17", "17"), ("4294967295", "17")] {
+            let expected = format!("k = {k}, K = {places}: refused by number 9: ");
+            assert!(refused(&["--k", k, "--K", places]).starts_with(&expected));
         }
-        assert!(refused(&["--K", "2", "--k", "2"]).starts_with("site 0: refused by number 9: "));
+        assert!(refused(&["--k", "17"]).starts_with("k = 17, K = 17: refused by number 9: "));
         for places in ["0", "1", "18", "4294967295"] {
             let expected = format!("K = {places}: refused by number 8: ");
             assert!(refused(&["--K", places]).starts_with(&expected));
@@ -169,7 +185,16 @@ mod messages {
         assert_usage(&[], "two files are needed");
         assert_usage(&["a", "b", "c"], "two files are needed");
         assert_usage(&["a", "b", "--k"], "--k needs a number");
-        assert_usage(&["a", "b", "--site", "x"], "--site needs a number");
-        assert_usage(&["a", "b", "--help"], "no option --help");
+        for value in ["x", "-1", "1.5", "4294967296"] {
+            let message = format!("--site needs a whole number of 32 bits, not `{value}`");
+            assert_usage(&["a", "b", "--site", value], &message);
+        }
+        assert_usage(&["a", "b", "-k", "2"], "no option -k");
+        assert_usage(&["a", "b", "--sites", "2"], "no option --sites");
+        for help in ["--help", "-h"] {
+            let (status, out, err) = run(&[help]);
+            assert_eq!((status, err), (0, String::new()));
+            assert!(out.starts_with(&format!("{usage}\n\nROADS ")), "{out}");
+        }
     }
 }

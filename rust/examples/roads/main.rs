@@ -4,15 +4,16 @@
 //!
 //! [`overlap::road_list`] says how the lists are written; `examples/data` has two of each. Without
 //! `--site` every junction is taken as a site. k is 1 unless it is given, and K is k + 1. A bad
-//! line is answered by a message that names it, and by exit status 1.
+//! line is answered by a message that names it, and by exit status 1. `--help` says all this.
 
 mod report;
 
 use std::env;
+use std::ffi::OsString;
 use std::io::{stderr, stdout};
 use std::process::ExitCode;
 
 fn main() -> ExitCode {
-    let arguments: Vec<String> = env::args().skip(1).collect();
+    let arguments: Vec<OsString> = env::args_os().skip(1).collect();
     ExitCode::from(report::run(&arguments, &mut stdout(), &mut stderr()))
 }

@@ -1,16 +1,25 @@
 //! What the program prints. `tests/roads.rs` includes this file and compares the output.
 
-use overlap::road_list::{read_network, read_points};
-use overlap::{Engine, Nearest, Table};
+use overlap::road_list::{read_network, read_points, BadLine};
+use overlap::{Engine, Nearest, Refusal, Table};
+use std::ffi::OsString;
 use std::fs;
 use std::io::{self, Write};
+use std::path::{Path, PathBuf};
 
 const USAGE: &str = "usage: roads ROADS POINTS [--site q].. [--k k] [--K K]";
 
+const HELP: &str = "
+ROADS    a file of one road a line: a b weight
+POINTS   a file of one point a line: its junction
+--site   a site to ask about; without it, every junction is asked about
+--k      the k of the lists, 1 to 16; 1 unless it is given
+--K      the places of a row of the table, above k and at most 17; k + 1 unless it is given";
+
 /// What the command line asks for.
 struct Asked {
-    roads: String,
-    points: String,
+    roads: PathBuf,
+    points: PathBuf,
     sites: Vec<u32>,
     k: u32,
     places: u32,
@@ -20,34 +29,38 @@ struct Asked {
 type Message = String;
 
 /// Runs the program and returns its exit status: 0, 1 for bad input, 2 for a bad command line.
-pub fn run(arguments: &[String], out: &mut impl Write, err: &mut impl Write) -> u8 {
-    let (message, status) = match asked(arguments) {
-        Err(message) => (format!("{message}\n{USAGE}"), 2),
-        Ok(asked) => match report(&asked, out) {
-            Err(message) => (message, 1),
-            Ok(()) => return 0,
-        },
+pub fn run(arguments: &[OsString], out: &mut impl Write, err: &mut impl Write) -> u8 {
+    let done = match asked(arguments) {
+        _ if arguments
+            .iter()
+            .any(|word| word == "--help" || word == "-h") =>
+        {
+            writeln!(out, "{USAGE}\n{HELP}").map_err(|error| (unwritten(error), 1))
+        }
+        Err(message) => Err((format!("{message}\n{USAGE}"), 2)),
+        Ok(asked) => report(&asked, out).map_err(|message| (message, 1)),
+    };
+    let Err((message, status)) = done else {
+        return 0;
     };
     // Nothing is left to do where even the message can't be written.
     let _ = writeln!(err, "{message}");
     status
 }
 
-fn asked(arguments: &[String]) -> Result<Asked, Message> {
+fn asked(arguments: &[OsString]) -> Result<Asked, Message> {
     let (mut files, mut sites) = (Vec::new(), Vec::new());
     let (mut k, mut places) = (1, None);
     let mut words = arguments.iter();
     while let Some(word) = words.next() {
-        let mut number = || {
-            let value = words.next().and_then(|value| value.parse::<u32>().ok());
-            value.ok_or_else(|| format!("{word} needs a number"))
-        };
-        match word.as_str() {
+        let text = word.to_string_lossy();
+        let mut number = || number(&text, words.next());
+        match &*text {
             "--site" => sites.push(number()?),
             "--k" => k = number()?,
             "--K" => places = Some(number()?),
-            option if option.starts_with("--") => return Err(format!("no option {option}")),
-            file => files.push(file.to_string()),
+            option if option.starts_with('-') => return Err(format!("no option {option}")),
+            _ => files.push(PathBuf::from(word)),
         }
     }
     let [roads, points] = files.try_into().map_err(|_| "two files are needed")?;
@@ -61,12 +74,19 @@ fn asked(arguments: &[String]) -> Result<Asked, Message> {
     })
 }
 
+/// The number behind an option.
+fn number(option: &str, value: Option<&OsString>) -> Result<u32, Message> {
+    let value = value.ok_or_else(|| format!("{option} needs a number"))?;
+    let text = value.to_string_lossy();
+    let parsed = text.parse();
+    parsed.map_err(|_| format!("{option} needs a whole number of 32 bits, not `{text}`"))
+}
+
 fn report(asked: &Asked, out: &mut impl Write) -> Result<(), Message> {
     let roads = read(&asked.roads)?;
-    let network = read_network(&roads).map_err(|bad| format!("{}, {bad}", asked.roads))?;
+    let network = read_network(&roads).map_err(|bad| in_file(&asked.roads, bad))?;
     let lockers = read(&asked.points)?;
-    let points =
-        read_points(&lockers, &network).map_err(|bad| format!("{}, {bad}", asked.points))?;
+    let points = read_points(&lockers, &network).map_err(|bad| in_file(&asked.points, bad))?;
     let table = Table::build(&network, points, asked.places);
     let mut table = table.map_err(|refusal| format!("K = {}: {refusal}", asked.places))?;
     print_network(&table, out).map_err(unwritten)?;
@@ -75,9 +95,13 @@ fn report(asked: &Asked, out: &mut impl Write) -> Result<(), Message> {
 }
 
 /// A text file. Bytes that are no text become a sign that no number has.
-fn read(file: &str) -> Result<String, Message> {
-    let bytes = fs::read(file).map_err(|error| format!("{file}: {error}"))?;
+fn read(file: &Path) -> Result<String, Message> {
+    let bytes = fs::read(file).map_err(|error| format!("{}: {error}", file.display()))?;
     Ok(String::from_utf8_lossy(&bytes).into_owned())
+}
+
+fn in_file(file: &Path, bad: BadLine) -> Message {
+    format!("{}, {bad}", file.display())
 }
 
 fn unwritten(error: io::Error) -> Message {
@@ -106,19 +130,17 @@ fn print_lists(asked: &Asked, table: &mut Table, out: &mut impl Write) -> Result
     writeln!(out, "{heading}").map_err(unwritten)?;
     for &site in sites {
         let line = site_line(site, asked.k, table, &mut engine);
-        let line = line.map_err(|message| format!("site {site}: {message}"))?;
+        let line = line.map_err(|refusal| match refusal {
+            Refusal::K => format!("k = {}, K = {}: {refusal}", asked.k, asked.places),
+            _ => format!("site {site}: {refusal}"),
+        })?;
         writeln!(out, "{line}").map_err(unwritten)?;
     }
     Ok(())
 }
 
 /// The list of a site, by the table, and the count of nodes that eager expands for it.
-fn site_line(
-    q: u32,
-    k: u32,
-    table: &mut Table,
-    engine: &mut Engine,
-) -> Result<String, overlap::Refusal> {
+fn site_line(q: u32, k: u32, table: &mut Table, engine: &mut Engine) -> Result<String, Refusal> {
     let list = shown(table.query(q, k)?);
     let expanded = engine.eager(table.points(), q, k, u32::MAX)?.expanded;
     Ok(format!("{q:<6} {expanded:<10} {list}"))
