@@ -38,22 +38,17 @@ use super::{ffi, Network};
 /// ```
 #[must_use]
 pub fn distances(network: Network<'_>, node: u32, scratch: &mut [u32], answers: &mut [u32]) -> u32 {
-    let Network {
-        starts,
-        neighbours,
-        weights,
-    } = network;
     // SAFETY: each pointer and length are those of one slice, lent for the whole call; the two that
     // the call writes are lent to it alone. It touches no word outside the slices. An empty slice
     // has a pointer that is not null.
     unsafe {
         ffi::overlap_distances(
-            starts.as_ptr(),
-            starts.len(),
-            neighbours.as_ptr(),
-            neighbours.len(),
-            weights.as_ptr(),
-            weights.len(),
+            network.starts.as_ptr(),
+            network.starts.len(),
+            network.neighbours.as_ptr(),
+            network.neighbours.len(),
+            network.weights.as_ptr(),
+            network.weights.len(),
             node,
             scratch.as_mut_ptr(),
             scratch.len(),

@@ -47,22 +47,17 @@ pub fn eager(
     scratch: &mut [u32],
     answers: &mut [u32],
 ) -> Listing {
-    let Network {
-        starts,
-        neighbours,
-        weights,
-    } = network;
     // SAFETY: each pointer and length are those of one slice, lent for the whole call; the two that
     // the call writes are lent to it alone. It touches no word outside the slices. An empty slice
     // has a pointer that is not null.
     unsafe {
         ffi::overlap_eager(
-            starts.as_ptr(),
-            starts.len(),
-            neighbours.as_ptr(),
-            neighbours.len(),
-            weights.as_ptr(),
-            weights.len(),
+            network.starts.as_ptr(),
+            network.starts.len(),
+            network.neighbours.as_ptr(),
+            network.neighbours.len(),
+            network.weights.as_ptr(),
+            network.weights.len(),
             points.as_ptr(),
             points.len(),
             q,
@@ -106,20 +101,15 @@ pub fn short_query(
     scratch: &mut [u32],
     answers: &mut [u32],
 ) -> Listing {
-    let Network {
-        starts,
-        neighbours,
-        weights,
-    } = network;
     // SAFETY: as for `eager`.
     unsafe {
         ffi::overlap_short_query(
-            starts.as_ptr(),
-            starts.len(),
-            neighbours.as_ptr(),
-            neighbours.len(),
-            weights.as_ptr(),
-            weights.len(),
+            network.starts.as_ptr(),
+            network.starts.len(),
+            network.neighbours.as_ptr(),
+            network.neighbours.len(),
+            network.weights.as_ptr(),
+            network.weights.len(),
             points.as_ptr(),
             points.len(),
             q,

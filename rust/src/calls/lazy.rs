@@ -107,20 +107,15 @@ fn search(
     scratch: &mut [u32],
     answers: &mut [u32],
 ) -> Listing {
-    let Network {
-        starts,
-        neighbours,
-        weights,
-    } = network;
     // SAFETY: as for `eager`.
     unsafe {
         call(
-            starts.as_ptr(),
-            starts.len(),
-            neighbours.as_ptr(),
-            neighbours.len(),
-            weights.as_ptr(),
-            weights.len(),
+            network.starts.as_ptr(),
+            network.starts.len(),
+            network.neighbours.as_ptr(),
+            network.neighbours.len(),
+            network.weights.as_ptr(),
+            network.weights.len(),
             points.as_ptr(),
             points.len(),
             q,

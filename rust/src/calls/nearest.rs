@@ -64,23 +64,17 @@ pub fn nearest(
     scratch: &mut [u32],
     found: Found<'_>,
 ) -> Listing {
-    let Network {
-        starts,
-        neighbours,
-        weights,
-    } = network;
-    let Found { ids, distances } = found;
     // SAFETY: each pointer and length are those of one slice, lent for the whole call; the three
     // that the call writes are lent to it alone. It touches no word outside the slices. An empty
     // slice has a pointer that is not null.
     unsafe {
         ffi::overlap_nearest(
-            starts.as_ptr(),
-            starts.len(),
-            neighbours.as_ptr(),
-            neighbours.len(),
-            weights.as_ptr(),
-            weights.len(),
+            network.starts.as_ptr(),
+            network.starts.len(),
+            network.neighbours.as_ptr(),
+            network.neighbours.len(),
+            network.weights.as_ptr(),
+            network.weights.len(),
             points.as_ptr(),
             points.len(),
             node,
@@ -88,10 +82,10 @@ pub fn nearest(
             k,
             scratch.as_mut_ptr(),
             scratch.len(),
-            ids.as_mut_ptr(),
-            ids.len(),
-            distances.as_mut_ptr(),
-            distances.len(),
+            found.ids.as_mut_ptr(),
+            found.ids.len(),
+            found.distances.as_mut_ptr(),
+            found.distances.len(),
         )
     }
 }

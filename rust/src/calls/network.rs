@@ -48,21 +48,16 @@ pub struct Network<'a> {
 /// ```
 #[must_use]
 pub fn network_check(network: Network<'_>) -> u32 {
-    let Network {
-        starts,
-        neighbours,
-        weights,
-    } = network;
     // SAFETY: each pointer and length are those of one slice, lent for the whole call; the call
     // reads no word outside them and writes nothing. An empty slice has a pointer that is not null.
     unsafe {
         ffi::overlap_network_check(
-            starts.as_ptr(),
-            starts.len(),
-            neighbours.as_ptr(),
-            neighbours.len(),
-            weights.as_ptr(),
-            weights.len(),
+            network.starts.as_ptr(),
+            network.starts.len(),
+            network.neighbours.as_ptr(),
+            network.neighbours.len(),
+            network.weights.as_ptr(),
+            network.weights.len(),
         )
     }
 }

@@ -60,36 +60,26 @@ pub struct TableMut<'a> {
 /// # }
 /// ```
 pub fn build(network: Network<'_>, points: &[u8], scratch: &mut [u32], table: TableMut<'_>) -> u32 {
-    let Network {
-        starts,
-        neighbours,
-        weights,
-    } = network;
-    let TableMut {
-        places,
-        ids,
-        distances,
-    } = table;
     // SAFETY: each pointer and length are those of one slice, lent for the whole call; the three
     // that the call writes are lent to it alone. It touches no word outside the slices. An empty
     // slice has a pointer that is not null.
     unsafe {
         ffi::overlap_build(
-            starts.as_ptr(),
-            starts.len(),
-            neighbours.as_ptr(),
-            neighbours.len(),
-            weights.as_ptr(),
-            weights.len(),
+            network.starts.as_ptr(),
+            network.starts.len(),
+            network.neighbours.as_ptr(),
+            network.neighbours.len(),
+            network.weights.as_ptr(),
+            network.weights.len(),
             points.as_ptr(),
             points.len(),
-            places,
+            table.places,
             scratch.as_mut_ptr(),
             scratch.len(),
-            ids.as_mut_ptr(),
-            ids.len(),
-            distances.as_mut_ptr(),
-            distances.len(),
+            table.ids.as_mut_ptr(),
+            table.ids.len(),
+            table.distances.as_mut_ptr(),
+            table.distances.len(),
         )
     }
 }
@@ -152,35 +142,25 @@ pub(crate) fn change(
     scratch: &mut [u32],
     table: TableMut<'_>,
 ) -> Update {
-    let Network {
-        starts,
-        neighbours,
-        weights,
-    } = network;
-    let TableMut {
-        places,
-        ids,
-        distances,
-    } = table;
     // SAFETY: as for `build`; the call writes the points too, and they are lent to it alone.
     unsafe {
         call(
-            starts.as_ptr(),
-            starts.len(),
-            neighbours.as_ptr(),
-            neighbours.len(),
-            weights.as_ptr(),
-            weights.len(),
+            network.starts.as_ptr(),
+            network.starts.len(),
+            network.neighbours.as_ptr(),
+            network.neighbours.len(),
+            network.weights.as_ptr(),
+            network.weights.len(),
             points.as_mut_ptr(),
             points.len(),
             node,
-            places,
+            table.places,
             scratch.as_mut_ptr(),
             scratch.len(),
-            ids.as_mut_ptr(),
-            ids.len(),
-            distances.as_mut_ptr(),
-            distances.len(),
+            table.ids.as_mut_ptr(),
+            table.ids.len(),
+            table.distances.as_mut_ptr(),
+            table.distances.len(),
         )
     }
 }
@@ -212,34 +192,24 @@ pub(crate) fn change(
 /// # }
 /// ```
 pub fn table_check(network: Network<'_>, points: &[u8], table: Table<'_>) -> Verdict {
-    let Network {
-        starts,
-        neighbours,
-        weights,
-    } = network;
-    let Table {
-        places,
-        ids,
-        distances,
-    } = table;
     // SAFETY: each pointer and length are those of one slice, lent for the whole call, which writes
     // none of them and touches no word outside of them. An empty slice has a pointer that is not
     // null.
     unsafe {
         ffi::overlap_table_check(
-            starts.as_ptr(),
-            starts.len(),
-            neighbours.as_ptr(),
-            neighbours.len(),
-            weights.as_ptr(),
-            weights.len(),
+            network.starts.as_ptr(),
+            network.starts.len(),
+            network.neighbours.as_ptr(),
+            network.neighbours.len(),
+            network.weights.as_ptr(),
+            network.weights.len(),
             points.as_ptr(),
             points.len(),
-            places,
-            ids.as_ptr(),
-            ids.len(),
-            distances.as_ptr(),
-            distances.len(),
+            table.places,
+            table.ids.as_ptr(),
+            table.ids.len(),
+            table.distances.as_ptr(),
+            table.distances.len(),
         )
     }
 }

@@ -58,36 +58,26 @@ pub fn table_query(
     scratch: &mut [u32],
     answers: &mut [u32],
 ) -> Listing {
-    let Network {
-        starts,
-        neighbours,
-        weights,
-    } = network;
-    let Table {
-        places,
-        ids,
-        distances,
-    } = table;
     // SAFETY: each pointer and length are those of one slice, lent for the whole call; the two that
     // the call writes are lent to it alone. It touches no word outside the slices. An empty slice
     // has a pointer that is not null.
     unsafe {
         ffi::overlap_table_query(
-            starts.as_ptr(),
-            starts.len(),
-            neighbours.as_ptr(),
-            neighbours.len(),
-            weights.as_ptr(),
-            weights.len(),
+            network.starts.as_ptr(),
+            network.starts.len(),
+            network.neighbours.as_ptr(),
+            network.neighbours.len(),
+            network.weights.as_ptr(),
+            network.weights.len(),
             points.as_ptr(),
             points.len(),
             q,
             k,
-            places,
-            ids.as_ptr(),
-            ids.len(),
-            distances.as_ptr(),
-            distances.len(),
+            table.places,
+            table.ids.as_ptr(),
+            table.ids.len(),
+            table.distances.as_ptr(),
+            table.distances.len(),
             scratch.as_mut_ptr(),
             scratch.len(),
             answers.as_mut_ptr(),

@@ -47,22 +47,17 @@ pub fn verify(
     k: u32,
     scratch: &mut [u32],
 ) -> Verdict {
-    let Network {
-        starts,
-        neighbours,
-        weights,
-    } = network;
     // SAFETY: each pointer and length are those of one slice, lent for the whole call; scratch, the
     // one that the call writes, is lent to it alone. It touches no word outside the slices. An
     // empty slice has a pointer that is not null.
     unsafe {
         ffi::overlap_verify(
-            starts.as_ptr(),
-            starts.len(),
-            neighbours.as_ptr(),
-            neighbours.len(),
-            weights.as_ptr(),
-            weights.len(),
+            network.starts.as_ptr(),
+            network.starts.len(),
+            network.neighbours.as_ptr(),
+            network.neighbours.len(),
+            network.weights.as_ptr(),
+            network.weights.len(),
             points.as_ptr(),
             points.len(),
             p,
