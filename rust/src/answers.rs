@@ -7,6 +7,19 @@ use std::slice::Iter;
 /// The answer of [`Engine::distances`](crate::Engine::distances).
 ///
 /// Document 01: "Distances from a node: n entries, NONE where none."
+///
+/// ```
+/// use overlap::{Engine, Network, NONE};
+///
+/// # fn main() -> Result<(), overlap::Refusal> {
+/// let network = Network::from_roads(3, &[(0, 1, 4)])?;
+/// let mut engine = Engine::new(&network);
+/// let distances = engine.distances(1)?;
+/// assert_eq!((distances.to(0), distances.to(2)), (Some(4), None));
+/// assert_eq!(distances.words(), [4, 0, NONE]);
+/// # Ok(())
+/// # }
+/// ```
 #[derive(Clone, Copy, Debug, PartialEq, Eq)]
 pub struct Distances<'a> {
     pub(crate) words: &'a [u32],

@@ -1,12 +1,13 @@
 //! Scratch and answers that are allocated once and lent to each call.
 
 use crate::Network;
+use std::fmt;
 
 /// Document 01 has no k above 16 and no K above 17. A call with a larger one is refused by 9 or 8
 /// before its scratch is looked at, so no more than S for 17 is ever allocated.
 const MOST: u32 = 17;
 
-#[derive(Debug, Default)]
+#[derive(Default)]
 pub(crate) struct Buffers {
     scratch: Vec<u32>,
     answers: Vec<u32>,
@@ -31,6 +32,16 @@ impl Buffers {
     /// The first answers of the last call.
     pub(crate) fn answers(&self, length: usize) -> &[u32] {
         &self.answers[..length]
+    }
+}
+
+/// The lengths alone, as scratch is long and between calls says nothing.
+impl fmt::Debug for Buffers {
+    fn fmt(&self, f: &mut fmt::Formatter<'_>) -> fmt::Result {
+        let mut buffers = f.debug_struct("Buffers");
+        buffers.field("scratch_len", &self.scratch.len());
+        buffers.field("answers_len", &self.answers.len());
+        buffers.finish()
     }
 }
 

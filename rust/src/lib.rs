@@ -43,6 +43,10 @@
 //! # }
 //! ```
 //!
+//! Your crate depends on this one by its path, as in `overlap = { path = "../overlap/rust" }`. It
+//! links `target/staticlib/liboverlap.a`, which `rt staticlib overlap` writes, run in the
+//! repository's root.
+//!
 //! The proof covers the engine. It does not cover this crate: the tests compare its C declarations
 //! with `overlap.h` and with the engine's own text, and its answers with plain Rust that is written
 //! from document 01 alone. The crate has no dependencies, and unsafe code in [`calls`] only.

@@ -8,6 +8,15 @@
 ///
 /// Document 01: "An accepted call returns number 0; a listing or nearest call also the length of
 /// its list. A refusal returns its number, count 0 and no".
+///
+/// ```
+/// use overlap::calls::{lazy, Listing, Network};
+///
+/// // k is 0, which 9 refuses before the lengths of scratch and answers are looked at.
+/// let one_node = Network { starts: &[0, 0], neighbours: &[], weights: &[] };
+/// let listing = lazy(one_node, &[1], 0, 0, &mut [], &mut []);
+/// assert_eq!(listing, Listing { number: 9, count: 0, length: 0 });
+/// ```
 #[repr(C)]
 #[must_use]
 #[derive(Clone, Copy, Debug, Default, PartialEq, Eq)]
@@ -23,6 +32,16 @@ pub struct Listing {
 /// The answer of a call that says yes or no: `overlap_verdict` of `overlap.h`.
 ///
 /// Document 01: "A refusal returns its number, count 0 and no".
+///
+/// ```
+/// use overlap::calls::{scratch_len, verify, Network, Verdict};
+///
+/// // One node with a point and a site on it: "A point on q is listed."
+/// let one_node = Network { starts: &[0, 0], neighbours: &[], weights: &[] };
+/// let mut scratch = vec![0; scratch_len(one_node, 1)];
+/// let verdict = verify(one_node, &[1], 0, 0, 1, &mut scratch);
+/// assert_eq!(verdict, Verdict { number: 0, yes: 1 });
+/// ```
 #[repr(C)]
 #[must_use]
 #[derive(Clone, Copy, Debug, Default, PartialEq, Eq)]
@@ -37,6 +56,18 @@ pub struct Verdict {
 ///
 /// Document 01: "each brings the table up to date and returns the number of rows whose contents
 /// differ before and after". "A refusal returns its number, count 0 and no".
+///
+/// ```
+/// use overlap::calls::{insert, scratch_len, Network, TableMut, Update, NONE};
+///
+/// // One node without a point, and its table of two empty places.
+/// let one_node = Network { starts: &[0, 0], neighbours: &[], weights: &[] };
+/// let (mut points, mut ids, mut distances) = ([0], [NONE; 2], [NONE; 2]);
+/// let mut scratch = vec![0; scratch_len(one_node, 2)];
+/// let table = TableMut { places: 2, ids: &mut ids, distances: &mut distances };
+/// let update = insert(one_node, &mut points, 0, &mut scratch, table);
+/// assert_eq!(update, Update { number: 0, changed: 1 });
+/// ```
 #[repr(C)]
 #[must_use]
 #[derive(Clone, Copy, Debug, Default, PartialEq, Eq)]

@@ -3,6 +3,18 @@
 use super::{ffi, Listing, Network};
 
 /// The arrays in which [`nearest`] puts its answer. Document 01: "ids and distances in two arrays".
+///
+/// ```
+/// use overlap::calls::{nearest, scratch_len, Found, Network, NONE};
+///
+/// // One node with a point, and k = 1.
+/// let one_node = Network { starts: &[0, 0], neighbours: &[], weights: &[] };
+/// let mut scratch = vec![0; scratch_len(one_node, 1)];
+/// let (mut ids, mut distances) = ([NONE], [NONE]);
+/// let found = Found { ids: &mut ids, distances: &mut distances };
+/// assert_eq!(nearest(one_node, &[1], 0, NONE, 1, &mut scratch, found).length, 1);
+/// assert_eq!((ids, distances), ([0], [0]));
+/// ```
 #[derive(Debug)]
 pub struct Found<'a> {
     /// The points, each named by its node.

@@ -7,6 +7,15 @@ use super::{ffi, Network, Update, Verdict};
 /// Document 01: "Two arrays of n × K entries, ids and distances; K is 2 to 17. Row i starts in the
 /// middle of each array, at i × K [...]. It holds the K nearest points of node i that can be
 /// reached, by distance then node, i's own point first; the rest is NONE in both arrays."
+///
+/// ```
+/// use overlap::calls::{table_check, Network, Table, NONE};
+///
+/// // One node with a point, and K = 2.
+/// let one_node = Network { starts: &[0, 0], neighbours: &[], weights: &[] };
+/// let table = Table { places: 2, ids: &[0, NONE], distances: &[0, NONE] };
+/// assert_eq!(table_check(one_node, &[1], table).accepted(), Ok(true));
+/// ```
 #[derive(Clone, Copy, Debug)]
 pub struct Table<'a> {
     /// K, the places of a row.
@@ -18,6 +27,18 @@ pub struct Table<'a> {
 }
 
 /// A table that a call writes: a [`Table`] of arrays lent for writing.
+///
+/// ```
+/// use overlap::calls::{build, scratch_len, Network, TableMut, NONE};
+///
+/// // One node with a point, and K = 2.
+/// let one_node = Network { starts: &[0, 0], neighbours: &[], weights: &[] };
+/// let mut scratch = vec![0; scratch_len(one_node, 2)];
+/// let (mut ids, mut distances) = ([7; 2], [7; 2]);
+/// let table = TableMut { places: 2, ids: &mut ids, distances: &mut distances };
+/// assert_eq!(build(one_node, &[1], &mut scratch, table), 0);
+/// assert_eq!((ids, distances), ([0, NONE], [0, NONE]));
+/// ```
 #[derive(Debug)]
 pub struct TableMut<'a> {
     /// K, the places of a row.
