@@ -7,11 +7,14 @@ use common::call::{assert_lower_numbers_first, assert_outcome, assert_random_cal
 use common::call::{assert_refused, compare, Call, Outcome, LEAST_OF_EACH};
 use common::faults::Fault;
 use common::inputs::{enough, some_places, some_points, spoil_points};
+use common::largest::{
+    each, largest_grid, largest_star, longest_chain, most_roads, LAST, MOST_NODES,
+};
 use common::lent::Lent;
 use common::network::{marks, network_n, OwnedNetwork, N_NODES, N_POINTS};
 use common::numbers::{build_number, plain_scratch_len};
 use common::random::Random;
-use common::shapes::{belt, chain, far_grid, grid, random_network, random_parts, star};
+use common::shapes::{far_grid, random_network, random_parts};
 use common::shapes::{try_all_small_points, weight_by_product, weighted};
 use common::table::{OwnedTable, PlainTable};
 use common::tally::Tally;
@@ -71,10 +74,6 @@ impl Call for Build {
     fn number(&self) -> u32 {
         let (network, scratch) = (self.network.lend(), self.scratch.len());
         build_number(network, &self.points, self.table.sizes(), scratch)
-    }
-
-    fn refusal(number: u32) -> u32 {
-        number
     }
 
     fn accepted_by(&self, pairs: &AllPairs) -> Outcome<Self> {
@@ -344,9 +343,6 @@ mod special {
 mod limits {
     use super::*;
 
-    const MOST_NODES: u32 = 65_535;
-    const LAST: u32 = MOST_NODES - 1;
-
     fn assert_table(network: &OwnedNetwork, points: &[u8], places: u32) -> PlainTable {
         let call = Build::exact(network, points, places, &mut Random::new(6));
         let table = PlainTable::of_large(network, points, places);
@@ -355,14 +351,10 @@ mod limits {
         table
     }
 
-    fn each(step: u32) -> Vec<u8> {
-        (0..MOST_NODES).map(|p| u8::from(p % step == 0)).collect()
-    }
-
     /// "Every distance is at most 4,294,770,690."
     #[test]
     fn the_longest_chain() {
-        let network = weighted(MOST_NODES, &chain(MOST_NODES), |_, _| 65_535);
+        let network = longest_chain();
         let ends = assert_table(&network, &marks(MOST_NODES, &[0, LAST]), 2);
         assert_eq!(ends.row(0), [(0, 0), (LAST, 4_294_770_690)]);
         assert_eq!(ends.row(LAST), [(LAST, 0), (0, 4_294_770_690)]);
@@ -371,7 +363,7 @@ mod limits {
 
     #[test]
     fn a_star_of_the_most_nodes() {
-        let network = weighted(MOST_NODES, &star(MOST_NODES, 7), |_, _| 65_535);
+        let network = largest_star(7);
         assert_table(&network, &marks(MOST_NODES, &[0, 7, LAST]), 2);
         assert_table(&network, &each(20_000), 3);
     }
@@ -384,20 +376,20 @@ mod limits {
 
     #[test]
     fn a_grid_of_255_by_257_nodes() {
-        let network = weighted(MOST_NODES, &grid(255, 257), weight_by_product);
+        let network = largest_grid(weight_by_product);
         assert_table(&network, &each(100), 2);
         assert_table(&network, &each(100), 17);
     }
 
     #[test]
     fn a_grid_of_255_by_257_nodes_and_equal_weights() {
-        let network = weighted(MOST_NODES, &grid(255, 257), |_, _| 1);
+        let network = largest_grid(|_, _| 1);
         assert_table(&network, &each(100), 5);
     }
 
     #[test]
     fn the_most_arcs() {
-        let network = weighted(MOST_NODES, &belt(MOST_NODES, 262_144), weight_by_product);
+        let network = most_roads(weight_by_product);
         assert_eq!(network.neighbours.len(), 524_288);
         assert_table(&network, &each(1_000), 2);
         assert_table(&network, &each(1), 2);

@@ -9,13 +9,13 @@ use common::call::{
 use common::call::{compare, Call, Outcome};
 use common::faults::Fault;
 use common::inputs::{enough, no_node, some_node, too_short};
+use common::largest::{largest_grid, largest_star, longest_chain, most_roads, MOST_NODES};
 use common::lent::Lent;
 use common::network::{network_n, OwnedNetwork, N_NODES};
 use common::numbers::{distances_number, plain_scratch_len};
 use common::random::Random;
 use common::rows::{distances_in, relaxed_row, LARGEST_DISTANCE};
-use common::shapes::all_small_networks;
-use common::shapes::{belt, chain, far_grid, grid, star, weight_by_product, weighted};
+use common::shapes::{all_small_networks, far_grid, star, weight_by_product, weighted};
 use common::tally::Tally;
 use overlap::calls::{distances, NONE};
 
@@ -73,10 +73,6 @@ impl Call for Distances {
     fn number(&self) -> u32 {
         let (scratch, answers) = (self.scratch.len(), self.answers.len());
         distances_number(self.network.lend(), self.node, scratch, answers)
-    }
-
-    fn refusal(number: u32) -> u32 {
-        number
     }
 
     fn accepted_by(&self, pairs: &AllPairs) -> Outcome<Self> {
@@ -221,9 +217,6 @@ mod exhaustive {
 mod limits {
     use super::*;
 
-    const MOST_NODES: u32 = 65_535;
-    const MOST_ROADS: u32 = 262_144;
-
     fn assert_distances(network: &OwnedNetwork, node: u32, distance: impl Fn(u32) -> u32) {
         let call = Distances::exact(network, node, &mut Random::new(5));
         let n = network.starts.len() as u32 - 1;
@@ -240,7 +233,7 @@ mod limits {
 
     #[test]
     fn the_ends_of_the_longest_chain_are_4_294_770_690_apart() {
-        let network = weighted(MOST_NODES, &chain(MOST_NODES), |_, _| 65_535);
+        let network = longest_chain();
         for node in [0, 1, MOST_NODES / 2, MOST_NODES - 1] {
             assert_distances(&network, node, |other| node.abs_diff(other) * 65_535);
         }
@@ -250,7 +243,7 @@ mod limits {
     #[test]
     fn a_star_of_the_most_nodes() {
         for centre in [0, MOST_NODES / 2, MOST_NODES - 1] {
-            let network = weighted(MOST_NODES, &star(MOST_NODES, centre), |_, _| 65_535);
+            let network = largest_star(centre);
             for node in [0, MOST_NODES / 2, MOST_NODES - 1] {
                 let roads = |other| u32::from(node != centre) + u32::from(other != centre);
                 let distance = |other| {
@@ -288,7 +281,7 @@ mod limits {
 
     #[test]
     fn a_grid_of_255_by_257_nodes() {
-        let network = weighted(MOST_NODES, &grid(255, 257), weight_by_product);
+        let network = largest_grid(weight_by_product);
         assert_relaxed(&network, 0);
         assert_relaxed(&network, MOST_NODES / 2);
     }
@@ -304,7 +297,7 @@ mod limits {
 
     #[test]
     fn the_most_arcs() {
-        let network = weighted(MOST_NODES, &belt(MOST_NODES, MOST_ROADS), weight_by_product);
+        let network = most_roads(weight_by_product);
         assert_eq!(network.neighbours.len(), 524_288);
         assert_relaxed(&network, MOST_NODES - 1);
     }
@@ -312,7 +305,7 @@ mod limits {
     #[test]
     fn scratch_of_one_word_less_is_refused() {
         let mut random = Random::new(8);
-        let network = weighted(MOST_NODES, &belt(MOST_NODES, MOST_ROADS), |_, _| 1);
+        let network = most_roads(|_, _| 1);
         let mut call = Distances::exact(&network, 0, &mut random);
         call.scratch = Lent::junk(call.scratch.len() - 1, &mut random);
         assert_refused(call, 10);

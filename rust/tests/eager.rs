@@ -4,16 +4,16 @@ mod common;
 
 use common::all_pairs::AllPairs;
 use common::call::{assert_lower_numbers_first, assert_outcome, assert_random_calls};
-use common::call::{assert_refused, compare, Call, Outcome, LEAST_OF_EACH};
+use common::call::{assert_refused, compare, Answer, Call, Outcome, LEAST_OF_EACH};
 use common::faults::Fault;
 use common::inputs::{no_k, no_node, some_node, some_points, spoil_points};
+use common::largest::{each, largest_grid, largest_star, longest_chain, LAST, MOST_NODES};
 use common::lent::Lent;
 use common::nearest_rows::NearestRows;
 use common::network::{marks, network_n, OwnedNetwork, N_NODES, N_POINTS};
 use common::random::Random;
 use common::rows::relaxed_row;
-use common::shapes::try_all_small_points;
-use common::shapes::{chain, grid, star, weight_by_product, weighted};
+use common::shapes::{try_all_small_points, weight_by_product};
 use common::site::Site;
 use common::tally::Tally;
 use overlap::calls::{eager, short_query, Listing};
@@ -43,16 +43,9 @@ impl Eager {
 
     /// "It [...] returns the list and the count of nodes expanded."
     fn accepted(&self, list: &[u32], count: u32) -> Outcome<Self> {
-        let left = Self {
-            site: self.site.left(list),
-            limit: self.limit,
-        };
-        let listing = Listing {
-            number: 0,
-            count,
-            length: list.len(),
-        };
-        (listing, left)
+        let (listing, site) = self.site.accepted(list, count);
+        let limit = self.limit;
+        (listing, Self { site, limit })
     }
 }
 
@@ -92,14 +85,6 @@ impl Call for Eager {
         match self.site.number() {
             0 if expanded() > self.limit => 12,
             number => number,
-        }
-    }
-
-    fn refusal(number: u32) -> Listing {
-        Listing {
-            number,
-            count: 0,
-            length: 0,
         }
     }
 
@@ -148,7 +133,7 @@ impl Call for Eager {
         if number == 12 {
             left.site.scratch = left.site.scratch.cleared();
         }
-        (Self::refusal(number), left)
+        (Listing::refusal(number), left)
     }
 }
 
@@ -189,10 +174,6 @@ impl Call for Short {
 
     fn number(&self) -> u32 {
         self.0.number()
-    }
-
-    fn refusal(number: u32) -> Listing {
-        Eager::refusal(number)
     }
 
     fn accepted_by(&self, pairs: &AllPairs) -> Outcome<Self> {
@@ -393,9 +374,6 @@ mod exhaustive {
 mod limits {
     use super::*;
 
-    const MOST_NODES: u32 = 65_535;
-    const LAST: u32 = MOST_NODES - 1;
-
     fn assert_list(
         network: &OwnedNetwork,
         points: &[u8],
@@ -410,8 +388,8 @@ mod limits {
     /// Points at each thousandth node. The expanded nodes reach halfway to the points beside q.
     #[test]
     fn the_middle_of_the_longest_chain() {
-        let network = weighted(MOST_NODES, &chain(MOST_NODES), |_, _| 65_535);
-        let points: Vec<u8> = (0..MOST_NODES).map(|p| u8::from(p % 1_000 == 0)).collect();
+        let network = longest_chain();
+        let points = each(1_000);
         let q = MOST_NODES / 2;
         assert_list(&network, &points, (q, 1, 500), (&[32_000, 33_000], 500));
         let call = Eager::exact(&network, &points, (q, 1, 499), &mut Random::new(7));
@@ -422,7 +400,7 @@ mod limits {
     #[test]
     fn a_star_of_the_most_nodes() {
         let centre = 7;
-        let network = weighted(MOST_NODES, &star(MOST_NODES, centre), |_, _| 65_535);
+        let network = largest_star(centre);
         let points = marks(MOST_NODES, &[0, centre, LAST]);
         assert_list(&network, &points, (LAST, 1, 1), (&[centre, LAST], 1));
         let call = Eager::exact(&network, &points, (LAST, 1, 0), &mut Random::new(7));
@@ -440,8 +418,8 @@ mod limits {
 
     #[test]
     fn a_grid_of_255_by_257_nodes() {
-        let network = weighted(MOST_NODES, &grid(255, 257), weight_by_product);
-        let points: Vec<u8> = (0..MOST_NODES).map(|p| u8::from(p % 100 == 0)).collect();
+        let network = largest_grid(weight_by_product);
+        let points = each(100);
         let nearest = NearestRows::of(network.lend(), &points, 5);
         for (q, k) in [(MOST_NODES / 2, 1), (100, 4)] {
             let from_q = relaxed_row(network.lend(), q);

@@ -6,9 +6,10 @@ use common::call::{assert_lower_numbers_first, assert_random_calls};
 use common::call::{assert_refused, compare, Call, LEAST_OF_EACH};
 use common::change::{assert_damaged_tables, assert_small_networks, Change, ChangeCall, Kind};
 use common::change_cases::{assert_changes, assert_one_by_one, assert_own_conditions};
-use common::change_cases::{assert_scratch_of_n, call_on_n, each, MOST_NODES};
+use common::change_cases::{assert_scratch_of_n, call_on_n};
+use common::largest::{each, largest_grid, largest_star, longest_chain, LAST, MOST_NODES};
 use common::network::N_POINTS;
-use common::shapes::{chain, grid, star, weight_by_product, weighted};
+use common::shapes::weight_by_product;
 use overlap::calls::insert;
 
 #[derive(Clone)]
@@ -119,11 +120,9 @@ mod damaged_tables {
 mod limits {
     use super::*;
 
-    const LAST: u32 = MOST_NODES - 1;
-
     #[test]
     fn the_longest_chain() {
-        let network = weighted(MOST_NODES, &chain(MOST_NODES), |_, _| 65_535);
+        let network = longest_chain();
         let none = vec![0; MOST_NODES as usize];
         let nodes = [0, LAST, 1, LAST / 2];
         assert_changes::<Insertion>(&network, &none, &nodes, 2);
@@ -132,14 +131,14 @@ mod limits {
 
     #[test]
     fn a_star_of_the_most_nodes() {
-        let network = weighted(MOST_NODES, &star(MOST_NODES, 7), |_, _| 65_535);
+        let network = largest_star(7);
         let none = vec![0; MOST_NODES as usize];
         assert_changes::<Insertion>(&network, &none, &[LAST, 7, 0, 1], 2);
     }
 
     #[test]
     fn a_grid_of_255_by_257_nodes() {
-        let network = weighted(MOST_NODES, &grid(255, 257), weight_by_product);
+        let network = largest_grid(weight_by_product);
         assert_changes::<Insertion>(&network, &each(100), &[1, MOST_NODES / 2, LAST], 2);
         assert_changes::<Insertion>(&network, &each(1_000), &[30_001], 17);
     }

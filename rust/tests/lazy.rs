@@ -7,6 +7,9 @@ use common::call::{assert_lower_numbers_first, assert_outcome, assert_random_cal
 use common::call::{assert_refused, compare, Call, Outcome, LEAST_OF_EACH};
 use common::faults::Fault;
 use common::inputs::{no_k, no_node, some_k, some_node, some_points, spoil_points};
+use common::largest::{
+    each, largest_grid, largest_star, longest_chain, most_roads, LAST, MOST_NODES,
+};
 use common::lent::Lent;
 use common::nearest_rows::NearestRows;
 use common::network::{marks, network_n, OwnedNetwork, N_NODES, N_POINTS};
@@ -59,12 +62,8 @@ impl<S: Search> By<S> {
 
     /// "Lazy [...] and lazy-EP [...]: the list." There is no count.
     fn accepted(&self, list: &[u32]) -> Outcome<Self> {
-        let listing = Listing {
-            number: 0,
-            count: 0,
-            length: list.len(),
-        };
-        (listing, Self::of(&self.site.left(list)))
+        let (listing, left) = self.site.accepted(list, 0);
+        (listing, Self::of(&left))
     }
 }
 
@@ -88,14 +87,6 @@ impl<S: Search> Call for By<S> {
 
     fn number(&self) -> u32 {
         self.site.number()
-    }
-
-    fn refusal(number: u32) -> Listing {
-        Listing {
-            number,
-            count: 0,
-            length: 0,
-        }
     }
 
     fn accepted_by(&self, pairs: &AllPairs) -> Outcome<Self> {
@@ -497,10 +488,6 @@ mod special {
 mod limits {
     use super::*;
 
-    const MOST_NODES: u32 = 65_535;
-    const LAST: u32 = MOST_NODES - 1;
-    const MOST_ROADS: u32 = 262_144;
-
     fn assert_listed(network: &OwnedNetwork, points: &[u8], asked: (u32, u32), list: &[u32]) {
         let site = Site::exact(network, points, asked, &mut Random::new(6));
         assert_list(&site, list);
@@ -517,13 +504,9 @@ mod limits {
         }
     }
 
-    fn each(step: u32) -> Vec<u8> {
-        (0..MOST_NODES).map(|p| u8::from(p % step == 0)).collect()
-    }
-
     #[test]
     fn the_middle_of_the_longest_chain() {
-        let network = weighted(MOST_NODES, &chain(MOST_NODES), |_, _| 65_535);
+        let network = longest_chain();
         let q = MOST_NODES / 2;
         assert_listed(&network, &each(1_000), (q, 1), &[32_000, 33_000]);
         assert_listed(
@@ -537,7 +520,7 @@ mod limits {
 
     #[test]
     fn the_ends_of_the_longest_chain() {
-        let network = weighted(MOST_NODES, &chain(MOST_NODES), |_, _| 65_535);
+        let network = longest_chain();
         let none = marks(MOST_NODES, &[]);
         assert_listed(&network, &none, (0, 1), &[]);
         let ends = marks(MOST_NODES, &[0, LAST]);
@@ -552,7 +535,7 @@ mod limits {
     #[test]
     fn a_star_of_the_most_nodes() {
         let centre = 7;
-        let network = weighted(MOST_NODES, &star(MOST_NODES, centre), |_, _| 65_535);
+        let network = largest_star(centre);
         let three = marks(MOST_NODES, &[0, centre, LAST]);
         assert_listed(&network, &three, (LAST, 1), &[centre, LAST]);
         assert_listed(&network, &three, (LAST, 2), &[0, centre, LAST]);
@@ -575,14 +558,14 @@ mod limits {
 
     #[test]
     fn a_grid_of_255_by_257_nodes() {
-        let network = weighted(MOST_NODES, &grid(255, 257), weight_by_product);
+        let network = largest_grid(weight_by_product);
         let asked = [(MOST_NODES / 2, 1), (0, 1), (12_345, 4), (100, 4)];
         assert_relaxed(&network, &each(100), &asked);
     }
 
     #[test]
     fn a_grid_of_255_by_257_nodes_and_equal_weights() {
-        let network = weighted(MOST_NODES, &grid(255, 257), |_, _| 1);
+        let network = largest_grid(|_, _| 1);
         assert_relaxed(&network, &each(100), &[(MOST_NODES / 2, 1), (12_300, 4)]);
     }
 
@@ -600,7 +583,7 @@ mod limits {
 
     #[test]
     fn the_most_arcs() {
-        let network = weighted(MOST_NODES, &belt(MOST_NODES, MOST_ROADS), weight_by_product);
+        let network = most_roads(weight_by_product);
         assert_eq!(network.neighbours.len(), 524_288);
         assert_relaxed(&network, &each(1_000), &[(LAST, 1), (30_000, 2)]);
     }
@@ -608,7 +591,7 @@ mod limits {
     #[test]
     fn scratch_of_one_word_less_is_refused() {
         let mut random = Random::new(8);
-        let network = weighted(MOST_NODES, &belt(MOST_NODES, MOST_ROADS), |_, _| 1);
+        let network = most_roads(|_, _| 1);
         let mut site = Site::exact(&network, &each(1_000), (0, 2), &mut random);
         site.scratch = Lent::junk(site.scratch.len() - 1, &mut random);
         assert_both_refuse(&site, 10);

@@ -10,13 +10,13 @@ use common::call::{compare, Call, Outcome, LEAST_OF_EACH};
 use common::faults::Fault;
 use common::inputs::{enough, no_k, no_node, some_e, some_k, some_node};
 use common::inputs::{some_points, spoil_points, too_short};
+use common::largest::{each, largest_grid, largest_star, longest_chain, LAST, MOST_NODES};
 use common::lent::Lent;
 use common::network::{marks, network_n, OwnedNetwork, N_NODES, N_POINTS};
 use common::numbers::{nearest_number, plain_scratch_len};
 use common::random::Random;
 use common::rows::{nearest_in, relaxed_row, Near, LARGEST_DISTANCE};
-use common::shapes::try_all_small_points;
-use common::shapes::{chain, grid, star, weight_by_product, weighted};
+use common::shapes::{try_all_small_points, weight_by_product};
 use common::tally::Tally;
 use overlap::calls::{nearest, Found, Listing, NONE};
 
@@ -106,14 +106,6 @@ impl Call for Nearest {
         let (network, answers) = (self.network.lend(), [self.ids.len(), self.distances.len()]);
         let scratch = self.scratch.len();
         nearest_number(network, &self.points, self.node, self.k, scratch, answers)
-    }
-
-    fn refusal(number: u32) -> Listing {
-        Listing {
-            number,
-            count: 0,
-            length: 0,
-        }
     }
 
     fn accepted_by(&self, pairs: &AllPairs) -> Outcome<Self> {
@@ -358,8 +350,6 @@ mod exhaustive {
 mod limits {
     use super::*;
 
-    const MOST_NODES: u32 = 65_535;
-    const LAST: u32 = MOST_NODES - 1;
     const FARTHEST: u32 = LARGEST_DISTANCE as u32;
 
     fn assert_found(network: &OwnedNetwork, points: &[u8], asked: Asked, found: &[Near]) {
@@ -370,7 +360,7 @@ mod limits {
 
     #[test]
     fn the_ends_of_the_longest_chain() {
-        let network = weighted(MOST_NODES, &chain(MOST_NODES), |_, _| 65_535);
+        let network = longest_chain();
         let ends = marks(MOST_NODES, &[0, LAST]);
         let far = (LAST, FARTHEST);
         assert_found(&network, &ends, (0, NONE, 2), &[(0, 0), far]);
@@ -389,7 +379,7 @@ mod limits {
 
     #[test]
     fn both_neighbours_in_the_middle_of_the_chain_are_equally_near() {
-        let network = weighted(MOST_NODES, &chain(MOST_NODES), |_, _| 65_535);
+        let network = longest_chain();
         let points = vec![1; MOST_NODES as usize];
         let middle = MOST_NODES / 2;
         let around = [(middle, 0), (middle - 1, 65_535), (middle + 1, 65_535)];
@@ -401,7 +391,7 @@ mod limits {
     #[test]
     fn the_leaves_of_a_star_come_by_node() {
         let centre = 7;
-        let network = weighted(MOST_NODES, &star(MOST_NODES, centre), |_, _| 65_535);
+        let network = largest_star(centre);
         let mut points = vec![1; MOST_NODES as usize];
         points[centre as usize] = 0;
         let leaves = (0..17).filter(|&leaf| leaf != centre);
@@ -431,8 +421,8 @@ mod limits {
 
     #[test]
     fn a_grid_of_255_by_257_nodes() {
-        let network = weighted(MOST_NODES, &grid(255, 257), weight_by_product);
-        let points: Vec<u8> = (0..MOST_NODES).map(|p| u8::from(p % 100 == 0)).collect();
+        let network = largest_grid(weight_by_product);
+        let points = each(100);
         let node = MOST_NODES / 2;
         let row = relaxed_row(network.lend(), node);
         for (e, k) in [(NONE, 1), (NONE, 3), (200, 3), (1, 1), (0, 1)] {

@@ -3,14 +3,12 @@
 mod common;
 
 use common::damage::{damage, Damage, KINDS};
+use common::largest::{longest_chain, most_roads, MOST_NODES, MOST_ROADS};
 use common::network::{network_n, shown, OwnedNetwork};
 use common::plain::plain_check;
 use common::random::Random;
 use common::shapes::{belt, chain, random_network, star, weight_by_product, weighted};
 use overlap::calls::{meaning, network_check, Network};
-
-const MOST_NODES: u32 = 65_535;
-const MOST_ROADS: u32 = 262_144;
 
 fn check(starts: &[u32], neighbours: &[u32], weights: &[u32]) -> u32 {
     network_check(Network {
@@ -433,12 +431,12 @@ mod limits {
     use super::*;
 
     fn most_arcs() -> OwnedNetwork {
-        weighted(MOST_NODES, &belt(MOST_NODES, MOST_ROADS), weight_by_product)
+        most_roads(weight_by_product)
     }
 
     #[test]
     fn a_chain_of_the_most_nodes_and_the_largest_weights_is_accepted() {
-        let network = weighted(MOST_NODES, &chain(MOST_NODES), |_, _| 65_535);
+        let network = longest_chain();
         assert_eq!(network.starts.len(), 65_536);
         assert_eq!(agreed(network.lend()), 0);
     }

@@ -395,6 +395,17 @@ mod engine {
         });
     }
 
+    /// Scratch can be millions of words.
+    #[test]
+    fn is_shown_without_the_words_of_scratch() {
+        let (network, points) = n_and_points();
+        let mut engine = Engine::new(&network);
+        engine.lazy(&points, 0, 16).unwrap();
+        let shown = format!("{engine:?}");
+        let lengths = "Buffers { scratch_len: 2144, answers_len: 6 }";
+        assert!(shown.contains(lengths), "{shown}");
+    }
+
     #[test]
     fn a_clone_answers_alike() {
         let (network, points) = n_and_points();

@@ -5,9 +5,10 @@ mod common;
 #[path = "../benches/plain/mod.rs"]
 mod plain;
 
+use common::largest::{each, largest_grid, MOST_NODES};
 use common::network::marks;
 use common::random::Random;
-use common::shapes::{figure_12, grid, random_network, weight_by_product, weighted};
+use common::shapes::{figure_12, random_network, weight_by_product};
 use common::site::{SearchCall, Site, EAGER};
 use overlap::calls::{lazy, lazy_ep, Listing};
 
@@ -74,10 +75,8 @@ fn lazy_ep_stops_in_figure_12_where_lazy_goes_on() {
 /// On a large grid with many points, which lazy settles nearly all of where k is above 1.
 #[test]
 fn lazy_ep_settles_a_small_part_of_a_grid() {
-    let n = 65_535;
-    let network = weighted(n, &grid(255, 257), weight_by_product);
-    let points: Vec<u8> = (0..n).map(|p| u8::from(p % 100 == 0)).collect();
-    let site = Site::exact(&network, &points, (n / 2, 4), &mut Random::new(2));
+    let (network, points) = (largest_grid(weight_by_product), each(100));
+    let site = Site::exact(&network, &points, (MOST_NODES / 2, 4), &mut Random::new(2));
     assert_same(&site);
     let by_lazy = settled(plain::lazy_and_settled, &site);
     let by_lazy_ep = settled(plain::lazy_ep_and_settled, &site);

@@ -8,10 +8,11 @@ use common::call::{assert_refused, compare, Call, LEAST_OF_EACH};
 use common::change::{assert_change, assert_damaged_tables, assert_small_networks};
 use common::change::{Change, ChangeCall, Kind};
 use common::change_cases::{assert_changes, assert_one_by_one, assert_own_conditions};
-use common::change_cases::{assert_scratch_of_n, call_on_n, each, MOST_NODES};
+use common::change_cases::{assert_scratch_of_n, call_on_n};
+use common::largest::{each, largest_grid, largest_star, longest_chain, LAST, MOST_NODES};
 use common::network::{marks, N_POINTS};
 use common::random::Random;
-use common::shapes::{chain, grid, random_network, ring, star, weight_by_product, weighted};
+use common::shapes::{chain, random_network, ring, weight_by_product, weighted};
 use common::table::PlainTable;
 use overlap::calls::{insert, remove, NONE};
 
@@ -178,11 +179,9 @@ mod damaged_tables {
 mod limits {
     use super::*;
 
-    const LAST: u32 = MOST_NODES - 1;
-
     #[test]
     fn the_longest_chain() {
-        let network = weighted(MOST_NODES, &chain(MOST_NODES), |_, _| 65_535);
+        let network = longest_chain();
         let four = marks(MOST_NODES, &[0, 1, LAST / 2, LAST]);
         assert_changes::<Removal>(&network, &four, &[LAST / 2, 1, LAST, 0], 2);
         assert_changes::<Removal>(&network, &each(1_000), &[0, 30_000], 17);
@@ -190,14 +189,14 @@ mod limits {
 
     #[test]
     fn a_star_of_the_most_nodes() {
-        let network = weighted(MOST_NODES, &star(MOST_NODES, 7), |_, _| 65_535);
+        let network = largest_star(7);
         let four = marks(MOST_NODES, &[LAST, 7, 0, 1]);
         assert_changes::<Removal>(&network, &four, &[0, 7, 1, LAST], 2);
     }
 
     #[test]
     fn a_grid_of_255_by_257_nodes() {
-        let network = weighted(MOST_NODES, &grid(255, 257), weight_by_product);
+        let network = largest_grid(weight_by_product);
         assert_changes::<Removal>(&network, &each(100), &[0, 32_700, 65_500], 2);
         assert_changes::<Removal>(&network, &each(1_000), &[30_000], 17);
     }

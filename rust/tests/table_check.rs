@@ -7,12 +7,12 @@ use common::call::{assert_lower_numbers_first, assert_outcome, assert_random_cal
 use common::call::{assert_refused, compare, Call, Outcome, LEAST_OF_EACH};
 use common::faults::Fault;
 use common::inputs::{some_node, some_places, some_points, spoil_points};
+use common::largest::{each, largest_grid, longest_chain};
 use common::lent::Lent;
 use common::network::{marks, network_n, OwnedNetwork, N_NODES, N_POINTS};
 use common::numbers::table_check_number;
 use common::random::Random;
-use common::shapes::{chain, grid, random_network, try_all_small_points};
-use common::shapes::{weight_by_product, weighted};
+use common::shapes::{random_network, try_all_small_points, weight_by_product};
 use common::table::{OwnedTable, PlainTable};
 use common::table_damage::{damage, KINDS};
 use common::tally::Tally;
@@ -84,10 +84,6 @@ impl Call for TableCheck {
 
     fn number(&self) -> u32 {
         table_check_number(self.network.lend(), &self.points, self.table.sizes())
-    }
-
-    fn refusal(number: u32) -> Verdict {
-        Verdict { number, yes: 0 }
     }
 
     fn accepted_by(&self, pairs: &AllPairs) -> Outcome<Self> {
@@ -374,11 +370,9 @@ mod near_tables {
 mod limits {
     use super::*;
 
-    const MOST_NODES: u32 = 65_535;
-
     /// The table is right, and with its last word or one in the middle changed it is not.
     fn assert_checked(network: &OwnedNetwork, step: u32, places: u32) {
-        let points: Vec<u8> = (0..MOST_NODES).map(|p| u8::from(p % step == 0)).collect();
+        let points = each(step);
         let mut table = PlainTable::of_large(network, &points, places);
         let verdict = |t: &PlainTable| table_check(network.lend(), &points, t.lend());
         assert_eq!(verdict(&table).accepted(), Ok(true));
@@ -395,14 +389,14 @@ mod limits {
 
     #[test]
     fn the_longest_chain() {
-        let network = weighted(MOST_NODES, &chain(MOST_NODES), |_, _| 65_535);
+        let network = longest_chain();
         assert_checked(&network, 65_534, 2);
         assert_checked(&network, 1_000, 17);
     }
 
     #[test]
     fn a_grid_of_255_by_257_nodes() {
-        let network = weighted(MOST_NODES, &grid(255, 257), weight_by_product);
+        let network = largest_grid(weight_by_product);
         assert_checked(&network, 100, 2);
         assert_checked(&network, 100, 17);
     }

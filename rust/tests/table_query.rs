@@ -7,14 +7,14 @@ use common::call::{assert_lower_numbers_first, assert_outcome, assert_random_cal
 use common::call::{assert_refused, compare, Call, Outcome, LEAST_OF_EACH};
 use common::faults::Fault;
 use common::inputs::{no_k, no_node, some_node, some_places, some_points, spoil_points};
+use common::largest::{each, largest_grid, largest_star, longest_chain, LAST, MOST_NODES};
 use common::lent::Lent;
 use common::nearest_rows::NearestRows;
 use common::network::{marks, network_n, OwnedNetwork, N_NODES, N_POINTS};
 use common::numbers::table_query_number;
 use common::random::Random;
 use common::rows::relaxed_row;
-use common::shapes::{chain, grid, random_network, star, try_all_small_points};
-use common::shapes::{weight_by_product, weighted};
+use common::shapes::{grid, random_network, try_all_small_points, weight_by_product, weighted};
 use common::site::{Site, EAGER};
 use common::table::{OwnedTable, PlainTable};
 use common::table_damage::damage;
@@ -36,16 +36,9 @@ impl Query {
 
     /// "Table query (eager-M): the list". There is no count.
     fn accepted(&self, list: &[u32]) -> Outcome<Self> {
-        let listing = Listing {
-            number: 0,
-            count: 0,
-            length: list.len(),
-        };
-        let left = Self {
-            site: self.site.left(list),
-            table: self.table.clone(),
-        };
-        (listing, left)
+        let (listing, site) = self.site.accepted(list, 0);
+        let table = self.table.clone();
+        (listing, Self { site, table })
     }
 }
 
@@ -89,14 +82,6 @@ impl Call for Query {
         let lengths = (site.scratch.len(), site.answers.len());
         let (asked, sizes) = ((site.q, site.k), self.table.sizes());
         table_query_number(site.network.lend(), &site.points, asked, sizes, lengths)
-    }
-
-    fn refusal(number: u32) -> Listing {
-        Listing {
-            number,
-            count: 0,
-            length: 0,
-        }
     }
 
     fn accepted_by(&self, pairs: &AllPairs) -> Outcome<Self> {
@@ -404,9 +389,6 @@ mod damaged_tables {
 mod limits {
     use super::*;
 
-    const MOST_NODES: u32 = 65_535;
-    const LAST: u32 = MOST_NODES - 1;
-
     /// Sees that the list for each q is what the nearest points of each node say.
     fn assert_lists(network: &OwnedNetwork, points: &[u8], sites: &[u32], k: u32) {
         let mut random = Random::new(6);
@@ -422,13 +404,9 @@ mod limits {
         }
     }
 
-    fn each(step: u32) -> Vec<u8> {
-        (0..MOST_NODES).map(|p| u8::from(p % step == 0)).collect()
-    }
-
     #[test]
     fn the_longest_chain() {
-        let network = weighted(MOST_NODES, &chain(MOST_NODES), |_, _| 65_535);
+        let network = longest_chain();
         let ends = marks(MOST_NODES, &[0, LAST]);
         assert_lists(&network, &ends, &[0, LAST, LAST / 2], 1);
         assert_lists(&network, &each(1_000), &[0, LAST / 2, LAST], 16);
@@ -436,14 +414,14 @@ mod limits {
 
     #[test]
     fn a_star_of_the_most_nodes() {
-        let network = weighted(MOST_NODES, &star(MOST_NODES, 7), |_, _| 65_535);
+        let network = largest_star(7);
         let three = marks(MOST_NODES, &[0, 7, LAST]);
         assert_lists(&network, &three, &[1, 7, LAST], 2);
     }
 
     #[test]
     fn a_grid_of_255_by_257_nodes() {
-        let network = weighted(MOST_NODES, &grid(255, 257), weight_by_product);
+        let network = largest_grid(weight_by_product);
         assert_lists(&network, &each(100), &[0, 12_345, MOST_NODES / 2], 1);
         assert_lists(&network, &each(100), &[100, LAST], 16);
     }

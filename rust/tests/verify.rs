@@ -10,13 +10,13 @@ use common::call::{compare, Call, Outcome, LEAST_OF_EACH};
 use common::faults::Fault;
 use common::inputs::{enough, no_k, no_node, some_k, some_node};
 use common::inputs::{some_points, spoil_points};
+use common::largest::{each, largest_grid, largest_star, longest_chain, LAST, MOST_NODES};
 use common::lent::Lent;
 use common::network::{marks, network_n, OwnedNetwork, N_NODES, N_POINTS};
 use common::numbers::{plain_scratch_len, verify_number};
 use common::random::Random;
 use common::rows::{relaxed_row, verify_in};
-use common::shapes::try_all_small_points;
-use common::shapes::{chain, far_grid, grid, star, weight_by_product, weighted};
+use common::shapes::{far_grid, try_all_small_points, weight_by_product};
 use common::tally::Tally;
 use overlap::calls::{verify, Verdict};
 
@@ -98,10 +98,6 @@ impl Call for Verify {
     fn number(&self) -> u32 {
         let (network, scratch) = (self.network.lend(), self.scratch.len());
         verify_number(network, &self.points, self.p, self.q, self.k, scratch)
-    }
-
-    fn refusal(number: u32) -> Verdict {
-        Verdict { number, yes: 0 }
     }
 
     fn accepted_by(&self, pairs: &AllPairs) -> Outcome<Self> {
@@ -338,9 +334,6 @@ mod exhaustive {
 mod limits {
     use super::*;
 
-    const MOST_NODES: u32 = 65_535;
-    const LAST: u32 = MOST_NODES - 1;
-
     fn assert_verdict(network: &OwnedNetwork, points: &[u8], asked: Asked, yes: bool) {
         let call = Verify::exact(network, points, asked, &mut Random::new(6));
         let outcome = call.accepted(yes);
@@ -349,7 +342,7 @@ mod limits {
 
     #[test]
     fn the_ends_of_the_longest_chain() {
-        let network = weighted(MOST_NODES, &chain(MOST_NODES), |_, _| 65_535);
+        let network = longest_chain();
         let alone = marks(MOST_NODES, &[0]);
         assert_verdict(&network, &alone, (0, LAST, 1), true);
         let ends = marks(MOST_NODES, &[0, LAST]);
@@ -365,7 +358,7 @@ mod limits {
     #[test]
     fn a_star_of_the_most_nodes() {
         let centre = MOST_NODES / 2;
-        let network = weighted(MOST_NODES, &star(MOST_NODES, centre), |_, _| 65_535);
+        let network = largest_star(centre);
         let mut points = vec![1; MOST_NODES as usize];
         assert_verdict(&network, &points, (LAST, 0, 1), false);
         assert_verdict(&network, &points, (LAST, 0, 2), true);
@@ -417,8 +410,8 @@ mod limits {
 
     #[test]
     fn a_grid_of_255_by_257_nodes() {
-        let network = weighted(MOST_NODES, &grid(255, 257), weight_by_product);
-        let points: Vec<u8> = (0..MOST_NODES).map(|p| u8::from(p % 100 == 0)).collect();
+        let network = largest_grid(weight_by_product);
+        let points = each(100);
         let p = 32_700;
         let row = relaxed_row(network.lend(), p);
         let mut verdicts = [0, 0];

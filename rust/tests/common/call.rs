@@ -13,11 +13,46 @@ use super::numbers::plain_scratch_len;
 use super::random::Random;
 use super::shapes::random_network;
 use super::tally::Tally;
+use overlap::calls::{Listing, Update, Verdict};
+
+/// What a call returns: its number alone, or one of the structs of `overlap.h`.
+pub trait Answer: PartialEq + Debug {
+    /// "A refusal returns its number, count 0 and no".
+    fn refusal(number: u32) -> Self;
+}
+
+impl Answer for u32 {
+    fn refusal(number: u32) -> Self {
+        number
+    }
+}
+
+impl Answer for Listing {
+    fn refusal(number: u32) -> Self {
+        Self {
+            number,
+            count: 0,
+            length: 0,
+        }
+    }
+}
+
+impl Answer for Verdict {
+    fn refusal(number: u32) -> Self {
+        Self { number, yes: 0 }
+    }
+}
+
+impl Answer for Update {
+    fn refusal(number: u32) -> Self {
+        Self { number, changed: 0 }
+    }
+}
 
 /// Everything that a call is lent, and what document 01 says of it.
 pub trait Call: Clone + 'static {
     /// What the call returns.
-    type Answer: PartialEq + Debug;
+    type Answer: Answer;
 
     /// Faults of each condition that the call tests beyond those of the network and of scratch.
     const OWN_FAULTS: &'static [(u32, Fault<Self>)];
@@ -33,9 +68,6 @@ pub trait Call: Clone + 'static {
 
     /// The number by document 01.
     fn number(&self) -> u32;
-
-    /// "A refusal returns its number, count 0 and no".
-    fn refusal(number: u32) -> Self::Answer;
 
     /// The outcome of a call that is accepted, by all distances of its network.
     fn accepted_by(&self, pairs: &AllPairs) -> Outcome<Self>;
@@ -68,7 +100,7 @@ pub trait Call: Clone + 'static {
 
     /// "A refusal returns its number, count 0 and no, and changes no buffer".
     fn refused(&self, number: u32) -> Outcome<Self> {
-        (Self::refusal(number), self.clone())
+        (Answer::refusal(number), self.clone())
     }
 
     /// The inputs, for the message of a failed test.

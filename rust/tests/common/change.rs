@@ -114,10 +114,6 @@ impl<K: Kind> Call for Change<K> {
         change_number(network, &self.points, node, self.table.sizes(), scratch)
     }
 
-    fn refusal(number: u32) -> Update {
-        Update { number, changed: 0 }
-    }
-
     /// The lent table is the one of the points.
     fn accepted_by(&self, pairs: &AllPairs) -> Outcome<Self> {
         let places = self.table.places;

@@ -1,5 +1,5 @@
 //! What the tests of insert and of remove share: calls on network N, lists of calls behind each other,
-//! and networks at document 01's bounds.
+//! and calls on networks too large for all pairs.
 
 use super::all_pairs::AllPairs;
 use super::call::{assert_outcome, assert_refused, compare};
@@ -11,8 +11,6 @@ use super::random::Random;
 use super::shapes::random_network;
 use super::table::{OwnedTable, PlainTable};
 use overlap::calls::table_check;
-
-pub const MOST_NODES: u32 = 65_535;
 
 /// A call on network N with these points.
 pub fn call_on_n<K: Kind>(points: &[u32], node: u32, places: u32) -> Change<K> {
@@ -110,9 +108,4 @@ pub fn assert_changes<K: Kind>(network: &OwnedNetwork, points: &[u8], nodes: &[u
         let outcome = call.accepted(&table);
         assert_outcome(call, &outcome);
     }
-}
-
-/// A point on each multiple of the step, of the most nodes.
-pub fn each(step: u32) -> Vec<u8> {
-    (0..MOST_NODES).map(|p| u8::from(p % step == 0)).collect()
 }

@@ -12,6 +12,7 @@ pub mod change_cases;
 pub mod damage;
 pub mod faults;
 pub mod inputs;
+pub mod largest;
 pub mod lent;
 pub mod nearest_rows;
 pub mod network;

@@ -66,13 +66,19 @@ impl Site {
         call(network, points, self.q, self.k, scratch, answers)
     }
 
-    /// What an accepted call leaves: "An accepted call with scratch leaves it all zero. Answer
+    /// What an accepted call returns and leaves: "An accepted call returns number 0; a listing [...]
+    /// call also the length of its list." "An accepted call with scratch leaves it all zero. Answer
     /// arrays hold the answer, then their old entries."
-    pub fn left(&self, list: &[u32]) -> Self {
+    pub fn accepted(&self, list: &[u32], count: u32) -> (Listing, Self) {
+        let listing = Listing {
+            number: 0,
+            count,
+            length: list.len(),
+        };
         let mut left = self.clone();
         left.scratch = left.scratch.cleared();
         left.answers = left.answers.with_answer(list);
-        left
+        (listing, left)
     }
 
     /// The first condition met of 1 to 7, 9 and 10, or 0.

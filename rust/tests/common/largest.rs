@@ -1,0 +1,36 @@
+//! Networks at document 01's bounds, and points on them.
+
+use super::network::OwnedNetwork;
+use super::shapes::{belt, chain, grid, star, weighted};
+
+/// "n is 1 to 65,535".
+pub const MOST_NODES: u32 = 65_535;
+/// "A at most 524,288", and "Each road is two arcs".
+pub const MOST_ROADS: u32 = 262_144;
+/// The last of the most nodes.
+pub const LAST: u32 = MOST_NODES - 1;
+
+/// A chain of the most nodes and the heaviest roads.
+pub fn longest_chain() -> OwnedNetwork {
+    weighted(MOST_NODES, &chain(MOST_NODES), |_, _| 65_535)
+}
+
+/// A star of the most nodes and the heaviest roads.
+pub fn largest_star(centre: u32) -> OwnedNetwork {
+    weighted(MOST_NODES, &star(MOST_NODES, centre), |_, _| 65_535)
+}
+
+/// A grid of the most nodes, 255 × 257.
+pub fn largest_grid(weight: impl FnMut(u32, u32) -> u32) -> OwnedNetwork {
+    weighted(MOST_NODES, &grid(255, 257), weight)
+}
+
+/// The most nodes and the most roads.
+pub fn most_roads(weight: impl FnMut(u32, u32) -> u32) -> OwnedNetwork {
+    weighted(MOST_NODES, &belt(MOST_NODES, MOST_ROADS), weight)
+}
+
+/// A point on each multiple of the step, of the most nodes.
+pub fn each(step: u32) -> Vec<u8> {
+    (0..MOST_NODES).map(|p| u8::from(p % step == 0)).collect()
+}
