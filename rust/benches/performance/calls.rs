@@ -7,6 +7,7 @@ use super::plain;
 use overlap::calls::{Found, Listing, Network, Table, TableMut, Verdict, NONE};
 
 /// The functions of the engine, or their twins in plain Rust.
+#[allow(clippy::type_complexity)] // each type is used once, and a field reads as its function does
 pub struct Functions {
     network_check: fn(Network<'_>) -> u32,
     distances: fn(Network<'_>, u32, &mut [u32], &mut [u32]) -> u32,

@@ -254,7 +254,7 @@ pub fn number(value: usize) -> String {
     let places = digits.len();
     let mut with_commas = String::new();
     for (place, digit) in digits.chars().enumerate() {
-        if place > 0 && (places - place) % 3 == 0 {
+        if place > 0 && (places - place).is_multiple_of(3) {
             with_commas.push(',');
         }
         with_commas.push(digit);
