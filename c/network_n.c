@@ -6,6 +6,37 @@
  *     target/network_n
  *
  * The gate compares the output with network_n.expected, which is worked out from document 01.
+ *
+ * What a caller lends, by the names of overlap.h. n is the number of nodes, A that of arcs; a road is two arcs, one from each end:
+ *
+ *     starts                n + 1 words; the arcs of node i are those from starts[i] up to, not including, starts[i + 1]
+ *     neighbours, weights   A words each: the node that the arc leads to, ascending within a node, and its weight, 1 to 65,535
+ *     points                n bytes: 1 is a point, 0 none
+ *     scratch               SCRATCH_LEN (below) words or more, of any contents; a call that is accepted leaves them all 0
+ *     answers               n words or more; the list stands in the first `length`, distances fill n
+ *     ids, distances        of nearest k words each or more; of a table n x K words each, row i from i x K on, and `places` is K
+ *
+ * The library allocates nothing and keeps nothing between calls. A pointer is valid for its length, and not null where that is 0. An array
+ * that is not const is lent to one call alone and overlaps no other array of it. What the arrays hold is tested by the call. From C++,
+ * include overlap.h inside extern "C" { }.
+ *
+ * A call returns number 0, or the first of these that is met, and then changes no array (12 alone clears the scratch):
+ *
+ *      1  starts has fewer than 2 or more than 65,536 entries
+ *      2  starts doesn't begin with 0, falls, or doesn't end with A; neighbours and weights differ in length; A above 524,288
+ *      3  a neighbour is n or more, is its own node, or doesn't rise strictly within a node
+ *      4  a weight is 0 or above 65,535
+ *      5  an arc lacks its return of equal weight
+ *      6  points has not n entries, or a byte above 1
+ *      7  a node given is n or more
+ *      8  K not 2 to 17, or a table array not n x K long
+ *      9  k is 0 or above 16; by table, above K - 1
+ *     10  scratch shorter than SCRATCH_LEN, or an array for answers shorter than n (nearest: than k)
+ *     11  insert on a marked node; remove or verify of an unmarked one
+ *     12  eager: the expanded count would exceed the limit
+ *
+ * Insert, remove and table query don't test the table that they are lent: lend one that build has written and insert and remove have
+ * changed, with the same points, or ask the table check first.
  */
 #include "overlap.h"
 
@@ -15,7 +46,8 @@
 /* N has 6 nodes and 10 arcs; this program uses k = 1 and 2, K = 2 and 3. */
 enum { NODES = 6, ARCS = 10, MOST_PLACES = 3 };
 
-/* Document 01: "Length S = 16 x n + 8 x (A + n) x m entries". */
+/* Document 01: "Length S = 16 x n + 8 x (A + n) x m entries; m is the k of a search, verify or nearest call (1 for the short query), K for
+ * build, insert and remove, and 1 for distances." "Both checks have no scratch." */
 #define SCRATCH_LEN(n, arcs, m) (16 * (n) + 8 * ((arcs) + (n)) * (m))
 
 /* The three arrays of a network with their lengths. */
@@ -28,7 +60,7 @@ typedef struct {
     size_t weights_len;
 } network;
 
-/* The parameters of overlap.h in a call: a network, an array, a table. */
+/* The arguments of a call: a network, an array with its length, the scratch. */
 #define LEND_NETWORK(g) (g).starts, (g).starts_len, (g).neighbours, (g).neighbours_len, (g).weights, (g).weights_len
 #define LEND(array) (array), sizeof(array) / sizeof *(array)
 #define LEND_SCRATCH LEND(scratch)
