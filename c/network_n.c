@@ -20,7 +20,7 @@
  * that is not const is lent to one call alone and overlaps no other array of it. What the arrays hold is tested by the call. From C++,
  * include overlap.h inside extern "C" { }.
  *
- * A call returns number 0, or the first of these that is met, and then changes no array (12 alone clears the scratch):
+ * A call returns number 0, or the first met of these, as far as it has their subject, and then changes no array (12 alone clears the scratch):
  *
  *      1  starts has fewer than 2 or more than 65,536 entries
  *      2  starts doesn't begin with 0, falls, or doesn't end with A; neighbours and weights differ in length; A above 524,288
