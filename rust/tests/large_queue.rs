@@ -4,6 +4,7 @@
 
 mod common;
 
+use common::largest::{each, LAST, MOST_NODES};
 use common::lent::Lent;
 use common::network::OwnedNetwork;
 use common::numbers::plain_scratch_len;
@@ -13,7 +14,6 @@ use common::shapes::{random_pairs, star, weighted, Pair};
 use common::table::PlainTable;
 use overlap::calls::{distances, nearest, Found, NONE};
 
-const MOST_NODES: u32 = 65_535;
 const CENTRE: u32 = 40_000;
 
 /// A star of the most nodes with long roads, all of whose ends wait once its centre is settled, and
@@ -32,15 +32,11 @@ fn wide(random: &mut Random) -> OwnedNetwork {
     })
 }
 
-fn third_nodes() -> Vec<u8> {
-    (0..MOST_NODES).map(|p| u8::from(p % 3 == 0)).collect()
-}
-
 #[test]
 fn distances_from_the_centre_and_from_an_end() {
     let mut random = Random::new(1);
     let network = wide(&mut random);
-    for node in [CENTRE, 0, MOST_NODES - 1] {
+    for node in [CENTRE, 0, LAST] {
         let mut scratch = Lent::junk(plain_scratch_len(network.lend(), 1), &mut random);
         let mut answers = Lent::junk(MOST_NODES as usize, &mut random);
         let (cleared, row) = (scratch.clone().cleared(), relaxed_row(network.lend(), node));
@@ -56,7 +52,7 @@ fn distances_from_the_centre_and_from_an_end() {
 #[test]
 fn the_nearest_points_of_the_centre() {
     let mut random = Random::new(2);
-    let points = third_nodes();
+    let points = each(3);
     for heaviest in [20, 3_000, 65_535] {
         let pairs = star(MOST_NODES, CENTRE);
         let network = weighted(MOST_NODES, &pairs, |_, _| random.between(1, heaviest));
@@ -82,7 +78,7 @@ fn the_nearest_points_of_the_centre() {
 fn the_table_of_a_wide_network() {
     let mut random = Random::new(3);
     let network = wide(&mut random);
-    let points = third_nodes();
+    let points = each(3);
     for places in [2, 5] {
         let table = PlainTable::built(&network, &points, places, &mut random);
         let expected = PlainTable::of_large(&network, &points, places);
