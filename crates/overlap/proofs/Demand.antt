@@ -10,7 +10,7 @@ use native.Mathlib.Decide.{ℕ-discrete, decLt}
 use native.Mathlib.Nat.{mul-le-mul-left}
 use native.Mathlib.Omega.{arith}
 use lib.Dec.{eqb, leb, ltb}
-use lib.ListN.{length, getD, set, length-set}
+use lib.ListN.{length, getD, set, length-set, replicate}
 use lib.Seq.{getD-set-same, getD-set-other}
 use borrow.Author.Tests.{eq-eqb, ne-eqb, lt-leb, le-ltb, ltb-false}
 use Rattle.network.specs.Count.{any}
@@ -21,20 +21,21 @@ use Rattle.network.specs.Rows.{rowsChanged}
 use Rattle.network.specs.Answers.{answered}
 use Rattle.network.proofs.Tests.{or-parts, any-none, none-any}
 use Rattle.network.proofs.NumberZero.{number-zero}
-use Rattle.rows.specs.Flat.{IsTable}
+use Rattle.rows.specs.Flat.{Sized, IsTable}
 use Rattle.rows.proofs.Laid.{table-sizes}
+use Rattle.searches.proofs.Expanded.{expanded-most}
 use Rattle.overlap.specs.declared.Update.{Update}
 use Rattle.overlap.specs.declared.Listing.{Listing}
 use Rattle.overlap.specs.declared.updated.Kind.{Kind}
 use Rattle.overlap.specs.declared.updated.Kind.the-variants.{Insert, Remove}
 use Rattle.overlap.specs.Numbers.{firstNumber, badByteAt, pointsNumber, nodeNumber, kNumber, tableNumber, tableKNumber, scratchWords, shortNumber, networkPointsNumber, siteNumber, queryNumber, tableCheckNumber, tableNodeNumber, buildNumber, tableQueryNumber}
 use Rattle.overlap.specs.Listed.{searchNumber}
-use Rattle.overlap.specs.Build.{buildOutcome}
+use Rattle.overlap.specs.Build.{BuildOutcome, buildOutcome}
 use Rattle.overlap.specs.Updated.{kindMarks, kindNumber, changeNumber, Arrays, ChangeLeft}
 use Rattle.overlap.specs.Book.{Call, bookNumber, bookCall, bookAnswers, bookMarks}
 use Rattle.overlap.specs.Demand.{OursAfter, Run, ends, call, foreign, Agree, demand-3}
 use Rattle.overlap.proofs.Ready.{first-is, first-later, first-none, first-zero, number-none, points-ready, node-ready, table-ready}
-use Rattle.overlap.proofs.Outcomes.{eager-done, lazy-done}
+use Rattle.overlap.proofs.Outcomes.{eager-done, lazy-done, build-done}
 
 -- a number of 0 is passed over; the first number of several stands for them
 first-skip : (x : ℕ) (xs : List ℕ) → x ≡ 0 → firstNumber (x ∷ xs) ≡ firstNumber xs
@@ -196,7 +197,7 @@ module _ (g : Network) (net : networkNumber g ≡ 0) (K : ℕ) where
       record { answers = rw (← a) (f .answers); marks = rw (← a) (f .marks); standing = f .standing }
 
   -- the searches that are lent what the list left
-  module _ {P ids distances : List ℕ} (s : Standing g K P ids distances) (most : K ≤ 17) (q k : ℕ) (site : q < nodeCount g) (some : 1 ≤ k) (few : k < K)
+  module _ {P ids distances : List ℕ} (s : Standing g K P ids distances) (most : K ≤ 17) (q k : ℕ) (site : q < nodeCount g) (some : 1 ≤ k) (few : k ≤ 16)
       (scratch old : List ℕ) (room : scratchWords g k ≤ length scratch) (places : nodeCount g ≤ length old) where
     node-zero : nodeNumber (nodeCount g) q ≡ 0
     unfolding nodeNumber
@@ -206,9 +207,9 @@ module _ (g : Network) (net : networkNumber g ≡ 0) (K : ℕ) where
     unfolding kNumber
     k-zero = rw (ne-eqb k 0 (omega arith), le-ltb 16 k (omega arith))
 
-    table-k-zero : tableKNumber k K ≡ 0
+    table-k-zero : k < K → tableKNumber k K ≡ 0
     unfolding tableKNumber
-    table-k-zero = rw (ne-eqb k 0 (omega arith), lt-leb K k few)
+    table-k-zero fewer = rw (ne-eqb k 0 (omega arith), lt-leb K k fewer)
 
     table-zero : 2 ≤ K → tableNumber (nodeCount g) K (length ids) (length distances) ≡ 0
     unfolding tableNumber
@@ -235,12 +236,12 @@ module _ (g : Network) (net : networkNumber g ≡ 0) (K : ℕ) where
         (first-skip (siteNumber g P q) _ site-zero ∙ first-skip (kNumber k) _ k-zero ∙ first-skip (shortNumber (length scratch) (scratchWords g k)) [] scratch-zero ∙ sym first-none)
         ∙ first-skip (shortNumber (length old) (nodeCount g)) [] answers-zero ∙ sym first-none
 
-    query-zero : 2 ≤ K → tableQueryNumber g P q k K ids distances scratch old ≡ 0
+    query-zero : 2 ≤ K → k < K → tableQueryNumber g P q k K ids distances scratch old ≡ 0
     unfolding tableQueryNumber tableNodeNumber
-    query-zero least =
+    query-zero least fewer =
         first-skip (tableNodeNumber g P q K ids distances) _
         (first-skip (siteNumber g P q) _ site-zero ∙ first-skip (tableNumber (nodeCount g) K (length ids) (length distances)) [] (table-zero least) ∙ sym first-none)
-        ∙ first-skip (tableKNumber k K) _ table-k-zero ∙ first-skip (shortNumber (length scratch) (scratchWords g k)) _ scratch-zero
+        ∙ first-skip (tableKNumber k K) _ (table-k-zero fewer) ∙ first-skip (shortNumber (length scratch) (scratchWords g k)) _ scratch-zero
         ∙ first-skip (shortNumber (length old) (nodeCount g)) [] answers-zero ∙ sym first-none
 
     agreed : 2 ≤ K → (scratch′ new : List ℕ) (r : Listing) → Agree g P K ids distances q k scratch old scratch′ new r
@@ -265,10 +266,27 @@ module _ (g : Network) (net : networkNumber g ≡ 0) (K : ℕ) where
                 answers = x .answers-left;
               };
           by-table =
-              λ h.
-              let d = h .accepted (query-zero least) in
+              λ fewer h.
+              let d = h .accepted (query-zero least fewer) in
               record { number = d .number; sized = d .sized (s .table); answers = d .answers (s .table) };
         }
+
+  -- build, lent what the list left
+  built-zero : {P ids distances : List ℕ} → Standing g K P ids distances → 2 ≤ K → K ≤ 17 → (scratch a b : List ℕ) → scratchWords g K ≤ length scratch
+      → Sized g K a b → buildNumber g P K scratch a b ≡ 0
+  unfolding buildNumber tableCheckNumber tableNumber shortNumber
+  built-zero {P} s least most scratch a b room z =
+      first-skip (tableCheckNumber g P K a b) _
+      (first-skip (networkPointsNumber g P) _ (points-zero s)
+      ∙ first-skip (tableNumber (nodeCount g) K (length a) (length b)) []
+      (rw (le-ltb K 2 least, le-ltb 17 K most, eq-eqb (length a) (nodeCount g * K) (z .all-ids), eq-eqb (length b) (nodeCount g * K) (z .all-dists)))
+      ∙ sym first-none)
+      ∙ first-skip (shortNumber (length scratch) (scratchWords g K)) [] (rw (le-ltb (length scratch) (scratchWords g K) room)) ∙ sym first-none
+
+  rebuilt : {P ids distances : List ℕ} → Standing g K P ids distances → 2 ≤ K → K ≤ 17 → (scratch a b : List ℕ) → scratchWords g K ≤ length scratch
+      → Sized g K a b
+      → _≡_ {A = BuildOutcome} (buildOutcome g P K scratch a b) (record { number = 0; scratch = replicate (length scratch) 0; ids = ids; distances = distances })
+  rebuilt {P} s least most scratch a b room z = sym (build-done g P K scratch a b (built-zero s least most scratch a b room z) refl (s .table))
 
 -- what an accepted build leaves
 built : (g : Network) (P : List ℕ) (K : ℕ) (scratch ids distances : List ℕ) → buildNumber g P K scratch ids distances ≡ 0
@@ -293,4 +311,8 @@ demand g P₀ K scratch ids distances e calls answers P ids′ distances′ run 
       table-ids = f .standing .table .same-ids;
       table-distances = f .standing .table .same-dists;
       agree = λ q k site some few s old s′ new r room places. agreed g (b .0) K (f .standing) (t .1) q k site some few s old room places (t .0) s′ new r;
+      short =
+          λ q site s old s′ new r room places.
+          agreed g (b .0) K (f .standing) (t .1) q 1 site (omega arith) (omega arith) s old room places (t .0) s′ new r .eager 65535 (expanded-most (number-zero g .0 (b .0)) P q 1);
+      afresh = rebuilt g (b .0) K (f .standing) (t .0) (t .1);
     }

@@ -34,7 +34,7 @@ mod table_query;
 mod updated;
 mod verify;
 
-// Number 0 and the length of a list; the count is 0 but for eager.
+// Number 0 and the length of a list; the count is 0 but for eager and the short query, which is eager.
 #[repr(C)]
 pub struct Listing {
     pub number: u32,

@@ -23,7 +23,7 @@
 pub struct Listing {
     /// 0, or the number of the refusal.
     pub number: u32,
-    /// The nodes that eager expanded; 0 for the other calls and on a refusal.
+    /// The nodes that eager expanded, also as the short query; 0 for the other calls and on a refusal.
     pub count: u32,
     /// The length of the list; 0 on a refusal.
     pub length: usize,
