@@ -3,31 +3,14 @@
 ghost use mathlib.Core.Path.{_≡_};
 ghost use Prim.Native.Nat.{_+_, _≤_, _<_};
 ghost use lib.ListN.{length};
-ghost use lib.Dec.{ltb};
 ghost use Rattle.network.specs.Network.{network, nodeCount};
-ghost use Rattle.network.specs.Nearest.{key};
 ghost use Rattle.rows.specs.Check.{holds, hasWithin, endsBy, isPlaced, standsAmong, follows, badPlace, badRow, HasRows, comesFrom, comesOver, isOwn, isSupported, unsupported, lacksOwn, asksFor, asks, asksFrom, unclosed, badNode, isTable, CanRead, CanCheck};
+use crate::order::long;
+use crate::order::precedes;
 use crate::rows;
 use network::arcs;
 use network::arcs::wide;
 use network::distance::Distance;
-
-// A distance in 64 bits, where a sum of two fits.
-fn long(x: u32) -> u64
-    ensures { λ r. ⌜ r ≡ x ⌝ }
-{
-    x as u64
-}
-
-// Whether p at distance d comes before q at distance e.
-fn precedes(p: u32, d: u64, q: u32, e: u64) -> bool
-    ensures { λ r. ⌜ r ≡ ltb (key (p, d)) (key (q, e)) ⌝ }
-{
-    if d == e {
-        return p < q;
-    }
-    d < e
-}
 
 // Whether a row holds p at distance d.
 fn holds(ids: &[u32], distances: &[u32], p: u32, d: u32) -> bool

@@ -1,30 +1,21 @@
 // One point is put into one row: document 01, 'The table'. A row is sorted by distance then node, with its padding last.
 ghost use mathlib.Core.Path.{_≡_};
-ghost use lib.Dec.{ltb};
 ghost use lib.ListN.{length};
-ghost use Rattle.network.specs.Nearest.{key};
 ghost use Rattle.rows.specs.Put.{insertAt, PlaceOf, PutIn, HasRow, PutInRow};
-
-// Whether p at distance d comes before q at distance e.
-fn comes_before(p: u32, d: u32, q: u32, e: u32) -> bool
-    ensures { λ r. ⌜ r ≡ ltb (key (p, d)) (key (q, e)) ⌝ }
-{
-    if d == e {
-        return p < q;
-    }
-    d < e
-}
+use crate::order::long;
+use crate::order::precedes;
 
 // The first place of the row whose entry comes behind p at distance d; the row's length where none does.
 fn place_of(ids: &[u32], distances: &[u32], p: u32, d: u32) -> usize
     requires { ⌜ length (now distances) ≡ length (now ids) ⌝ }
     ensures { λ r. ⌜ PlaceOf (now (ids .entry)) (now (distances .entry)) p d r ⌝ }
 {
+    let far = long(d);
     let mut at = 0;
     while at < ids.len() {
         let q = ids[at];
-        let e = distances[at];
-        if comes_before(p, d, q, e) {
+        let e = long(distances[at]);
+        if precedes(p, far, q, e) {
             return at;
         }
         at += 1;

@@ -1,7 +1,7 @@
 -- `rows::put::place_of` meets its contract: no entry before the place comes behind the point. The measure is the number of places left.
 -- Assumes nothing.
 use Prim.Native.Nat.{_≤_, _-_, _<_}
-use mathlib.Core.Path.{sym, _∙_}
+use mathlib.Core.Path.{_≡_, sym, _∙_}
 use native.Mathlib.Omega.{arith}
 use lib.ListN.{length}
 use borrow.Author.Needs.{needs}
@@ -13,13 +13,16 @@ use Rattle.rows.proofs.put.place_of.Statement.{statement}
 use Rattle.rows.proofs.put.place_of.Tie as tie
 
 abbrev Inv-loop : tie.InvT-loop
-Inv-loop ids distances p d at₀ at = (at ≤ length ids) × ((j : _) → j < at → key (place ids distances j) ≤ key (p, d))
+Inv-loop ids distances p d far at₀ at = (far ≡ d) × (at ≤ length ids) × ((j : _) → j < at → key (place ids distances j) ≤ key (p, d))
 
 abbrev μ-loop : tie.MeasureT-loop
-μ-loop ids distances p d at₀ at = length ids - at
+μ-loop ids distances p d far at₀ at = length ids - at
+
+long-requires : tie.Need-long-requires Inv-loop μ-loop
+long-requires c κs = search needs
 
 loop-holds : tie.Need-loop-holds Inv-loop μ-loop
-loop-holds c = (omega arith, λ j h. absurd (omega arith))
+loop-holds c = (search needs, omega arith, λ j h. absurd (omega arith))
 
 mul-q : tie.Need-mul-q Inv-loop μ-loop
 mul-q c = search needs
@@ -27,22 +30,27 @@ mul-q c = search needs
 shared-slice-read-q : tie.Need-shared-slice-read-q Inv-loop μ-loop
 shared-slice-read-q c = search needs
 
-mul-e : tie.Need-mul-e Inv-loop μ-loop
-mul-e c = search needs
+mul-long : tie.Need-mul-long Inv-loop μ-loop
+mul-long c = search needs
 
-shared-slice-read-e : tie.Need-shared-slice-read-e Inv-loop μ-loop
-shared-slice-read-e c = search needs
+shared-slice-read-long : tie.Need-shared-slice-read-long Inv-loop μ-loop
+shared-slice-read-long c = search needs
 
-comes-before-requires : tie.Need-comes-before-requires Inv-loop μ-loop
-comes-before-requires c κs = search needs
+long-requires-2 : tie.Need-long-requires-2 Inv-loop μ-loop
+long-requires-2 c κs = search needs
+
+precedes-requires : tie.Need-precedes-requires Inv-loop μ-loop
+precedes-requires c κs = search needs
 
 returns : tie.Need-returns Inv-loop μ-loop
 returns c =
-    let l = c .before .before .before .before .before .loop in
+    let e = c .before .before in
+    let l = e .before .before .before .before .loop in
+    let test = rw (l .inv .0, e .long2 .ensures) at (c .before .precedes .ensures) in
     record {
-      most = l .inv .0;
-      before = l .inv .1;
-      behind = λ h. ltb-true _ _ (sym (c .before .comes-before .ensures) ∙ c .if1 .taken);
+      most = l .inv .1;
+      before = l .inv .2;
+      behind = λ h. ltb-true _ _ (sym test ∙ c .if1 .taken);
     }
 
 add-at : tie.Need-add-at Inv-loop μ-loop
@@ -53,11 +61,13 @@ loop-less c = search needs
 
 loop-again : tie.Need-loop-again Inv-loop μ-loop
 loop-again c =
-    let l = c .before .before .before .before .before in
-    let a = l .before .before .before .args in (
+    let e = c .before .before in
+    let l = e .before .before .before .before in
+    let a = l .before .before .before .before .args in
+    let test = rw (l .loop .inv .0, e .long2 .ensures) at (c .before .precedes .ensures) in (
+      l .loop .inv .0,
       omega arith,
-      before-more (a .ids .now) (a .distances .now) (a .p, a .d) (l .loop .at) (l .loop .inv .1)
-          (ltb-false _ _ (sym (c .before .comes-before .ensures) ∙ c .if1 .left)),
+      before-more (a .ids .now) (a .distances .now) (a .p, a .d) (l .loop .at) (l .loop .inv .2) (ltb-false _ _ (sym test ∙ c .if1 .left)),
     )
 
 returns-2 : tie.Need-returns-2 Inv-loop μ-loop
@@ -69,12 +79,14 @@ place-of-spec =
     (tie.spec
     Inv-loop
     μ-loop
+    long-requires
     loop-holds
     mul-q
     shared-slice-read-q
-    mul-e
-    shared-slice-read-e
-    comes-before-requires
+    mul-long
+    shared-slice-read-long
+    long-requires-2
+    precedes-requires
     returns
     add-at
     loop-less

@@ -1,9 +1,9 @@
--- `rows::check::precedes` meets its contract: nodes are below 2^32, so the key orders by distance then node.
+-- `rows::order::precedes` meets its contract: nodes are below 2^32, so the key orders by distance then node.
 -- Assumes nothing.
 use native.Mathlib.Omega.{arith}
 use Rattle.network.proofs.Rank.{key-by-node, key-by-distance}
-use Rattle.rows.proofs.check.precedes.Statement.{statement}
-use Rattle.rows.proofs.check.precedes.Tie as tie
+use Rattle.rows.proofs.order.precedes.Statement.{statement}
+use Rattle.rows.proofs.order.precedes.Tie as tie
 
 returns : tie.Need-returns
 returns c = let a = c .before .args in key-by-node (a .p) (a .d) (a .q) (a .e) (c .if1 .taken)
