@@ -2,7 +2,7 @@
 -- the arcs and one.
 -- Assumes nothing.
 use Prim.Native.Nat.{ℕ, zero, suc, _+_, _*_, _≤_, _<_}
-use mathlib.Core.Path.{_≡_, refl, sym, ap, _∙_}
+use mathlib.Core.Path.{_≡_, sym, ap, _∙_}
 use mathlib.Core.Bool.{true, false}
 use mathlib.Core.Logic.{_≢_, ⊎-elim}
 use mathlib.Core.List.{List}
@@ -14,7 +14,7 @@ use lib.ListN.{length, getD, set, length-set}
 use lib.Seq.{getD-set-same, getD-set-other, drop-set-lt}
 use borrow.Author.Tests.{eq-eqb, ne-eqb}
 use Rattle.network.specs.Count.{count}
-use Rattle.network.specs.Network.{Network, nodeCount, arcCount, neighboursOf, weightsOf}
+use Rattle.network.specs.Network.{Network, nodeCount, neighboursOf, weightsOf}
 use Rattle.network.specs.Accepted.{Accepted}
 use Rattle.network.proofs.Counts.{count-same, count-all, without, without-self, without-other, count-without}
 use Rattle.network.proofs.Ranges.{arc-at}
@@ -22,7 +22,7 @@ use Rattle.network.proofs.NumberZero.{accepted-ranges}
 use Rattle.expansion.specs.Queue.{Holds, Queue}
 use Rattle.expansion.specs.Area.{queueBase, queueOf, unsettled, Entry, Stands, Area, Kept, Blank, Started, Left, PutIn, Followed}
 use Rattle.expansion.specs.Room.{degree, arcsLeft}
-use Rattle.expansion.proofs.Room.{left-same, left-less, left-all}
+use Rattle.expansion.proofs.Room.{left-same, left-less}
 
 -- the words before the queue are as they were
 module _ {n : ℕ} {xs ys : List ℕ} (b : ℕ) (same : Kept xs ys (queueBase n b)) where
@@ -240,10 +240,6 @@ module _ {g : Network} (ok : Accepted g) {xs ys : List ℕ} {b settled len more 
 
   pub area-followed : Area (nodeCount g) ys b settled more
   area-followed = area-queue a (f .frame) (f .queue) (λ k e. ⊎-elim (λ o. a .entries k o) (λ p. put-in k p) (f .old k e))
-
-pub room-start : {g : Network} → Accepted g → (ys : List ℕ) (b : ℕ) → ((v : ℕ) → v < nodeCount g → getD ys (b + v) 0 ≡ 0) → room g ys b 1 ≡ arcCount g + 1
-room-start {g} ok ys b none =
-    omega (arith, left-same g (λ _. true) (unsettled ys b) (nodeCount g) (λ x h. eq-eqb (getD ys (b + x) 0) 0 (none x h)), left-all ok (λ _. true) (λ x h. refl))
 
 pub room-same : (g : Network) {xs ys : List ℕ} (b len : ℕ) → Kept xs ys (queueBase (nodeCount g) b) → room g ys b len ≡ room g xs b len
 room-same g {xs} {ys} b len same = ap (λ (m : ℕ). len + m) (left-same g (unsettled xs b) (unsettled ys b) (nodeCount g) (unsettled-same b same))

@@ -2,14 +2,15 @@
 -- Assumes nothing.
 use Prim.Native.Nat.{ℕ, _+_, _≤_}
 use mathlib.Core.Path.{_≡_, sym, ap, _∙_}
-use mathlib.Core.List.{List}
+use mathlib.Core.List.{List, _++_}
 use native.Mathlib.Omega.{arith}
 use lib.Dec.{eqb}
-use lib.ListN.{length, getD, drop, length-drop}
+use lib.ListN.{length, getD, take, drop, length-drop}
 use lib.Seq.{ext-getD, getD-drop}
 use Rattle.network.specs.Network.{Network, nodeCount}
 use Rattle.network.specs.Accepted.{Accepted}
 use Rattle.network.proofs.Counts.{count-same}
+use Rattle.network.proofs.Lends.{first-size, first-after}
 use Rattle.expansion.specs.Area.{queueBase, queueOf, unsettled, LabelAt, HeldAt, Stands, Area}
 use Rattle.expansion.proofs.Room.{left-same}
 use Rattle.expansion.proofs.Steps.{waits, same-settled, requeue}
@@ -21,6 +22,10 @@ use Rattle.expansion.proofs.Progress.{Progress}
 pub record Beside (xs ys : List ℕ) (b : ℕ) : Type 0 where
   pub size : length ys ≡ length xs
   pub words : (i : ℕ) → b ≤ i → getD ys i 0 ≡ getD xs i 0
+
+-- the first b words were lent, and came back as zs
+pub beside-first : (b : ℕ) (xs zs : List ℕ) → b ≤ length xs → length zs ≡ length (take b xs) → Beside xs (zs ++ drop b xs) b
+beside-first b xs zs fits same = record { size = first-size b xs zs fits same; words = first-after b xs zs fits same }
 
 module _ {xs ys : List ℕ} {b : ℕ} (same : Beside xs ys b) where
   pub drop-beside : (q : ℕ) → b ≤ q → drop q ys ≡ drop q xs
@@ -41,7 +46,7 @@ module _ {xs ys : List ℕ} {b : ℕ} (same : Beside xs ys b) where
   place-beside : (n i : ℕ) → getD ys (b + n + i) 0 ≡ getD xs (b + n + i) 0
   place-beside n i = same .words (b + n + i) (omega arith)
 
-  queue-beside : (n : ℕ) → queueOf n ys b ≡ queueOf n xs b
+  pub queue-beside : (n : ℕ) → queueOf n ys b ≡ queueOf n xs b
   queue-beside n = drop-beside (queueBase n b) (omega arith)
 
   unsettled-beside : (v : ℕ) → unsettled ys b v ≡ unsettled xs b v

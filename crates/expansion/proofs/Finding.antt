@@ -183,7 +183,7 @@ module _ {g : Network} (ok : Accepted g) {P : List ℕ} {s e k found : ℕ} {xs 
     module _ {ws : List ℕ} {more : ℕ} (f : Followed g (settledAs (nodeCount g) ys (2 * k) settled v l) ws (2 * k) left more v l (length (neighboursOf g v)))
         (near : l < e) (place : found < k) where
       frame : Kept xs ws (2 * k)
-      frame = frame-settled ok p t (all-leads ok s) f
+      frame = frame-settled ok p t (f .frame)
 
       pub noted-size : 2 * k ≤ length ws
       noted-size = omega (arith, p .area .fits, frame .size)

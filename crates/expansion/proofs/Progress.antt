@@ -1,20 +1,23 @@
 -- An expansion under way: its area, the law of its search, and its room. What each step requires follows from it, and each step keeps it while
 -- the room falls.
 -- Assumes nothing.
-use Prim.Native.Nat.{ℕ, _+_, _*_, _≤_, _<_}
+use Prim.Native.Nat.{ℕ, suc, _+_, _*_, _≤_, _<_}
 use mathlib.Core.Path.{_≡_, refl, ap, _∙_}
+use mathlib.Core.Logic.{_≢_}
 use mathlib.Core.List.{List}
 use native.Mathlib.Omega.{arith}
 use lib.ListN.{length, getD, length-set}
 use Rattle.network.specs.Network.{Network, nodeCount, arcCount, neighboursOf}
 use Rattle.network.specs.Accepted.{Accepted}
+use Rattle.network.specs.Walk.{Walk}
 use Rattle.network.proofs.Ranges.{neighbours-length}
 use Rattle.network.proofs.NumberZero.{accepted-ranges}
-use Rattle.expansion.specs.Area.{queueBase, nodeOf, Area, Kept, Blank, Started, Nodes, Took, CanFollow, Followed}
+use Rattle.expansion.specs.Area.{queueBase, unsettled, nodeOf, Area, Kept, Blank, Started, Nodes, Took, CanFollow, Followed}
 use Rattle.expansion.specs.Room.{degree}
+use Rattle.expansion.proofs.Room.{left-most}
 use Rattle.expansion.proofs.Search.{Leads, closed-leads}
-use Rattle.expansion.proofs.AreaLaws.{settledAs, size-settle, frame-settle, kept-less, kept-trans, label-same, area-left, area-start, area-settle, area-followed, place-left, label-settle, queue-settle, room, room-start, room-same, room-settle}
-use Rattle.expansion.proofs.AreaSearch.{Searched, key-node-of, search-start, search-took, search-settle, took-least, took-low}
+use Rattle.expansion.proofs.AreaLaws.{settledAs, size-settle, frame-settle, kept-less, kept-trans, label-same, area-left, area-start, area-settle, area-followed, place-left, label-settle, others-settle, queue-settle, room, room-same, room-settle}
+use Rattle.expansion.proofs.AreaSearch.{Searched, key-node-of, search-start, search-took, search-settle, took-held, took-least, took-low}
 
 -- every node is open, and seen
 abbrev pub All : ℕ → Type 0
@@ -36,7 +39,7 @@ module _ {g : Network} (ok : Accepted g) {s : ℕ} {Open Seen : ℕ → Type 0} 
       record {
         area = area-start blank (omega arith) h t;
         searched = search-start ok blank h t;
-        left = omega (arith, room-start ok ys b (λ v l. label-same b (t .frame) v l ∙ blank .zero (b + v) (omega arith)));
+        left = omega (arith, left-most ok (unsettled ys b));
         size = omega (arith, t .frame .size);
       }
 
@@ -68,7 +71,11 @@ module _ {g : Network} (ok : Accepted g) {s : ℕ} {Open Seen : ℕ → Type 0} 
       pub took-fits : (b + nodeCount g + settled < length ys) × (b + v < length ys) × (l < 4294967295)
       took-fits = (omega (arith, took-area .fits, took-place), omega (arith, took-area .fits, t .inside), omega (arith, took-small))
 
-      room-taken : room g ys b left < room g xs b len
+      -- the entry's label is the sum of a walk to v; the room falls when it is taken
+      pub took-walk : Walk g s v l
+      took-walk = p .searched .held-walk v l u (took-held ok (p .area) (p .searched) t)
+
+      pub room-taken : room g ys b left < room g xs b len
       room-taken = omega (arith, room-same g b left (t .leaves .frame), t .fewer)
 
       room-zs : room g (settledAs (nodeCount g) ys b settled v l) b left + degree g v ≡ room g ys b left
@@ -90,16 +97,24 @@ module _ {g : Network} (ok : Accepted g) {s : ℕ} {Open Seen : ℕ → Type 0} 
                 (omega (arith, arcs-of, room-zs, room-taken, p .left, p .size, t .leaves .frame .size));
           }
 
+      -- ws is the area in which v is settled, and perhaps its arcs are followed: the words before the area are as they were, and so are the labels but
+      -- for v's
+      module _ {ws : List ℕ} (same : Kept (settledAs (nodeCount g) ys b settled v l) ws (queueBase (nodeCount g) b)) where
+        pub frame-settled : Kept xs ws b
+        frame-settled =
+            kept-trans (kept-less (omega arith) (t .leaves .frame))
+            (kept-trans (frame-settle (nodeCount g) ys b settled v l) (kept-less (omega arith) same))
+
+        pub label-taken : getD ws (b + v) 0 ≡ suc l
+        label-taken = label-same b same v (t .inside) ∙ label-settle took-area v l (t .inside) took-word
+
+        pub label-others : (x : ℕ) → x < nodeCount g → x ≢ v → getD ws (b + x) 0 ≡ getD ys (b + x) 0
+        label-others x h n = label-same b same x h ∙ others-settle took-area v l (t .inside) took-word x h n
+
       module _ (leads : Leads g s Open Seen) {ws : List ℕ} {more : ℕ}
           (f : Followed g (settledAs (nodeCount g) ys b settled v l) ws b left more v l (length (neighboursOf g v))) where
         pub room-falls : room g ws b more < room g xs b len
         room-falls = omega (arith, room-same g b more (f .frame), f .grown, arcs-of, room-zs, room-taken)
-
-        -- the words before the area are as they were
-        pub frame-settled : Kept xs ws b
-        frame-settled =
-            kept-trans (kept-less (omega arith) (t .leaves .frame))
-            (kept-trans (frame-settle (nodeCount g) ys b settled v l) (kept-less (omega arith) (f .frame)))
 
         pub progress-settled : Progress g s Open Seen ws b (settled + 1) more
         progress-settled =

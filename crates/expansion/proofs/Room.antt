@@ -3,11 +3,12 @@
 use Prim.Native.Nat.{ℕ, zero, suc, _+_, _≤_, _<_}
 use mathlib.Core.Path.{_≡_, refl}
 use mathlib.Core.Bool.{Bool, true, false}
-use mathlib.Core.Logic.{_≢_}
+use mathlib.Core.Logic.{_≢_, ⊎-elim}
 use native.Mathlib.Decide.{ℕ-discrete}
 use native.Mathlib.Omega.{arith}
 use Rattle.network.specs.Network.{Network, nodeCount, arcCount, startOf}
 use Rattle.network.specs.Accepted.{Accepted}
+use Rattle.network.proofs.Tests.{bool-cases}
 use Rattle.expansion.specs.Room.{degree, arcsLeft}
 
 pub left-same : (g : Network) (t u : ℕ → Bool) (n : ℕ) → ((x : ℕ) → x < n → u x ≡ t x) → arcsLeft g u n ≡ arcsLeft g t n
@@ -25,12 +26,16 @@ left-less g t u v (suc n) l a b h =
       | no m ↦ rw (h n (omega arith) m) (omega (arith, left-less g t u v n (omega arith) a b (λ x i. h x (omega arith))))
     ]
 
--- at first all of them
-module _ {g : Network} (ok : Accepted g) (t : ℕ → Bool) (all : (x : ℕ) → x < nodeCount g → t x ≡ true) where
-  left-below : (n : ℕ) → n ≤ nodeCount g → arcsLeft g t n ≡ startOf g n
+-- no more are left than there are
+module _ {g : Network} (ok : Accepted g) (t : ℕ → Bool) where
+  left-below : (n : ℕ) → n ≤ nodeCount g → arcsLeft g t n ≤ startOf g n
   unfolding arcsLeft
-  left-below zero h = omega (arith, ok .starts-zero)
-  left-below (suc n) h = rw (all n (omega arith)) (omega (arith, left-below n (omega arith), ok .rising n (omega arith)))
+  left-below zero h = omega arith
+  left-below (suc n) h =
+      ⊎-elim
+      (λ e. rw e (omega (arith, left-below n (omega arith), ok .rising n (omega arith))))
+      (λ e. rw e (omega (arith, left-below n (omega arith), ok .rising n (omega arith))))
+      (bool-cases (t n))
 
-  pub left-all : arcsLeft g t (nodeCount g) ≡ arcCount g
-  left-all = omega (arith, left-below (nodeCount g) (omega arith), ok .ends)
+  pub left-most : arcsLeft g t (nodeCount g) ≤ arcCount g
+  left-most = omega (arith, left-below (nodeCount g) (omega arith), ok .ends)

@@ -9,13 +9,13 @@ use native.Mathlib.Omega.{arith}
 use lib.ListN.{getD}
 use Rattle.network.specs.Network.{Network, nodeCount}
 use Rattle.network.specs.Accepted.{Accepted}
-use Rattle.expansion.specs.Area.{nodeOf, queueBase, queueOf, HeldAt, Kept, Left, Took}
+use Rattle.expansion.specs.Area.{nodeOf, queueOf, HeldAt, Kept, Left, Took}
 use Rattle.expansion.proofs.Search.{Leads}
 use Rattle.expansion.proofs.Steps.{Removes, settle-not-open}
 use Rattle.expansion.proofs.AreaLaws.{room, settledAs, size-settle, area-settle, queue-settle, room-same, room-settle}
 use Rattle.expansion.proofs.AreaSearch.{AndOne, search-took, settle-marks, took-least, took-low, took-new}
 use Rattle.expansion.proofs.Progress.{Progress, took-area, took-word}
-use Rattle.expansion.proofs.Beside.{Beside, drop-beside, label-beside}
+use Rattle.expansion.proofs.Beside.{Beside, queue-beside, label-beside}
 
 pub kept-same : {xs : List ℕ} {b : ℕ} → Kept xs xs b
 kept-same = record { size = refl; words = λ i h. refl }
@@ -59,12 +59,6 @@ module _ {g : Network} (ok : Accepted g) {s : ℕ} {Open Seen : ℕ → Type 0} 
 
 -- words before the area change, in the same way before and after an entry is taken
 module _ (n : ℕ) {xs xs′ ys ys′ : List ℕ} {b : ℕ} (old : Beside xs xs′ b) (new : Beside ys ys′ b) (front : (i : ℕ) → i < b → getD ys′ i 0 ≡ getD xs′ i 0) where
-  queue-old : queueOf n xs′ b ≡ queueOf n xs b
-  queue-old = drop-beside old (queueBase n b) (omega arith)
-
-  queue-new : queueOf n ys′ b ≡ queueOf n ys b
-  queue-new = drop-beside new (queueBase n b) (omega arith)
-
   left-beside : {len left : ℕ} → Left n xs ys b len left → Left n xs′ ys′ b len left
   left-beside t =
       record {
@@ -78,8 +72,8 @@ module _ (n : ℕ) {xs xs′ ys ys′ : List ℕ} {b : ℕ} (old : Beside xs xs�
                     | no l ↦ new .words i (omega arith) ∙ t .frame .words i h ∙ sym (old .words i (omega arith))
                   ];
             };
-        queue = rw queue-new (t .queue);
-        after = λ k h. rw queue-old (t .after k (rw queue-new at h));
+        queue = rw (queue-beside new n) (t .queue);
+        after = λ k h. rw (queue-beside old n) (t .after k (rw (queue-beside new n) at h));
       }
 
   pub took-beside : {len left l v u : ℕ} → Took n xs ys b len left l v u → Took n xs′ ys′ b len left l v u
@@ -90,12 +84,12 @@ module _ (n : ℕ) {xs xs′ ys ys′ : List ℕ} {b : ℕ} (old : Beside xs xs�
         inside = t .inside;
         tagged = t .tagged;
         new = label-beside old v ∙ t .new;
-        was = rw queue-old (t .was);
-        least = λ k h. t .least k (rw queue-new at h);
+        was = rw (queue-beside old n) (t .was);
+        least = λ k h. t .least k (rw (queue-beside new n) at h);
         kept =
             λ k h.
             ⊎-elim
-            (λ a. inl (rw queue-new a))
+            (λ a. inl (rw (queue-beside new n) a))
             (λ a. ⊎-elim (λ e. inr (inl e)) (λ w. inr (inr (λ z. w (sym (label-beside old (nodeOf k)) ∙ z)))) a)
-            (t .kept k (rw queue-old at h));
+            (t .kept k (rw (queue-beside old n) at h));
       }

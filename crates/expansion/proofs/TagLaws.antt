@@ -4,14 +4,11 @@ use Prim.Native.Nat.{ℕ, _≤_, _<_}
 use mathlib.Core.Path.{_≡_}
 use native.Mathlib.Omega.{arith}
 use Rattle.expansion.specs.Queue.{keyOf}
-use Rattle.expansion.specs.Tags.{tagOf, tagNode}
+use Rattle.expansion.specs.Tags.{tagOf}
 
--- a tag fits, and so does its node
+-- a tag fits
 pub tag-fits : (v u : ℕ) → v < 65536 → u < 65536 → tagOf v u < 4294967296
 tag-fits v u h l = omega arith
-
-pub node-fits : (t : ℕ) → t < 4294967296 → tagNode t < 65536
-node-fits t h = omega arith
 
 -- keys are equal only for equal distances, nodes and parents
 pub entry-same : (d v u d′ v′ u′ : ℕ) → v < 65536 → u < 65536 → v′ < 65536 → u′ < 65536 → keyOf d (tagOf v u) ≡ keyOf d′ (tagOf v′ u′) → (d ≡ d′) × (v ≡ v′) × (u ≡ u′)

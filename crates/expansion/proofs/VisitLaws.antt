@@ -16,15 +16,15 @@ use Rattle.network.specs.Accepted.{Accepted}
 use Rattle.network.specs.Distance.{NONE, dist}
 use Rattle.network.specs.Count.{count, bit}
 use Rattle.network.specs.Points.{marked, isNearer, isOtherNearer, othersNearer, verified}
-use Rattle.network.proofs.Counts.{count-mono, count-same, count-all, count-none}
+use Rattle.network.proofs.Counts.{count-mono, count-same, count-few, count-none}
 use Rattle.network.proofs.Tests.{and-parts, and-intro, and-right}
 use Rattle.expansion.specs.declared.verify.Tally.{Tally}
 use Rattle.expansion.specs.Area.{LabelAt, Kept, Blank, Started, Took, Emptied, Followed, queueBase}
 use Rattle.expansion.specs.Visited.{isOther, CameTo}
 use Rattle.expansion.proofs.Search.{frontier}
-use Rattle.expansion.proofs.AreaLaws.{settledAs, label-same, label-settle, others-settle}
+use Rattle.expansion.proofs.AreaLaws.{settledAs, label-same}
 use Rattle.expansion.proofs.AreaSearch.{label-back, search-took, search-finished, took-least, took-exact}
-use Rattle.expansion.proofs.Progress.{All, all-leads, Progress, took-area, took-word, took-small}
+use Rattle.expansion.proofs.Progress.{All, all-leads, Progress, took-word, took-small, label-taken, label-others}
 
 -- ---- Counts.
 
@@ -44,11 +44,8 @@ count-at t u v (suc n) l h =
       | no m ↦ omega (arith, count-at t u v n (omega arith) (λ x i. h x (omega arith)), ap bit (h n (omega arith) m))
     ]
 
-count-few : (t : ℕ → Bool) (n : ℕ) → count t n ≤ n
-count-few t n = omega (arith, count-mono t (λ _. true) n (λ x l e. refl), count-all n)
-
 count-empty : (t : ℕ → Bool) (n : ℕ) → ((x : ℕ) → x < n → t x ≡ false) → count t n ≡ 0
-count-empty t n h = count-same (λ _. false) t n h ∙ count-none (λ _. false) n (λ x e. false≢true e)
+count-empty t n h = count-none t n (λ x l e. false≢true (sym (h x l) ∙ e))
 
 and-assoc : (a b c : Bool) → (a && (b && c)) ≡ ((a && b) && c)
 and-assoc true b c = refl
@@ -268,10 +265,10 @@ module _ {g : Network} (ok : Accepted g) {p : ℕ} {xs ys : List ℕ} {b settled
   module _ {P : List ℕ} {q below level : ℕ} (inside : q < nodeCount g) (other : v ≢ q) (c : Counted g P p q ys b l below level) {ws : List ℕ} {more : ℕ}
       (f : Followed g (settledAs (nodeCount g) ys b settled v l) ws b left more v l (length (neighboursOf g v))) where
     word-v : getD ws (b + v) 0 ≡ suc l
-    word-v = label-same b (f .frame) v (t .inside) ∙ label-settle (took-area ok e t) v l (t .inside) (took-word ok e t)
+    word-v = label-taken ok e t (f .frame)
 
     word : (x : ℕ) → x < nodeCount g → x ≢ v → getD ws (b + x) 0 ≡ getD ys (b + x) 0
-    word x h n = label-same b (f .frame) x h ∙ others-settle (took-area ok e t) v l (t .inside) (took-word ok e t) x h n
+    word = label-others ok e t (f .frame)
 
     level-settled : count (atLevel P p ws b l) (nodeCount g) ≡ level + bit (isOther P p v)
     level-settled =

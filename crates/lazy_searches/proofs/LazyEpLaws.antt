@@ -20,19 +20,18 @@ use Rattle.expansion.specs.Area.{queueBase, Kept, Started, Took, Emptied, Follo
 use Rattle.expansion.specs.Visited.{CanVisit, VerifyLeft}
 use Rattle.expansion.proofs.AreaLaws.{room, settledAs, frame-settle, label-same}
 use Rattle.expansion.proofs.AreaSearch.{took-exact, took-held}
-use Rattle.expansion.proofs.Progress.{took-small}
-use Rattle.expansion.proofs.Beside.{Beside, drop-beside, label-beside, progress-beside, room-beside}
+use Rattle.expansion.proofs.Progress.{took-small, room-taken}
+use Rattle.expansion.proofs.Beside.{Beside, beside-first, drop-beside, label-beside, progress-beside, room-beside}
 use Rattle.searches.specs.Eager.{isFound}
 use Rattle.lazy_searches.specs.Second.{wordsBase, secondBase, secondQueue, idAt, wordAt, Second, Sound, CanSpread, Admitted, CanAdvance, Advanced, Closed}
 use Rattle.lazy_searches.specs.LazyEp.{CanSettle, ClosedBehind, TakenBack, CanDiscover, PointVerified, Discovered}
 use Rattle.searches.proofs.Beaten.{Unbeaten, stops}
 use Rattle.searches.proofs.Listed.{listed-parts}
 use Rattle.searches.proofs.FlagLaws.{verified-listed, listed-verified}
-use Rattle.network.proofs.Lends.{first-size, first-part, first-after}
+use Rattle.network.proofs.Lends.{row-fits, first-size, first-part, first-after}
 use Rattle.expansion.proofs.Stopping.{kept-same}
-use Rattle.lazy_searches.proofs.RowLaws.{row-end}
 use Rattle.lazy_searches.proofs.SecondLaws.{sound-part, second-start, sound-start, closed-nearer}
-use Rattle.lazy_searches.proofs.LazySearch.{Discovering, Arrived, leads, tells-same, discovering-start, label-exact, discovering-dropped, room-dropped, joined, joins-grow, tells-joined, arrive, front, discovering-stopped, discovering-opened, discovered-listed}
+use Rattle.lazy_searches.proofs.LazySearch.{Discovering, Arrived, leads, tells-same, discovering-start, label-exact, discovering-dropped, joined, joins-grow, tells-joined, arrive, front, discovering-stopped, discovering-opened, discovered-listed}
 
 -- ---- The first words of a list.
 module _ (e : ℕ) (xs ys : List ℕ) (fits : e ≤ length xs) where
@@ -99,7 +98,7 @@ closed-part {n} {k} {u} {l} e {xs} h m c =
     record {
       below =
           λ j a.
-          rw (getD-take e xs (wordsBase n k + u * k + j) 0 (omega (arith, row-end n k u h))) (c .below j a);
+          rw (getD-take e xs (wordsBase n k + u * k + j) 0 (omega (arith, row-fits u n k h))) (c .below j a);
     }
 
 -- ---- Verifying a point.
@@ -316,7 +315,7 @@ module _ {g : Network} {P s₀ : List ℕ} {inner outer q k : ℕ} (c : CanSettl
       fits-inner = omega (arith, fits-taken, inner-low)
 
       advanced-beside : Beside ys ws inner
-      advanced-beside = record { size = first-size inner ys zs fits-inner (a .frame .size); words = first-after inner ys zs fits-inner (a .frame .size) }
+      advanced-beside = beside-first inner ys zs fits-inner (a .frame .size)
 
       beside-outer : Beside ys ws outer
       beside-outer = record { size = advanced-beside .size; words = λ i h. advanced-beside .words i (omega (arith, inner-low)) }
@@ -372,7 +371,7 @@ module _ {g : Network} {P s₀ : List ℕ} {inner outer q k : ℕ} (c : CanSettl
           }
 
       pub room-back : room g ws outer left < room g xs outer len
-      room-back = omega (arith, room-beside beside-outer g left, room-dropped ok flags-low d t)
+      room-back = omega (arith, room-beside beside-outer g left, room-taken ok (d .progress) t)
 
       pub advanced-size : length ws ≡ length xs
       advanced-size = advanced-beside .size ∙ t .leaves .frame .size
@@ -418,7 +417,7 @@ module _ {g : Network} {P s₀ : List ℕ} {inner outer q k : ℕ} (c : CanSettl
         us = vs ++ drop outer ws
 
         beside-come : Beside ws us outer
-        beside-come = record { size = first-size outer ws vs fits-on (w .size); words = first-after outer ws vs fits-on (w .size) }
+        beside-come = beside-first outer ws vs fits-on (w .size)
 
         beside-both : Beside ys us outer
         beside-both =

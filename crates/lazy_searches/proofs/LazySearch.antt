@@ -17,21 +17,22 @@ use Rattle.network.specs.Network.{Network, nodeCount, arcCount, neighboursOf}
 use Rattle.network.specs.Accepted.{Accepted}
 use Rattle.network.specs.Distance.{NONE, dist}
 use Rattle.network.specs.Count.{select}
+use Rattle.network.proofs.Tests.{bool-cases}
 use Rattle.network.proofs.Distances.{dist-symmetric}
 use Rattle.network.specs.Points.{marked, isListed, listed}
-use Rattle.expansion.specs.Area.{queueBase, LabelAt, HeldAt, Kept, Blank, Started, Took, Emptied, CanFollow, Followed}
+use Rattle.expansion.specs.Area.{queueBase, LabelAt, HeldAt, Kept, Blank, Started, Took, Emptied, Followed}
 use Rattle.expansion.proofs.Search.{Leads, monotone, closed-leads, frontier}
 use Rattle.expansion.proofs.Steps.{Outcome, waits, not-seen, not-open, requeue}
 use Rattle.expansion.proofs.Settled.{zero-blank}
-use Rattle.expansion.proofs.AreaLaws.{room, settledAs, frame-settle, label-same, label-settle, others-settle, room-same}
+use Rattle.expansion.proofs.AreaLaws.{room, settledAs, frame-settle, label-same}
 use Rattle.expansion.proofs.AreaSearch.{AndOne, search-took, took-least, took-exact, search-finished}
-use Rattle.expansion.proofs.Progress.{Progress, progress-start, progress-settled, took-area, took-word, took-place, took-small, took-follow, room-falls, took-fits}
-use Rattle.expansion.proofs.Beside.{Beside, label-beside, progress-beside, room-beside}
+use Rattle.expansion.proofs.Progress.{Progress, progress-start, progress-settled, took-area, took-small, room-taken, room-falls, label-taken, label-others}
+use Rattle.expansion.proofs.Beside.{Beside, beside-first, label-beside, progress-beside, room-beside}
 use Rattle.searches.specs.Eager.{isFound}
 use Rattle.searches.proofs.Beaten.{Unbeaten, Part, unbeaten-part, unbeaten-closed}
 use Rattle.searches.proofs.Listed.{listed-parts, lazy-open}
 use Rattle.searches.proofs.FlagLaws.{flag-right}
-use Rattle.network.proofs.Lends.{first-size, first-part, first-after}
+use Rattle.network.proofs.Lends.{first-part}
 use Rattle.expansion.proofs.Stopping.{kept-same, room-stopped, progress-stopped, took-beside}
 use Rattle.searches.proofs.Selected.{select-same}
 
@@ -113,11 +114,7 @@ module _ {g : Network} (ok : Accepted g) {P : List ℕ} {q k b f : ℕ} (low : f
     -- ---- What an entry tells that is taken. Its node was not verified; its label is the distance where its node is unbeaten, and no more than the
     -- distance of any unbeaten node that is not settled.
     pub took-unverified : marked M v ≡ false
-    took-unverified = by (marked M v) refl
-      where
-        by : (x : Bool) → marked M v ≡ x → x ≡ false
-        by true m = absurd (d .come v (t .inside) m (t .new))
-        by false m = refl
+    took-unverified = ⊎-elim (λ m. absurd (d .come v (t .inside) m (t .new))) (λ m. m) (bool-cases (marked M v))
 
     pub label-exact : Unbeaten g M q k v → l ≡ dist g q v
     label-exact o = took-exact ok (d .progress .area) (d .progress .searched) t (leads ok M q k) o
@@ -134,9 +131,6 @@ module _ {g : Network} (ok : Accepted g) {P : List ℕ} {q k b f : ℕ} (low : f
         ]
 
     -- ---- The entry is dropped: its node is beaten, or the node that put it in is.
-    pub room-dropped : room g ys b left < room g xs b len
-    room-dropped = omega (arith, room-same g b left (t .leaves .frame), t .fewer)
-
     dropped-tells : Tells g P M q k ys f
     dropped-tells = tells-same (λ i h. t .leaves .frame .words i (omega (arith, low))) (d .tells)
 
@@ -149,7 +143,7 @@ module _ {g : Network} (ok : Accepted g) {P : List ℕ} {q k b f : ℕ} (low : f
                 searched =
                     requeue ok (search-took ok (d .progress .area) (d .progress .searched) t) becomes
                     (λ x m w h. search-took ok (d .progress .area) (d .progress .searched) t .held-walk x m w (inl h));
-                left = omega (arith, room-dropped, d .progress .left);
+                left = omega (arith, room-taken ok (d .progress) t, d .progress .left);
                 size = omega (arith, d .progress .size, t .leaves .frame .size);
               };
           tells = dropped-tells;
@@ -225,7 +219,7 @@ module _ {g : Network} (ok : Accepted g) {P : List ℕ} {q k b f : ℕ} (low : f
         same = omega (arith, length-take-le b xs fits, length-take-le b zs (omega (arith, fits, new .size, t .leaves .frame .size)))
 
         old : Beside xs (take b zs ++ drop b xs) b
-        old = record { size = first-size b xs (take b zs) fits same; words = first-after b xs (take b zs) fits same }
+        old = beside-first b xs (take b zs) fits same
 
         word : (p : ℕ) → p < nodeCount g → getD zs (b + p) 0 ≡ getD xs (b + p) 0
         word p h = label-beside new p ∙ label-same b (t .leaves .frame) p h
@@ -254,23 +248,12 @@ module _ {g : Network} (ok : Accepted g) {P : List ℕ} {q k b f : ℕ} (low : f
 
   -- ---- The node is settled; the search stops behind it or follows its arcs.
   module _ {M : List ℕ} {most : ℕ} {ys : List ℕ} {settled left l v : ℕ} (a : Arrived g P M q k most ys b f settled left l v) where
-    -- what `settle` and `open` require
-    pub settle-fits : (b + nodeCount g + settled < length ys) × (b + v < length ys) × (l < 4294967295)
-    settle-fits = took-fits ok (a .progress) (a .took)
-
-    pub settled-few : settled < nodeCount g
-    settled-few = took-place ok (a .progress) (a .took)
-
-    pub can-follow : CanFollow g (settledAs (nodeCount g) ys b settled v l) b left v l
-    can-follow = took-follow ok (a .progress) (a .took)
-
     module _ {ws : List ℕ} (same : Kept (settledAs (nodeCount g) ys b settled v l) ws (queueBase (nodeCount g) b)) where
       pub front : (i : ℕ) → i < b → getD ws i 0 ≡ getD ys i 0
       front i h = same .words i (omega arith) ∙ frame-settle (nodeCount g) ys b settled v l .words i h
 
       other : (p : ℕ) → p < nodeCount g → p ≢ v → getD ws (b + p) 0 ≡ getD ys (b + p) 0
-      other p h n =
-          label-same b same p h ∙ others-settle (took-area ok (a .progress) (a .took)) v l (a .took .inside) (took-word ok (a .progress) (a .took)) p h n
+      other = label-others ok (a .progress) (a .took) same
 
       next : {more : ℕ} → Progress g q (Unbeaten g M q k) (Unbeaten g M q k) ws b (settled + 1) more → Discovering g P M q k ws b f (settled + 1) more
       next p =
@@ -286,14 +269,7 @@ module _ {g : Network} (ok : Accepted g) {P : List ℕ} {q k b f : ℕ} (low : f
           come : (x : ℕ) → x < nodeCount g → marked M x ≡ true → getD ws (b + x) 0 ≢ 0
           come x h m =
               elim (ℕ-discrete x v) [
-                | yes e ↦
-                    rw e
-                    (λ z.
-                    omega (
-                      arith,
-                      label-same b same v (a .took .inside),
-                      label-settle (took-area ok (a .progress) (a .took)) v l (a .took .inside) (took-word ok (a .progress) (a .took)),
-                    ))
+                | yes e ↦ rw e (λ z. omega (arith, label-taken ok (a .progress) (a .took) same))
                 | no n ↦ rw (other x h n) (a .come x h n m)
               ]
 

@@ -10,7 +10,7 @@ use native.Mathlib.Omega.{arith}
 use lib.ListN.{getD}
 use borrow.Author.Tests.{eqb-false, not-true}
 use Rattle.network.specs.Count.{count, bit}
-use Rattle.network.proofs.Counts.{count-same, count-none, count-all, count-but, without, without-other, count-without, without-not}
+use Rattle.network.proofs.Counts.{count-none, count-all, count-but, without, without-other, count-without, without-not}
 use Rattle.expansion.specs.Area.{unsettled, Area}
 
 -- v stands at a place below m that passes p
@@ -27,15 +27,7 @@ not-last h n = omega arith
 placed-most : (f : ℕ → ℕ) (p : ℕ → Bool) (n m : ℕ) (t : ℕ → Bool) → ((v : ℕ) → v < n → t v ≡ true → Placed f p m v) → count t n ≤ count p m
 unfolding count
 placed-most f p n zero t h =
-    omega (
-      arith,
-      count-same (λ _. false) t n (λ v l. none v (t v) refl l),
-      count-none (λ _. false) n (λ v a. false≢true a),
-    )
-  where
-    none : (v : ℕ) (x : Bool) → t v ≡ x → v < n → x ≡ false
-    none v true e l = absurd (omega (arith, h v l e .low))
-    none v false e l = refl
+    omega (arith, count-none t n (λ v l a. omega (arith, h v l a .low)))
 placed-most f p n (suc m) t h = by (λ u. placed-most f p n m u) (p m) refl
   where
     fewer : (v : ℕ) → v < n → without t (f m) v ≡ true → Placed f p m v

@@ -6,28 +6,25 @@ use mathlib.Core.Path.{_≡_, refl, ap, _∙_}
 use mathlib.Core.Bool.{Bool, true}
 use mathlib.Core.Logic.{_≢_}
 use mathlib.Core.List.{List}
-use native.Mathlib.Nat.{mul-le-mul-right}
 use native.Mathlib.Decide.{ℕ-discrete, decLt}
 use native.Mathlib.Omega.{arith}
 use lib.ListN.{getD}
 use borrow.Author.Tests.{ne-eqb}
 use Rattle.network.specs.Distance.{NONE}
 use Rattle.network.specs.Count.{count}
+use Rattle.network.proofs.Lends.{row-fits}
 use Rattle.network.proofs.Counts.{without, without-other, count-without}
 use Rattle.expansion.specs.Expand.{wordDistance}
 use Rattle.lazy_searches.specs.Second.{total, PlaceFor}
 
--- the row of a node ends where the next begins, and rows do not meet
-pub row-end : (n k u : ℕ) → u < n → u * k + k ≤ n * k
-row-end n k u h = omega (arith, mul-le-mul-right k h)
-
+-- rows do not meet
 pub same-place : (k u i v j : ℕ) → i < k → j < k → u * k + i ≡ v * k + j → (u ≡ v) × (i ≡ j)
 same-place k u i v j h l e =
     elim (decLt u v) [
-      | yes m ↦ absurd (omega (arith, row-end v k u m))
+      | yes m ↦ absurd (omega (arith, row-fits u v k m))
       | no m ↦
           elim (decLt v u) [
-            | yes o ↦ absurd (omega (arith, row-end u k v o))
+            | yes o ↦ absurd (omega (arith, row-fits v u k o))
             | no o ↦ let s : u ≡ v = omega arith in (s, omega (arith, ap (λ (x : ℕ). x * k) s))
           ]
     ]

@@ -28,7 +28,8 @@ use Rattle.expansion.specs.Expand.{wordDistance}
 use Rattle.lazy_searches.specs.Second.{pointOf, besideOf, farOf, wordsBase, secondBase, secondQueue, idAt, wordAt, Source, Second, Sound, spread, work, PlaceFor, CanSpread, Offered, Admitted, Advanced, Closed}
 use Rattle.searches.proofs.Beaten.{Part}
 use Rattle.expansion.proofs.Stopping.{kept-same}
-use Rattle.lazy_searches.proofs.RowLaws.{row-end, same-place, word-suc, word-below, total-same, total-less, count-different}
+use Rattle.network.proofs.Lends.{row-fits}
+use Rattle.lazy_searches.proofs.RowLaws.{same-place, word-suc, word-below, total-same, total-less, count-different}
 
 -- what is sound for some marks is for more
 pub source-part : {g : Network} {M N : List ℕ} {u p d : ℕ} → Part M N → Source g M u p d → Source g N u p d
@@ -71,10 +72,10 @@ module _ {g : Network} {xs : List ℕ} {k : ℕ} (zeros : (j : ℕ) → nodeCoun
 -- the rows, where the words before the queue stay
 module _ {n k : ℕ} {xs ys : List ℕ} (same : Kept xs ys (secondBase n k)) (u j : ℕ) (h : u < n) (l : j < k) where
   pub id-kept : idAt n k ys u j ≡ idAt n k xs u j
-  id-kept = same .words (n + u * k + j) (omega (arith, row-end n k u h))
+  id-kept = same .words (n + u * k + j) (omega (arith, row-fits u n k h))
 
   pub word-kept : wordAt n k ys u j ≡ wordAt n k xs u j
-  word-kept = same .words (wordsBase n k + u * k + j) (omega (arith, row-end n k u h))
+  word-kept = same .words (wordsBase n k + u * k + j) (omega (arith, row-fits u n k h))
 
 pub spread-kept : (n k : ℕ) {xs ys : List ℕ} → Kept xs ys (secondBase n k) → spread n k ys ≡ spread n k xs
 spread-kept n k {xs} {ys} same =
@@ -164,7 +165,7 @@ module _ {g : Network} {xs : List ℕ} {k len p u d i : ℕ} (c : CanSpread g xs
   taken = set (set xs ids p) words (d + 1)
 
   row : u * k + k ≤ n * k
-  row = row-end n k u (c .inside)
+  row = row-fits u n k (c .inside)
 
   fits : words < length xs
   fits = omega (arith, row, c .second .fits)
@@ -190,7 +191,7 @@ module _ {g : Network} {xs : List ℕ} {k len p u d i : ℕ} (c : CanSpread g xs
     apart e = ne (same-place k v j u i l low e)
 
     id-other : idAt n k taken v j ≡ idAt n k xs v j
-    id-other = other (n + v * k + j) (λ e. apart (omega arith)) (omega (arith, row-end n k v h))
+    id-other = other (n + v * k + j) (λ e. apart (omega arith)) (omega (arith, row-fits v n k h))
 
     word-other : wordAt n k taken v j ≡ wordAt n k xs v j
     word-other = other (wordsBase n k + v * k + j) (omega (arith, row)) (λ e. apart (omega arith))

@@ -29,7 +29,7 @@ bit-lt a b h = rw (lt-ltb a b h)
 pub bit-ge : (a b : ℕ) → b ≤ a → bit (ltb a b) ≡ 0
 bit-ge a b h = rw (le-ltb a b h)
 
--- who passes one test, below n, passes another: there are no fewer of those; the same pass both; all pass; none does
+-- who passes one test, below n, passes another: there are no fewer of those; the same pass both; all pass; no more than all; none does
 pub count-mono : (t u : ℕ → Bool) (n : ℕ) → ((x : ℕ) → x < n → t x ≡ true → u x ≡ true) → count t n ≤ count u n
 unfolding count
 count-mono t u zero h = omega arith
@@ -46,10 +46,13 @@ unfolding count
 count-all zero = refl
 count-all (suc n) = omega (arith, count-all n)
 
-pub count-none : (t : ℕ → Bool) (n : ℕ) → ((x : ℕ) → t x ≡ true → ⊥) → count t n ≡ 0
+pub count-few : (t : ℕ → Bool) (n : ℕ) → count t n ≤ n
+count-few t n = omega (arith, count-mono t (λ _. true) n (λ x l e. refl), count-all n)
+
+pub count-none : (t : ℕ → Bool) (n : ℕ) → ((x : ℕ) → x < n → t x ≡ true → ⊥) → count t n ≡ 0
 unfolding count
 count-none t zero h = refl
-count-none t (suc n) h = omega (arith, count-none t n h, bit-mono (t n) false (λ a. absurd (h n a)))
+count-none t (suc n) h = omega (arith, count-none t n (λ x l. h x (omega arith)), bit-mono (t n) false (λ a. absurd (h n (omega arith) a)))
 
 -- v passes the second test alone
 pub count-more : (t u : ℕ → Bool) (v n : ℕ) → v < n → t v ≡ false → u v ≡ true → ((x : ℕ) → x ≢ v → u x ≡ t x) → count u n ≡ suc (count t n)

@@ -1,13 +1,25 @@
--- A list of which a part is lent mutably, from its start or from the middle, and comes back as another list of the same length: the words of the
--- whole then.
+-- A part of a list: its words; a row of several that are laid one after another. A part that is lent mutably, from the start or from the middle, and
+-- comes back as another list of the same length: the words of the whole then.
 -- Assumes nothing.
-use Prim.Native.Nat.{ℕ, _+_, _-_, _≤_, _<_}
+use Prim.Native.Nat.{ℕ, _+_, _-_, _*_, _≤_, _<_}
 use mathlib.Core.Path.{_≡_, sym, ap, _∙_}
 use mathlib.Core.List.{List, _++_}
+use native.Mathlib.Nat.{mul-le-mul-right}
 use native.Mathlib.Omega.{arith}
 use lib.ListN.{length, getD, take, drop, length-append, length-drop, List·getD-append}
 use lib.Seq.{getD-append-add, getD-drop, getD-take, length-take-le}
 use borrow.Rule.Slice.PartMut.{midOf, putMid, postOf, same-len-mid, mid-len, drop-put}
+
+-- the k words from a on: how many they are, and word j of them
+pub mid-length : (a k : ℕ) (xs : List ℕ) → a + k ≤ length xs → length (midOf a k xs) ≡ k
+mid-length a k xs h = length-take-le k (drop a xs) (omega (arith, length-drop a xs))
+
+pub mid-at : (a k : ℕ) (xs : List ℕ) (j : ℕ) → j < k → getD (midOf a k xs) j 0 ≡ getD xs (a + j) 0
+mid-at a k xs j h = getD-take k (drop a xs) j 0 h ∙ getD-drop a xs j 0
+
+-- row i of n rows of K words each ends before they do
+pub row-fits : (i n K : ℕ) → i < n → i * K + K ≤ n * K
+row-fits i n K h = omega (arith, mul-le-mul-right K h)
 
 -- ys is xs with its words from a up to e made zs
 pub record Returned (xs ys : List ℕ) (a e : ℕ) (zs : List ℕ) : Type 0 where

@@ -7,10 +7,11 @@ use mathlib.Core.List.{List, List·Memᴰ, List·Memᴰ·head, List·Memᴰ·tai
 use native.Mathlib.Nat.{eq-or-lt-of-le}
 use native.Mathlib.Decide.{decLt}
 use native.Mathlib.Omega.{arith}
-use lib.ListN.{length, getD, drop, length-take, length-drop, List·getD-eq-default}
-use lib.Seq.{getD-take, getD-drop}
+use lib.ListN.{length, getD, List·getD-eq-default}
+use borrow.Rule.Slice.PartMut.{mid-len}
 use Rattle.network.specs.Network.{Network, Arc, nodeCount, startOf, target, weightOf, arcsFrom, arcsOf, partOf}
 use Rattle.network.specs.Parts.{HasPart}
+use Rattle.network.proofs.Lends.{mid-at}
 
 -- only a node has arcs: past the last start there is 0
 pub arc-source : {g : Network} {a b w : ℕ} → Arc g a b w → a < nodeCount g
@@ -55,12 +56,11 @@ arcs-agree = (λ r. arc-listed r, λ m. listed-arc m)
 -- Node i's part of an array. The entry at place j is that of arc starts[i] + j.
 pub part-length : {starts entries : List ℕ} {i : ℕ} → HasPart starts entries i → length (partOf starts entries i) ≡ getD starts (i + 1) 0 - getD starts i 0
 unfolding partOf
-part-length h = simp (length-take, length-drop) (omega (arith, h .ordered, h .within))
+part-length {starts} {entries} {i} h = mid-len (getD starts i 0) (getD starts (i + 1) 0) entries (h .within)
 
 pub part-at : (starts entries : List ℕ) (i j : ℕ) → j < getD starts (i + 1) 0 - getD starts i 0 → getD (partOf starts entries i) j 0 ≡ getD entries (getD starts i 0 + j) 0
 unfolding partOf
-part-at starts entries i j h =
-    getD-take (getD starts (i + 1) 0 - getD starts i 0) (drop (getD starts i 0) entries) j 0 h ∙ getD-drop (getD starts i 0) entries j 0
+part-at starts entries i = mid-at (getD starts i 0) (getD starts (i + 1) 0 - getD starts i 0) entries
 
 pub parts-even : {starts xs ys : List ℕ} {i : ℕ} → HasPart starts xs i → HasPart starts ys i → length (partOf starts xs i) ≡ length (partOf starts ys i)
 parts-even h k = part-length h ∙ sym (part-length k)

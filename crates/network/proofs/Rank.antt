@@ -8,13 +8,22 @@ use mathlib.Core.List.{List}
 use native.Mathlib.Decide.{decLt}
 use native.Mathlib.Omega.{arith}
 use lib.Dec.{ltb}
-use borrow.Author.Tests.{lt-ltb, le-ltb, ltb-true}
+use lib.ListN.{length, getD, List·getD-eq-default}
+use borrow.Author.Tests.{lt-ltb, le-ltb, ltb-true, eqb-true}
 use Rattle.network.specs.Network.{Network, nodeCount}
 use Rattle.network.specs.Distance.{dist}
 use Rattle.network.specs.Points.{marked, isNearer, countNearer}
 use Rattle.network.specs.Nearest.{key, isBefore, before, Nearer}
 use Rattle.network.proofs.Tests.{and-parts, and-intro}
 use Rattle.network.proofs.Counts.{count-mono}
+
+-- a number that is marked is a node
+pub marked-inside : (P : List ℕ) (p : ℕ) → marked P p ≡ true → p < length P
+marked-inside P p e =
+    elim (decLt p (length P)) [
+      | yes l ↦ l
+      | no n ↦ absurd (omega (arith, eqb-true (getD P p 0) 1 e, List·getD-eq-default P 0 {n = p} (omega arith)))
+    ]
 
 -- one of the first k of the points nearer to i than e; one with a key less than k
 pub record Near (g : Network) (P : List ℕ) (i e k p : ℕ) : Type 0 where

@@ -1,5 +1,5 @@
--- Laws of tests: `&&` and `||` in their parts, and a test of every number below n. `tests` turns what a branch of the code tested into the Bool
--- of a definition's test.
+-- Laws of tests: one passes or does not, `&&` and `||` in their parts, and a test of every number below n. `tests` turns what a branch of the code
+-- tested into the Bool of a definition's test.
 -- Assumes nothing.
 use Prim.Native.Nat.{ℕ, zero, suc, _+_, _≤_, _<_}
 use mathlib.Core.Path.{_≡_, refl, sym, ap, _∙_}
@@ -12,6 +12,10 @@ use borrow.Author.Tests.{lt-ltb, le-ltb, le-leb, lt-leb, eq-eqb, ne-eqb}
 use Rattle.network.specs.Count.{any}
 
 pub ruleset tests = (lt-ltb, le-ltb, le-leb, lt-leb, eq-eqb, ne-eqb)
+
+pub bool-cases : (b : Bool) → (b ≡ true) ⊎ (b ≡ false)
+bool-cases true = inl refl
+bool-cases false = inr refl
 
 pub and-parts : (x y : Bool) → (x && y) ≡ true → (x ≡ true) × (y ≡ true)
 and-parts true y e = (refl, e)

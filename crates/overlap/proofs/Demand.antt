@@ -9,7 +9,7 @@ use mathlib.Core.List.{List, [], _∷_, _++_}
 use native.Mathlib.Decide.{ℕ-discrete, decLt}
 use native.Mathlib.Nat.{mul-le-mul-left}
 use native.Mathlib.Omega.{arith}
-use lib.Dec.{eqb, leb, ltb}
+use lib.Dec.{eqb}
 use lib.ListN.{length, getD, set, length-set, replicate}
 use lib.Seq.{getD-set-same, getD-set-other}
 use borrow.Author.Tests.{eq-eqb, ne-eqb, lt-leb, le-ltb, ltb-false}
@@ -18,7 +18,6 @@ use Rattle.network.specs.Network.{Network, nodeCount}
 use Rattle.network.specs.Accepted.{Accepted}
 use Rattle.network.specs.Check.{networkNumber}
 use Rattle.network.specs.Rows.{rowsChanged}
-use Rattle.network.specs.Answers.{answered}
 use Rattle.network.proofs.Tests.{or-parts, any-none, none-any}
 use Rattle.network.proofs.NumberZero.{number-zero}
 use Rattle.rows.specs.Flat.{Sized, IsTable}

@@ -3,7 +3,7 @@
 -- Assumes nothing.
 use Prim.Native.Nat.{ℕ, _≤_}
 use mathlib.Core.Path.{_≡_, refl}
-use mathlib.Core.Bool.{true, not}
+use mathlib.Core.Bool.{not}
 use mathlib.Core.Logic.{_≢_, inl, inr}
 use mathlib.Core.List.{List, [], _∷_}
 use native.Mathlib.Decide.{ℕ-discrete}
@@ -18,7 +18,7 @@ use Rattle.network.specs.Points.{isNearer}
 use Rattle.network.specs.Nearest.{insert, byDistance, nearest}
 use Rattle.network.specs.Rows.{row, sameRow, tableIds, tableDistances, rowsChanged}
 use Rattle.network.specs.Cases.{roads, points}
-use Rattle.network.proofs.Counts.{count-mono, count-all}
+use Rattle.network.proofs.Counts.{count-few}
 use Rattle.rows.proofs.Laid.{table-sized}
 use Rattle.overlap.specs.declared.updated.Kind.{Kind}
 use Rattle.overlap.specs.declared.updated.Kind.the-variants.{Insert, Remove}
@@ -33,7 +33,7 @@ use Rattle.overlap.proofs.Demand.{demand}
 -- no more rows change than there are
 changed-most : (g : Network) (P Q : List ℕ) (K : ℕ) → rowsChanged g P Q K ≤ nodeCount g
 unfolding rowsChanged
-changed-most g P Q K = omega (arith, count-mono (λ i. not (sameRow (row g P K i) (row g Q K i))) (λ _. true) (nodeCount g) (λ x h a. refl), count-all (nodeCount g))
+changed-most g P Q K = count-few (λ i. not (sameRow (row g P K i) (row g Q K i))) (nodeCount g)
 
 -- what a call may leave
 record Leaves (kind : Kind) (g : Network) (node K : ℕ) (old : Arrays) : Type 0 where

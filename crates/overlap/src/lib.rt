@@ -3,7 +3,7 @@ ghost use mathlib.Core.Path.{_≡_};
 ghost use Rattle.network.specs.Network.{network};
 ghost use Rattle.network.specs.Check.{networkNumber};
 ghost use Rattle.overlap.specs.Distances.{distancesOutcome};
-ghost use Rattle.overlap.specs.Nearest.{nearestOutcome, foundListing};
+ghost use Rattle.overlap.specs.Nearest.{nearestOutcome};
 ghost use Rattle.overlap.specs.Verify.{verifyOutcome, ruleVerdict};
 ghost use Rattle.overlap.specs.Eager.{eagerOutcome};
 ghost use Rattle.overlap.specs.Lazy.{lazyOutcome};

@@ -8,15 +8,18 @@ use mathlib.Core.Logic.{_≢_, ⊎-elim}
 use mathlib.Core.List.{List}
 use native.Mathlib.Decide.{ℕ-discrete, decLt}
 use native.Mathlib.Omega.{arith}
-use lib.ListN.{length, getD, set, take, drop, length-set, length-drop, List·getD-eq-default}
-use lib.Seq.{getD-set-same, getD-set-other, getD-take, getD-drop, length-take-le}
+use lib.ListN.{length, getD, set, length-set}
+use lib.Seq.{getD-set-same, getD-set-other}
 use borrow.Author.Tests.{eqb-true, eq-eqb}
+use borrow.Rule.Slice.PartMut.{midOf, mid-len}
 use Rattle.network.specs.Network.{Network, nodeCount}
 use Rattle.network.specs.Accepted.{Accepted}
 use Rattle.network.specs.Walk.{Walk}
 use Rattle.network.specs.Distance.{NONE, dist, Upto}
 use Rattle.network.specs.Points.{marked, isListed}
 use Rattle.network.specs.Rows.{tableDistances}
+use Rattle.network.proofs.Lends.{mid-at, row-fits}
+use Rattle.network.proofs.Rank.{marked-inside}
 use Rattle.expansion.specs.Area.{Wiped}
 use Rattle.searches.specs.Flags.{idsBase, Flags, Looked}
 use Rattle.expansion.proofs.Stopping.{kept-same}
@@ -24,26 +27,11 @@ use Rattle.searches.proofs.Listed.{listed-parts}
 use Rattle.searches.proofs.FlagLaws.{listed-verified, verified-listed, changed-grows, changed-flags}
 use Rattle.rows.specs.Flat.{IsTable}
 use Rattle.query.specs.Query.{Grown, CanDecide, Decided, CanVerify, Verified, CanVerifyRow, Ways, ToldAll, RowVerified, CanLook, LookedLeft}
-use Rattle.rows.proofs.Laid.{row-fits}
 use Rattle.query.proofs.RowNearest.{listed-at-once, row-count, row-stands, row-way}
 
 -- part of an array: `&xs[a..e]`
 abbrev pub part : ℕ → ℕ → List ℕ → List ℕ
-part a e xs = take (e - a) (drop a xs)
-
-pub part-at : (a e : ℕ) (xs : List ℕ) (i : ℕ) → a + i < e → getD (part a e xs) i 0 ≡ getD xs (a + i) 0
-part-at a e xs i h = getD-take (e - a) (drop a xs) i 0 (omega arith) ∙ getD-drop a xs i 0
-
-pub part-length : (a e : ℕ) (xs : List ℕ) → e ≤ length xs → length (part a e xs) ≡ e - a
-part-length a e xs h = length-take-le (e - a) (drop a xs) (omega (arith, length-drop a xs))
-
--- a point is a node
-pub point-inside : (P : List ℕ) {n : ℕ} → length P ≡ n → (p : ℕ) → getD P p 0 ≡ 1 → p < n
-point-inside P {n} e p m =
-    elim (decLt p n) [
-      | yes h ↦ h
-      | no h ↦ let l : length P ≤ p = omega arith in absurd (omega (arith, List·getD-eq-default P 0 l))
-    ]
+part a e xs = midOf a (e - a) xs
 
 -- nothing was expanded
 pub unwiped : {g : Network} {P others xs : List ℕ} {p q k : ℕ} → CanDecide g P others xs p q k → Wiped xs xs (idsBase g)
@@ -76,7 +64,7 @@ module _ {g : Network} {P dists : List ℕ} {q k K : ℕ} {xs : List ℕ} (c : C
       }
 
   pub verified-beyond : (p sum : ℕ) → nodeCount g ≤ p → Verified g P dists q k K xs xs p sum
-  verified-beyond p sum h = verified-none p sum (λ m. omega (arith, point-inside P (c .asked .points) p m))
+  verified-beyond p sum h = verified-none p sum (λ m. omega (arith, marked-inside P p (eq-eqb (getD P p 0) 1 m), c .asked .points))
 
   module _ (p sum : ℕ) (inside : p < nodeCount g) where
     -- it was verified before
@@ -103,14 +91,14 @@ module _ {g : Network} {P dists : List ℕ} {q k K : ℕ} {xs : List ℕ} (c : C
                 points = c .asked .points;
               };
           some = c .asked .some;
-          few = omega (arith, part-length (p * K + 1) (p * K + K) dists row-inside, c .asked .few);
+          few = omega (arith, mid-len (p * K + 1) (p * K + K) dists row-inside, c .asked .few);
         }
 
     -- the k-th other point stands at place k
     kth : getD (part (p * K + 1) (p * K + K) dists) (k - 1) 0 ≡ getD dists (p * K + k) 0
     kth =
         let s : p * K + 1 + (k - 1) ≡ p * K + k = omega (arith, c .asked .some) in
-        part-at (p * K + 1) (p * K + K) dists (k - 1) (omega (arith, c .asked .some, c .asked .few)) ∙ ap (λ (j : ℕ). getD dists j 0) s
+        mid-at (p * K + 1) ((p * K + K) - (p * K + 1)) dists (k - 1) (omega (arith, c .asked .some, c .asked .few)) ∙ ap (λ (j : ℕ). getD dists j 0) s
 
     module _ (mark : getD P p 0 ≡ 1) where
       marked-p : marked P p ≡ true
@@ -232,8 +220,7 @@ module _ {g : Network} {P dists : List ℕ} {q k K : ℕ} {xs zs ws : List ℕ} 
                     | yes s ↦ rw s (t .told (rw s at b))
                     | no n ↦
                         v .grown .grows (getD zs j 0)
-                        (point-inside P (c .verify .asked .points) (getD zs j 0)
-                        (eqb-true (getD P (getD zs j 0) 0) 1 (listed-parts g P q k (getD zs j 0) .0 b .mark)))
+                        (omega (arith, marked-inside P (getD zs j 0) (listed-parts g P q k (getD zs j 0) .0 b .mark), c .verify .asked .points))
                         (o .told j (omega arith) b)
                   ];
             }
@@ -254,16 +241,16 @@ module _ {g : Network} {P ids dists : List ℕ} {q k K : ℕ} {xs : List ℕ} {v
   can-verify-row =
       record {
         verify = c .verify;
-        ids-row = omega (arith, part-length (v * K) (v * K + K) ids ids-inside, c .verify .asked .few);
-        dists-row = omega (arith, part-length (v * K) (v * K + K) dists dists-inside, c .verify .asked .few);
+        ids-row = omega (arith, mid-len (v * K) (v * K + K) ids ids-inside, c .verify .asked .few);
+        dists-row = omega (arith, mid-len (v * K) (v * K + K) dists dists-inside, c .verify .asked .few);
       }
 
   module _ {ys : List ℕ} {l r : ℕ} (most : l ≤ NONE) (w : RowVerified g P dists q k K xs ys (part (v * K) (v * K + K) ids) (part (v * K) (v * K + K) dists) l r) where
     id-at : (j : ℕ) → j < k → getD (part (v * K) (v * K + K) ids) j 0 ≡ getD ids (v * K + j) 0
-    id-at j h = part-at (v * K) (v * K + K) ids j (omega (arith, c .verify .asked .few))
+    id-at j h = mid-at (v * K) ((v * K + K) - v * K) ids j (omega (arith, c .verify .asked .few))
 
     dist-at : (j : ℕ) → j < k → getD (part (v * K) (v * K + K) dists) j 0 ≡ getD dists (v * K + j) 0
-    dist-at j h = part-at (v * K) (v * K + K) dists j (omega (arith, c .verify .asked .few))
+    dist-at j h = mid-at (v * K) ((v * K + K) - v * K) dists j (omega (arith, c .verify .asked .few))
 
     looked : IsTable g P K ids dists → Walk g q v l → Flags g P q k xs → Looked g P q k xs ys v l r
     looked t walk f =

@@ -14,24 +14,23 @@ use lib.ListN.{length, getD, take, drop, List·getD-eq-default}
 use lib.Seq.{getD-take, length-take-le}
 use Rattle.network.specs.Network.{Network, nodeCount, neighboursOf}
 use Rattle.network.specs.Accepted.{Accepted}
-use Rattle.network.specs.Walk.{Walk}
 use Rattle.network.specs.Distance.{dist}
 use Rattle.network.specs.Points.{isListed}
 use Rattle.network.specs.Nearest.{nearest}
 use Rattle.network.proofs.Rank.{Near}
 use Rattle.network.proofs.Rows.{nearest-length, near-listed}
-use Rattle.expansion.specs.Area.{queueBase, LabelAt, Kept, Blank, Started, Took, Emptied, CanFollow, Followed}
+use Rattle.expansion.specs.Area.{queueBase, LabelAt, Kept, Blank, Started, Took, Emptied, Followed}
 use Rattle.expansion.proofs.Search.{Leads}
-use Rattle.expansion.proofs.AreaLaws.{room, settledAs, frame-settle, label-same}
-use Rattle.expansion.proofs.AreaSearch.{label-back, took-held, took-exact, search-finished, settle-marks}
-use Rattle.expansion.proofs.Progress.{Progress, progress-start, progress-settled, took-area, took-word, took-place, took-follow, room-falls, took-fits}
-use Rattle.expansion.proofs.Beside.{Beside, beside-label-at, progress-beside, room-beside}
+use Rattle.expansion.proofs.AreaLaws.{room, settledAs, label-same}
+use Rattle.expansion.proofs.AreaSearch.{label-back, took-exact, search-finished, settle-marks}
+use Rattle.expansion.proofs.Progress.{Progress, progress-start, progress-settled, took-area, took-word, took-walk, room-falls, frame-settled}
+use Rattle.expansion.proofs.Beside.{Beside, beside-first, beside-label-at, progress-beside, room-beside}
 use Rattle.searches.specs.Flags.{idsBase, Flags, Looked}
 use Rattle.searches.specs.Eager.{isFound}
 use Rattle.searches.proofs.Beaten.{Beaten, Unbeaten, stops}
 use Rattle.searches.proofs.Finds.{Met, met-leads}
 use Rattle.searches.proofs.Answers.{listed-flagged}
-use Rattle.network.proofs.Lends.{first-size, first-part, first-after}
+use Rattle.network.proofs.Lends.{first-part}
 use Rattle.searches.proofs.LookLaws.{flags-same}
 use Rattle.searches.proofs.FlagLaws.{flag-right}
 use Rattle.expansion.proofs.Stopping.{kept-same, room-stopped, progress-stopped, took-beside}
@@ -166,9 +165,6 @@ module _ {g : Network} {P ids dists s₀ : List ℕ} {b q k K : ℕ} (c : CanExp
           inside = t .inside;
         }
 
-    walk : Walk g q v l
-    walk = e .progress .searched .held-walk v l u (took-held ok (e .progress .area) (e .progress .searched) t)
-
     module _ {zs : List ℕ} {r : ℕ} (look : LookedLeft g P ids dists q k K (take b ys) zs v l r) where
       grown : Grown g P (take b ys) zs
       grown = look .grown
@@ -177,10 +173,10 @@ module _ {g : Network} {P ids dists s₀ : List ℕ} {b q k K : ℕ} (c : CanExp
       same-old = omega (arith, grown .size, front-size, length-take-le b xs fits-old)
 
       old : Beside xs (zs ++ drop b xs) b
-      old = record { size = first-size b xs zs fits-old same-old; words = first-after b xs zs fits-old same-old }
+      old = beside-first b xs zs fits-old same-old
 
       new : Beside ys (zs ++ drop b ys) b
-      new = record { size = first-size b ys zs fits (grown .size); words = first-after b ys zs fits (grown .size) }
+      new = beside-first b ys zs fits (grown .size)
 
       set : (i : ℕ) → i < b → getD (zs ++ drop b xs) i 0 ≡ getD zs i 0
       set i h = first-part b xs zs fits-old same-old i h
@@ -189,7 +185,7 @@ module _ {g : Network} {P ids dists s₀ : List ℕ} {b q k K : ℕ} (c : CanExp
       grows p h n = rw (set (nodeCount g + p) (omega (arith, low))) (grown .grows p h (rw (front (nodeCount g + p) (omega (arith, low))) n))
 
       seen : T → Looked g P q k (take b ys) zs v l r
-      seen y = look .right y walk (flags-same (λ i h. front i (omega (arith, low))) (e .right y .flags))
+      seen y = look .right y (took-walk ok (e .progress) t) (flags-same (λ i h. front i (omega (arith, low))) (e .right y .flags))
 
       pub arrived-size : length (zs ++ drop b ys) ≡ length xs
       arrived-size = new .size ∙ t .leaves .frame .size
@@ -230,15 +226,6 @@ module _ {g : Network} {P ids dists s₀ : List ℕ} {b q k K : ℕ} (c : CanExp
 
   -- ---- The node is settled; the search stops behind it or follows its arcs.
   module _ {most : ℕ} {ys : List ℕ} {settled left l v r : ℕ} (a : Arrived (IsTable g P K ids dists) g P q k most ys b settled left l v r) where
-    pub settle-fits : (b + nodeCount g + settled < length ys) × (b + v < length ys) × (l < 4294967295)
-    settle-fits = took-fits ok (a .querying .progress) (a .took)
-
-    pub settled-few : settled < nodeCount g
-    settled-few = took-place ok (a .querying .progress) (a .took)
-
-    pub can-follow : CanFollow g (settledAs (nodeCount g) ys b settled v l) b left v l
-    can-follow = took-follow ok (a .querying .progress) (a .took)
-
     -- k points were found: the node is beaten
     many-beaten : T → k ≤ r → Beaten g P q k v
     many-beaten y h =
@@ -248,7 +235,7 @@ module _ {g : Network} {P ids dists s₀ : List ℕ} {b q k K : ℕ} (c : CanExp
 
     module _ {ws : List ℕ} (same : Kept (settledAs (nodeCount g) ys b settled v l) ws (queueBase (nodeCount g) b)) where
       word : (i : ℕ) → i < b → getD ws i 0 ≡ getD (a .before) i 0
-      word i h = same .words i (omega arith) ∙ frame-settle (nodeCount g) ys b settled v l .words i h ∙ a .took .leaves .frame .words i (omega arith)
+      word = frame-settled ok (a .querying .progress) (a .took) same .words
 
       next : {more : ℕ} → Progress g q (Follows T g P q k) (Meets T g P q k) ws b (settled + 1) more → Querying (IsTable g P K ids dists) g P q k ws b (settled + 1) more
       next p =

@@ -239,7 +239,7 @@ module _ {g : Network} (ok : Accepted g) (P : List ℕ) (p e : ℕ) (low : p < n
   unfolding othersNearer isOtherNearer isNearer
   others-none z =
       count-none (isOtherNearer g P p e) (nodeCount g)
-      (λ y a. absurd (omega (arith, ltb-true (dist g p y) e (and-parts (marked P y) _ (and-parts (not (eqb y p)) _ a .1) .1))))
+      (λ y l a. absurd (omega (arith, ltb-true (dist g p y) e (and-parts (marked P y) _ (and-parts (not (eqb y p)) _ a .1) .1))))
 
   -- no more are nearer than the k-th other point of p's row
   module _ (mark : marked P p ≡ true) {K : ℕ} {dists : List ℕ} (same : dists ≡ tableDistances g P K) (k : ℕ) (some : 1 ≤ k) (few : k < K) (h : e ≤ getD dists (p * K + k) 0) (reach : e < NONE) where

@@ -7,7 +7,7 @@ use mathlib.Core.Logic.{_≢_}
 use mathlib.Core.List.{List}
 use native.Mathlib.Omega.{arith}
 use lib.Dec.{eqb, ltb, leb}
-use lib.ListN.{length, getD, length-take, length-drop}
+use lib.ListN.{length, getD}
 use borrow.Author.Tests.{eq-eqb, ne-eqb, lt-ltb, le-ltb, le-leb, lt-leb}
 use Rattle.network.specs.Network.{Network, nodeCount, neighboursOf}
 use Rattle.network.specs.Distance.{NONE}
@@ -18,7 +18,7 @@ use Rattle.network.proofs.Ranges.{arc-at}
 use Rattle.network.proofs.NumberZero.{accepted-ranges}
 use Rattle.rows.specs.Flat.{place}
 use Rattle.rows.specs.Check.{rowPart, isEntry, holds, isWithin, endsBy, hasWithin, isPlaced, standsAmong, follows, badEntry, badPlace, comesFrom, comesOver, isOwn, isSupported, lacksOwn, asksFor, badRow, unsupported, unclosed, badNode, HasRows, CanRead}
-use Rattle.rows.proofs.Laid.{row-fits}
+use Rattle.network.proofs.Lends.{mid-length, row-fits}
 
 -- one place
 module _ (xs ys : List ℕ) (p d j : ℕ) where
@@ -106,7 +106,7 @@ module _ (xs ys : List ℕ) (j : ℕ) where
 -- the row of a neighbour
 pub row-part-length : (K i : ℕ) (xs : List ℕ) → i * K + K ≤ length xs → length (rowPart K i xs) ≡ K
 unfolding rowPart
-row-part-length K i xs h = simp (length-take, length-drop) (omega arith)
+row-part-length K i xs = mid-length (i * K) K xs
 
 module _ (K : ℕ) (ids dists : List ℕ) (c w p d : ℕ) where
   pub comes-short : d < w → false ≡ comesFrom K ids dists c w p d

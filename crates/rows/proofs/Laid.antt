@@ -5,7 +5,7 @@ use Prim.Native.Nat.{ℕ, zero, suc, _+_, _-_, _*_, _≤_, _<_}
 use mathlib.Core.Path.{_≡_, refl, sym, ap, _∙_}
 use mathlib.Core.Logic.{_≢_, _↔_, _⊎_, inl, inr, ⊎-elim}
 use mathlib.Core.List.{List, _++_}
-use native.Mathlib.Nat.{eq-or-lt-of-le, le-of-suc-le-suc, mul-le-mul-right, suc-mul, zero-mul, zero-add}
+use native.Mathlib.Nat.{eq-or-lt-of-le, le-of-suc-le-suc, suc-mul, zero-mul, zero-add}
 use native.Mathlib.Decide.{decLt}
 use native.Mathlib.Omega.{arith}
 use lib.ListN.{length, getD, take, drop, replicate, length-append, length-map, List·getD-append, List·getD-map}
@@ -15,14 +15,12 @@ use Rattle.network.specs.Accepted.{Accepted}
 use Rattle.network.specs.Distance.{NONE}
 use Rattle.network.specs.Nearest.{nearest}
 use Rattle.network.specs.Rows.{row, rowsBelow, tableIds, tableDistances}
+use Rattle.network.proofs.Lends.{row-fits}
 use Rattle.network.proofs.Rows.{row-length}
 use Rattle.rows.specs.Flat.{place, places, rowAt, Sized, IsTable, Flat}
 use Rattle.rows.proofs.Flat.{places-length, places-at, flat-iff-exact}
 
--- row i of n rows ends before they do, and two rows have no place in common
-pub row-fits : (i n K : ℕ) → i < n → i * K + K ≤ n * K
-row-fits i n K h = omega (arith, mul-le-mul-right {m = suc i} {n = n} K h, suc-mul i K)
-
+-- two rows have no place in common
 pub rows-apart : (c i j K : ℕ) → c ≢ i → j < K → (c * K + j < i * K) ⊎ (i * K + K ≤ c * K + j)
 rows-apart c i j K n h =
     elim (decLt c i) [

@@ -1,15 +1,13 @@
 -- How many nodes eager expands: the site itself, so that limit 0 always refuses, and no more than there are, so that limit 65,535 never does.
 -- Assumes nothing.
 use Prim.Native.Nat.{ℕ, _≤_, _<_}
-use mathlib.Core.Path.{refl}
-use mathlib.Core.Bool.{true}
 use mathlib.Core.List.{List}
 use native.Mathlib.Omega.{arith}
 use Rattle.network.specs.Network.{Network, nodeCount}
 use Rattle.network.specs.Accepted.{Accepted}
 use Rattle.network.specs.Walk.{here}
 use Rattle.network.specs.Points.{isExpanded, expanded}
-use Rattle.network.proofs.Counts.{count-mono, count-all, count-without}
+use Rattle.network.proofs.Counts.{count-few, count-without}
 use Rattle.searches.proofs.Listed.{own-unbeaten}
 use Rattle.searches.proofs.Answers.{come-expanded}
 
@@ -21,5 +19,4 @@ module _ {g : Network} (ok : Accepted g) (P : List ℕ) (q k : ℕ) where
 
   pub expanded-most : expanded g P q k ≤ 65535
   unfolding expanded
-  expanded-most =
-      omega (arith, count-mono (isExpanded g P q k) (λ _. true) (nodeCount g) (λ x h a. refl), count-all (nodeCount g), ok .few)
+  expanded-most = omega (arith, count-few (isExpanded g P q k) (nodeCount g), ok .few)

@@ -15,26 +15,25 @@ use lib.Seq.{getD-take, length-take-le}
 use borrow.Author.Tests.{eq-eqb, ne-eqb, eqb-false, not-true}
 use Rattle.network.specs.Network.{Network, nodeCount, neighboursOf}
 use Rattle.network.specs.Accepted.{Accepted}
-use Rattle.network.specs.Walk.{Walk}
 use Rattle.network.specs.Distance.{NONE, dist}
 use Rattle.network.specs.Count.{count}
 use Rattle.network.specs.Points.{isListed, isExpanded, expanded}
 use Rattle.network.specs.Nearest.{nearest}
-use Rattle.network.proofs.Tests.{and-parts, and-left, and-right}
+use Rattle.network.proofs.Tests.{bool-cases, and-parts, and-left, and-right}
 use Rattle.network.proofs.Counts.{count-mono, count-same, count-none, without, without-self, without-other, count-without}
 use Rattle.network.proofs.Rank.{Near}
 use Rattle.network.proofs.Rows.{nearest-length, near-listed}
 use Rattle.expansion.specs.Area.{queueBase, unsettled, LabelAt, Kept, Started, Took, Emptied, Followed}
-use Rattle.expansion.proofs.AreaLaws.{settledAs, frame-settle, label-same, label-settle, others-settle}
-use Rattle.expansion.proofs.AreaSearch.{label-back, took-held, took-exact, search-finished, settle-marks}
-use Rattle.expansion.proofs.Progress.{Progress, progress-start, progress-settled, took-area, took-word}
-use Rattle.expansion.proofs.Beside.{Beside, label-beside, beside-label-at, progress-beside}
+use Rattle.expansion.proofs.AreaLaws.{settledAs, label-same}
+use Rattle.expansion.proofs.AreaSearch.{label-back, took-exact, search-finished, settle-marks}
+use Rattle.expansion.proofs.Progress.{Progress, progress-start, progress-settled, took-area, took-word, took-walk, frame-settled, label-taken, label-others}
+use Rattle.expansion.proofs.Beside.{Beside, beside-first, label-beside, beside-label-at, progress-beside}
 use Rattle.searches.specs.Flags.{idsBase, Flags, CanLook, Looked}
 use Rattle.searches.specs.Eager.{CanExplore, isFound}
 use Rattle.searches.proofs.Beaten.{Beaten, Unbeaten, stops, goes-on, expanded-unbeaten}
 use Rattle.searches.proofs.Finds.{Met, met-leads}
 use Rattle.searches.proofs.Answers.{listed-flagged, expanded-settled, come-expanded}
-use Rattle.network.proofs.Lends.{first-size, first-part, first-after}
+use Rattle.network.proofs.Lends.{first-part}
 use Rattle.searches.proofs.FlagLaws.{flag-right}
 use Rattle.searches.proofs.LookLaws.{flags-same}
 use Rattle.expansion.proofs.Stopping.{kept-same, progress-stopped, took-beside}
@@ -71,12 +70,9 @@ module _ {g : Network} {P : List ℕ} {q k b : ℕ} {s₀ : List ℕ} (c : CanEx
         blank = λ j h m. t .frame .words j (omega arith) ∙ c .blank .zero j h;
         told = λ v l p h near a. absurd (omega (arith, h .is, word v (h .inside)));
         done =
-            omega (
-              arith,
-              count-mono (isDone g P q k xs b) (λ _. false) (nodeCount g)
-                  (λ x h a. absurd (eqb-false (getD xs (b + x) 0) 0 (not-true (unsettled xs b x) (and-parts (not (unsettled xs b x)) _ a .0)) (word x h))),
-              count-none (λ _. false) (nodeCount g) (λ x a. false≢true a),
-            );
+            sym
+            (count-none (isDone g P q k xs b) (nodeCount g)
+            (λ x h a. eqb-false (getD xs (b + x) 0) 0 (not-true (unsettled xs b x) (and-parts (not (unsettled xs b x)) _ a .0)) (word x h)));
         within = omega arith;
       }
     where
@@ -121,10 +117,10 @@ module _ {g : Network} {P : List ℕ} {q k b : ℕ} {s₀ : List ℕ} (c : CanEx
 
       -- the flags that were set, as if before the entry was taken
       pub beside-old : Beside xs (zs ++ drop b xs) b
-      beside-old = record { size = first-size b xs zs fits-old same-old; words = first-after b xs zs fits-old same-old }
+      beside-old = beside-first b xs zs fits-old same-old
 
       beside-new : Beside ys (zs ++ drop b ys) b
-      beside-new = record { size = first-size b ys zs fits (seen .size); words = first-after b ys zs fits (seen .size) }
+      beside-new = beside-first b ys zs fits (seen .size)
 
       pub looked-took : Took (nodeCount g) (zs ++ drop b xs) (zs ++ drop b ys) b len left l v u
       looked-took =
@@ -159,12 +155,11 @@ module _ {g : Network} {P : List ℕ} {q k b : ℕ} {s₀ : List ℕ} (c : CanEx
       looked-told p near a = rw (flag p (near .nearer .inside)) (seen .told p (dist g v p) (near-listed ok P v l k p near) a)
 
     -- ---- The node is settled. r points were found from it.
-    walk : Walk g q v l
-    walk = e .progress .searched .held-walk v l u (took-held ok (e .progress .area) (e .progress .searched) t)
-
     -- fewer than k: the node is expanded; k: it is beaten
     pub few-expanded : {r : ℕ} → r ≡ length (nearest g P v l k) → r < k → isExpanded g P q k v ≡ true
-    few-expanded n h = come-expanded ok P q k v walk (goes-on ok P q k v l walk (omega (arith, nearest-length g P v l k)))
+    few-expanded n h =
+        let walk = took-walk ok (e .progress) t in
+        come-expanded ok P q k v walk (goes-on ok P q k v l walk (omega (arith, nearest-length g P v l k)))
 
     pub many-beaten : {r : ℕ} → r ≡ length (nearest g P v l k) → k ≤ r → Beaten g P q k v
     many-beaten n h =
@@ -192,16 +187,13 @@ module _ {g : Network} {P : List ℕ} {q k b : ℕ} {s₀ : List ℕ} (c : CanEx
     -- ws is the area in which the node is settled, and perhaps its arcs are followed
     module _ {ws : List ℕ} (same : Kept (settledAs (nodeCount g) ys b settled v l) ws (queueBase (nodeCount g) b)) where
       front : (i : ℕ) → i < b → getD ws i 0 ≡ getD xs i 0
-      front i h = same .words i (omega arith) ∙ frame-settle (nodeCount g) ys b settled v l .words i h ∙ t .leaves .frame .words i (omega arith)
+      front = frame-settled ok (e .progress) t same .words
 
       word-here : getD ws (b + v) 0 ≡ suc l
-      word-here = label-same b same v (t .inside) ∙ label-settle (took-area ok (e .progress) t) v l (t .inside) (took-word ok (e .progress) t)
+      word-here = label-taken ok (e .progress) t same
 
       word-other : (x : ℕ) → x < nodeCount g → x ≢ v → getD ws (b + x) 0 ≡ getD xs (b + x) 0
-      word-other x h n =
-          label-same b same x h
-          ∙ others-settle (took-area ok (e .progress) t) v l (t .inside) (took-word ok (e .progress) t) x h n
-          ∙ label-same b (t .leaves .frame) x h
+      word-other x h n = label-others ok (e .progress) t same x h n ∙ label-same b (t .leaves .frame) x h
 
       done-other : (x : ℕ) → x < nodeCount g → x ≢ v → isDone g P q k ws b x ≡ isDone g P q k xs b x
       done-other x h n = ap (λ (w : ℕ). not (eqb w 0) && isExpanded g P q k x) (word-other x h n)
@@ -256,12 +248,9 @@ module _ {g : Network} {P : List ℕ} {q k b : ℕ} {s₀ : List ℕ} (c : CanEx
       -- the search stops behind the node
       pub exploring-stopped : Beaten g P q k v → Exploring g P q k limit (settledAs (nodeCount g) ys b settled v l) b (settled + 1) left counted
       exploring-stopped h =
+          let n : isExpanded g P q k v ≡ false = ⊎-elim (λ a. absurd (expanded-unbeaten g P q k v .0 a .1 h)) (λ a. a) (bool-cases (isExpanded g P q k v)) in
           next kept-same told (progress-stopped ok (e .progress) t (met-leads ok P q k (c .some)) (λ o. o h))
-          (e .done ∙ sym (count-stopped kept-same (not-expanded (isExpanded g P q k v) refl))) (e .within)
-        where
-          not-expanded : (x : Bool) → isExpanded g P q k v ≡ x → x ≡ false
-          not-expanded true a = absurd (expanded-unbeaten g P q k v .0 a .1 h)
-          not-expanded false a = refl
+          (e .done ∙ sym (count-stopped kept-same n)) (e .within)
 
       -- or counts it, and follows its arcs
       pub exploring-opened : {ws : List ℕ} {more : ℕ} → isExpanded g P q k v ≡ true → counted < limit

@@ -72,7 +72,7 @@ module _ {g : Network} (ok : Accepted g) (P : List ℕ) (q k : ℕ) (some : 1 �
       omega (
         arith,
         count-none (isNearer g P q (dist g q q)) (nodeCount g)
-            (λ x a. omega (arith, ltb-true (dist g q x) (dist g q q) (and-parts (marked P x) _ a .1))),
+            (λ x l a. omega (arith, ltb-true (dist g q x) (dist g q q) (and-parts (marked P x) _ a .1))),
       )
 
   no-others : othersNearer g P q (dist g q q) ≡ 0
@@ -80,7 +80,7 @@ module _ {g : Network} (ok : Accepted g) (P : List ℕ) (q k : ℕ) (some : 1 �
   no-others =
       let z = dist-self ok q in
       count-none (isOtherNearer g P q (dist g q q)) (nodeCount g)
-      (λ x a. omega (arith, ltb-true (dist g q x) (dist g q q) (and-parts (marked P x) _ (and-parts (not (eqb x q)) _ a .1) .1)))
+      (λ x l a. omega (arith, ltb-true (dist g q x) (dist g q q) (and-parts (marked P x) _ (and-parts (not (eqb x q)) _ a .1) .1)))
 
   -- a site that is a point is listed for itself
   pub own-listed : (isListed g P q k q ≡ true) ↔ (marked P q ≡ true)

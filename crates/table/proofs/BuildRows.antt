@@ -7,25 +7,21 @@ use mathlib.Core.Bool.{Bool}
 use mathlib.Core.List.{List}
 use native.Mathlib.Nat.{zero-add}
 use native.Mathlib.Omega.{arith}
-use lib.ListN.{length, getD, set, drop}
-use lib.Seq.{getD-take, getD-drop}
+use lib.ListN.{length, getD, set}
 use borrow.Rule.Slice.PartMut.{midOf, putMid, mid-len, put-same, set-mid-at}
+use Rattle.network.proofs.Lends.{mid-length, mid-at}
 use Rattle.rows.specs.Check.{rowPart}
 use Rattle.table.specs.Build.{Stands, HasPlace, NoPlace, HasPlaceIs, HasPlaceAtIs, Takes, Refuses, CanLook, HasPlaceAt, NoPlaceAt, CanAppend, TakesAt, RefusesAt}
 
 module _ (a e : ℕ) (xs : List ℕ) where
-  -- place j of the part
-  part-at : (j : ℕ) → j < e - a → getD (midOf a (e - a) xs) j 0 ≡ getD xs (a + j) 0
-  part-at j h = getD-take (e - a) (drop a xs) j 0 h ∙ getD-drop a xs j 0
-
   part-set : (j v : ℕ) (zs : List ℕ) → e ≤ length xs → j < e - a → zs ≡ set (midOf a (e - a) xs) j v → putMid a (e - a) xs zs ≡ set xs (a + j) v
   part-set j v zs fits h q = ap (putMid a (e - a) xs) q ∙ set-mid-at a (e - a) j xs v (omega (arith, mid-len a e xs fits))
 
   stands-part : (size p : ℕ) → size ≤ e - a → Stands (midOf a (e - a) xs) 0 size p → Stands xs a size p
-  stands-part size p h s = record { index = s .index; low = s .low; is = sym (part-at (s .index) (omega (arith, s .low))) ∙ rw (zero-add (s .index)) at (s .is) }
+  stands-part size p h s = record { index = s .index; low = s .low; is = sym (mid-at a (e - a) xs (s .index) (omega (arith, s .low))) ∙ rw (zero-add (s .index)) at (s .is) }
 
   part-stands : (size p : ℕ) → size ≤ e - a → Stands xs a size p → Stands (midOf a (e - a) xs) 0 size p
-  part-stands size p h s = record { index = s .index; low = s .low; is = rw (zero-add (s .index)) (part-at (s .index) (omega (arith, s .low)) ∙ s .is) }
+  part-stands size p h s = record { index = s .index; low = s .low; is = rw (zero-add (s .index)) (mid-at a (e - a) xs (s .index) (omega (arith, s .low)) ∙ s .is) }
 
   -- what a place for p in the part of K places from a on says of the whole
   module _ {K : ℕ} (size p : ℕ) (end : e ≡ a + K) (fits : e ≤ length xs) (short : size ≤ K) where
@@ -51,9 +47,7 @@ module _ {xs ids : List ℕ} {K i : ℕ} (look : CanLook xs ids K i) (a e w size
 -- the row of node w as `row_of` hands it out: its length, and whether it has a place for p
 pub part-size : {xs ids l : List ℕ} {K i : ℕ} → CanLook xs ids K i → (w : ℕ) → w ≡ i → l ≡ rowPart K w ids → length l ≡ K
 unfolding rowPart
-part-size {ids} {K} look w word part =
-    let e : w * K + K - w * K ≡ K = omega arith in
-    ap length part ∙ rw e at (mid-len (w * K) (w * K + K) ids (omega (arith, ap (λ (x : ℕ). x * K) word, look .ids-room)))
+part-size {ids} {K} look w word part = ap length part ∙ mid-length (w * K) K ids (omega (arith, ap (λ (x : ℕ). x * K) word, look .ids-room))
 
 pub place-look : {xs ids : List ℕ} {K i : ℕ} → CanLook xs ids K i → (w size p : ℕ) (l : List ℕ) → w ≡ i → size ≡ getD xs w 0 → l ≡ rowPart K w ids → {r : Bool}
     → HasPlaceIs l size p r → HasPlaceAtIs xs ids K i p r

@@ -14,6 +14,7 @@ use Rattle.network.specs.Accepted.{Accepted}
 use Rattle.network.specs.Walk.{step}
 use Rattle.network.specs.Distance.{NONE, dist}
 use Rattle.network.specs.Nearest.{key, Rising, Nearer}
+use Rattle.network.proofs.NodeArcs.{arc-source}
 use Rattle.network.proofs.Distances.{dist-at-most, dist-walk, dist-zero}
 use Rattle.network.proofs.Rank.{key-other}
 use Rattle.rows.specs.Exact.{Sorted, Sound, Placed, stands, full, Table}
@@ -82,10 +83,6 @@ pub record OffersOn (g : Network) (K : ℕ) (T′ : ℕ → List (ℕ × ℕ)) (
   pub old : (j q e : ℕ) → New j q e → Left j q e ⊎ OverArc g i p d j q e
   pub new : {j w : ℕ} → Arc g i j w → Served K (T′ j) p ⊎ New j p (d + w)
 
--- an arc starts at a node
-from-in : {g : Network} → Accepted g → {a b w : ℕ} → Arc g a b w → a < nodeCount g
-from-in ok r = ok .leads-in (ok .returns r)
-
 module _ {g : Network} (ok : Accepted g) {P : List ℕ} {K : ℕ} where
   -- rows that are the same
   pub building-same : {T T′ : ℕ → List (ℕ × ℕ)} {Held : ℕ → ℕ → ℕ → Type 0} {last : ℕ} → ((i : ℕ) → i < nodeCount g → T′ i ≡ T i)
@@ -96,7 +93,7 @@ module _ {g : Network} (ok : Accepted g) {P : List ℕ} {K : ℕ} where
           sorted = λ i h. rw (same i h) (b .rows .sorted i h);
           sound = λ i p d h m. b .rows .sound i p d h (rw (same i h) at m);
           source = λ i h a. rw (same i h) (b .rows .source i h a);
-          closed = λ {i} {c} r p d m. rw (same i (from-in ok r)) (b .rows .closed r p d (rw (same c (ok .leads-in r)) at m));
+          closed = λ {i} {c} r p d m. rw (same i (arc-source r)) (b .rows .closed r p d (rw (same c (ok .leads-in r)) at m));
         };
         passed = λ i h y m. b .passed i h y (rw (same i h) at m);
         ahead = b .ahead;
@@ -270,8 +267,8 @@ module _ {g : Network} (ok : Accepted g) {P : List ℕ} {K : ℕ} where
             ⊎-elim
             (λ a.
             ⊎-elim
-            (λ l. inl (new-placed j q (e + w) (from-in ok r) l))
-            (λ l. ⊎-elim (λ x. inr x) (λ x. inl (stands (omega arith) x)) (new-held j q (e + w) (from-in ok r) l))
+            (λ l. inl (new-placed j q (e + w) (arc-source r) l))
+            (λ l. ⊎-elim (λ x. inr x) (λ x. inl (stands (omega arith) x)) (new-held j q (e + w) (arc-source r) l))
             (b .rows .closed r q e a))
             (λ a. given a)
             (new-cases c (ok .leads-in r) (q, e) m)
@@ -279,7 +276,7 @@ module _ {g : Network} (ok : Accepted g) {P : List ℕ} {K : ℕ} where
             given : (c ≡ i) × (_≡_ {A = ℕ × ℕ} (q, e) (p, d)) → Placed K (T′ j) q (e + w) ⊎ New j q (e + w)
             given (x, y) =
                 rw (ap (λ (z : ℕ × ℕ). z .0) y, ap (λ (z : ℕ × ℕ). z .1) y)
-                (⊎-elim (λ s. inl (served j w (from-in ok r) s)) (λ n. inr n) (f .new (rw x at (ok .returns r))))
+                (⊎-elim (λ s. inl (served j w (arc-source r) s)) (λ n. inr n) (f .new (rw x at (ok .returns r))))
 
         pub building-taken : Building g P K T′ New (key (p, d))
         building-taken =

@@ -30,7 +30,8 @@ use Rattle.table.specs.Offer.{offerOf, OfferedBy}
 use Rattle.table.specs.Build.{Stands, NoPlaceAt, CanAppend, TakesAt, RefusesAt, CanOfferOn, Offered, SeededBy, Seeded, CanSpread}
 use Rattle.rows.proofs.Exact.{exact-row}
 use Rattle.rows.proofs.Flat.{places-length, place-in, in-place, places-padded, places-same}
-use Rattle.rows.proofs.Laid.{row-fits, rows-apart, rows-table}
+use Rattle.network.proofs.Lends.{row-fits}
+use Rattle.rows.proofs.Laid.{rows-apart, rows-table}
 use Rattle.rows.proofs.PutLaws.{places-nil}
 use Rattle.table.proofs.Building.{Offer, Building, TakenOut, RowTakes, OverArc, Served, has, filled, OffersOn, building-same, building-done, building-dropped, building-taken, offer, stands-placed, full-placed, taken-exact}
 use Rattle.table.proofs.BuildSteps.{place-or}

@@ -4,7 +4,7 @@
 -- Assumes nothing.
 use Prim.Native.Nat.{ℕ, suc, _+_, _≤_, _<_}
 use mathlib.Core.Path.{_≡_, refl, sym, ap, _∙_}
-use mathlib.Core.Bool.{Bool, true, false, decide, decide-iff, false≢true}
+use mathlib.Core.Bool.{Bool, true, false, decide, decide-iff}
 use mathlib.Core.Logic.{_≢_}
 use mathlib.Core.List.{List}
 use native.Mathlib.Decide.{ℕ-discrete}
@@ -19,20 +19,21 @@ use Rattle.network.specs.Nearest.{insert, nearest}
 use Rattle.network.specs.Rows.{row, rowsChanged}
 use Rattle.network.proofs.Counts.{count-mono, count-none, without, without-other, count-without, without-not}
 use Rattle.network.proofs.Distances.{dist-walk, dist-symmetric, dist-at-most}
+use Rattle.network.proofs.Lends.{row-fits}
 use Rattle.network.proofs.Rank.{Near}
 use Rattle.network.proofs.Rows.{row-length, row-members}
 use Rattle.network.proofs.Prefix.{near-next}
 use Rattle.expansion.specs.Area.{queueBase, Kept, Started, Took, Emptied, Followed}
 use Rattle.expansion.proofs.Search.{Leads, closed-leads}
-use Rattle.expansion.proofs.AreaLaws.{settledAs, label-same, label-settle, others-settle}
-use Rattle.expansion.proofs.AreaSearch.{took-held, took-exact, search-finished}
-use Rattle.expansion.proofs.Progress.{Progress, progress-start, progress-settled, took-area, took-word}
+use Rattle.expansion.proofs.AreaLaws.{settledAs, label-same}
+use Rattle.expansion.proofs.AreaSearch.{took-exact, search-finished}
+use Rattle.expansion.proofs.Progress.{Progress, progress-start, progress-settled, took-walk, label-taken, label-others}
 use Rattle.expansion.proofs.Stopping.{kept-same, progress-stopped}
 use Rattle.rows.specs.Flat.{rowAt, Sized, IsTable}
 use Rattle.rows.specs.Update.{Added}
 use Rattle.rows.specs.Put.{takes, HasRow, PutInRow}
 use Rattle.table.specs.Insert.{CanInsert}
-use Rattle.rows.proofs.Laid.{row-fits, table-rows, rows-table}
+use Rattle.rows.proofs.Laid.{table-rows, rows-table}
 use Rattle.rows.proofs.Update.{row-added, row-kept, near-or-not, changed-near, set-added}
 use Rattle.rows.proofs.Changed.{added-changes}
 use Rattle.rows.proofs.PutLaws.{taken-in, not-taken, takes-nearer, insert-pad}
@@ -100,11 +101,7 @@ module _ {g : Network} {P s₀ ids₀ dists₀ : List ℕ} {x K : ℕ} (c : CanI
         done = λ i v h n. absurd (n (word v h));
         counted =
             λ i b tells.
-            omega (
-              arith,
-              count-mono b (λ _. false) (nodeCount g) (λ v h a. absurd (tells .only v h a .0 (word v h))),
-              count-none (λ _. false) (nodeCount g) (λ v a. false≢true a),
-            );
+            sym (count-none b (nodeCount g) (λ v h a. tells .only v h a .0 (word v h)));
       }
     where
       word : (v : ℕ) → v < nodeCount g → getD xs (0 + v) 0 ≡ 0
@@ -122,7 +119,7 @@ module _ {g : Network} {P s₀ ids₀ dists₀ : List ℕ} {x K : ℕ} (c : CanI
     module _ {ys : List ℕ} {left l v u : ℕ} (t : Took (nodeCount g) xs ys 0 len left l v u)
         {ids′ dists′ : List ℕ} {r : Bool} (put : PutInRow ids dists ids′ dists′ K v x l r) where
       upto : Upto (dist g x v) l
-      upto = dist-walk ok (e .progress .searched .held-walk v l u (took-held ok (e .progress .area) (e .progress .searched) t))
+      upto = dist-walk ok (took-walk ok (e .progress) t)
 
       reach : dist g v x ≢ NONE
       reach = omega (arith, upto .some, dist-symmetric ok x v)
@@ -174,13 +171,11 @@ module _ {g : Network} {P s₀ ids₀ dists₀ : List ℕ} {x K : ℕ} (c : CanI
       -- ws is the area in which v is settled, and perhaps its arcs are followed
       module _ {ws : List ℕ} (same : Kept (settledAs (nodeCount g) ys 0 settled v l) ws (queueBase (nodeCount g) 0)) where
         word-here : getD ws (0 + v) 0 ≡ suc l
-        word-here = label-same 0 same v (t .inside) ∙ label-settle (took-area ok (e .progress) t) v l (t .inside) (took-word ok (e .progress) t)
+        word-here = label-taken ok (e .progress) t same
 
         word-other : (y : ℕ) → y < nodeCount g → y ≢ v → getD ws (0 + y) 0 ≡ getD xs (0 + y) 0
         word-other y h n =
-            label-same 0 same y h
-            ∙ others-settle (took-area ok (e .progress) t) v l (t .inside) (took-word ok (e .progress) t) y h n
-            ∙ label-same 0 (t .leaves .frame) y h
+            label-others ok (e .progress) t same y h n ∙ label-same 0 (t .leaves .frame) y h
 
         next : {more now : ℕ} → Progress g x (Enters g P ids₀ dists₀ x K) (Enters g P ids₀ dists₀ x K) ws 0 (settled + 1) more
             → now ≤ settled + 1 → (Was → (b : ℕ → Bool) → Tells g P ws x K b → now ≡ count b (nodeCount g))

@@ -23,7 +23,8 @@ use Rattle.network.specs.Nearest.{key, nearest, before, Nearer}
 use Rattle.network.specs.Rows.{pad, row, rowsChanged}
 use Rattle.network.proofs.Distances.{dist-walk, dist-at-most, dist-next}
 use Rattle.network.proofs.Least.{distance}
-use Rattle.network.proofs.Rank.{Near}
+use Rattle.network.proofs.Tests.{bool-cases}
+use Rattle.network.proofs.Rank.{Near, marked-inside}
 use Rattle.network.proofs.Rows.{row-members, near-listed, listed-near, nearest-source, nearest-length}
 use Rattle.network.proofs.Prefix.{near-next}
 use Rattle.network.proofs.Ranges.{arc-at, arc-place}
@@ -40,7 +41,6 @@ use Rattle.rows.proofs.Laid.{table-rows}
 use Rattle.rows.proofs.Update.{nearest-removed, row-kept}
 use Rattle.rows.proofs.Changed.{removed-changes}
 use Rattle.rows.proofs.TakeLaws.{has-member, has-some, take-absent, take-row}
-use Rattle.table.proofs.RemoveSteps.{bool-cases, marked-inside}
 use Rattle.table.proofs.Wanted.{pad-member, wanted, wants-same, wants-lacks, lacks-rank, taken-whole, short-whole}
 
 -- a row that waits behind another does so while that one is short

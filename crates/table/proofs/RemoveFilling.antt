@@ -1,7 +1,7 @@
 -- Filling under way, for a table of any contents: what waits has room, since each short row takes once at the most; and a table that is being mended
 -- stays so. What `remove` leaves.
 -- Assumes nothing.
-use Prim.Native.Nat.{ℕ, zero, suc, _+_, _-_, _*_, _≤_, _<_}
+use Prim.Native.Nat.{ℕ, zero, _+_, _-_, _*_, _≤_, _<_}
 use mathlib.Core.Path.{_≡_, refl, sym, ap, _∙_}
 use mathlib.Core.Logic.{⊎-elim}
 use mathlib.Core.Bool.{Bool, true, false}
@@ -11,9 +11,10 @@ use lib.Dec.{eqb}
 use lib.ListN.{length, getD, set, drop, replicate, length-set, length-replicate}
 use lib.Seq.{drop-set-lt, getD-drop, getD-set-same, getD-set-other}
 use borrow.Author.Tests.{ne-eqb, eqb-true}
-use Rattle.network.specs.Network.{Network, nodeCount, arcCount, startOf, neighboursOf, weightsOf}
+use Rattle.network.specs.Network.{Network, nodeCount, arcCount, neighboursOf, weightsOf}
 use Rattle.network.specs.Distance.{LONGEST}
 use Rattle.network.specs.Accepted.{Accepted}
+use Rattle.network.proofs.Rank.{marked-inside}
 use Rattle.network.proofs.Ranges.{arc-at, neighbours-length}
 use Rattle.network.proofs.NumberZero.{accepted-ranges}
 use Rattle.expansion.specs.Queue.{PoppedAt}
@@ -21,7 +22,7 @@ use Rattle.expansion.specs.Room.{degree, arcsLeft}
 use Rattle.expansion.proofs.QueueLaws.{empty-queue}
 use Rattle.expansion.proofs.Settled.{zero-blank}
 use Rattle.expansion.proofs.TagLaws.{entry-same}
-use Rattle.expansion.proofs.Room.{left-same, left-less}
+use Rattle.expansion.proofs.Room.{left-same, left-less, left-most}
 use Rattle.rows.specs.Flat.{Sized}
 use Rattle.rows.specs.Update.{Added}
 use Rattle.table.specs.Offer.{offerOf, CanOffer, OfferedBy}
@@ -30,22 +31,8 @@ use Rattle.table.specs.Remove.{CanRemove}
 use Rattle.table.specs.Updated.{UpdateLeft}
 use Rattle.rows.proofs.Laid.{rows-table}
 use Rattle.rows.proofs.Update.{set-removed}
-use Rattle.table.proofs.RemoveSteps.{bool-cases, freed-few, marked-inside, row-inside}
+use Rattle.table.proofs.RemoveSteps.{freed-few, row-inside}
 use Rattle.table.proofs.Mending.{mending-start, changed-rows, mending-end, mending-skipped, mending-taken}
-
--- no more arcs are left than there are
-module _ {g : Network} (ok : Accepted g) (t : ℕ → Bool) where
-  left-below : (n : ℕ) → n ≤ nodeCount g → arcsLeft g t n ≤ startOf g n
-  unfolding arcsLeft
-  left-below zero h = omega arith
-  left-below (suc n) h =
-      ⊎-elim
-      (λ e. rw e (omega (arith, left-below n (omega arith), ok .rising n (omega arith))))
-      (λ e. rw e (omega (arith, left-below n (omega arith), ok .rising n (omega arith))))
-      (bool-cases (t n))
-
-  left-most : arcsLeft g t (nodeCount g) ≤ arcCount g
-  left-most = omega (arith, left-below (nodeCount g) (omega arith), ok .ends)
 
 -- the first offers
 pub waiting-start : {g : Network} {Q ys zs ids dists : List ℕ} {K len : ℕ} → Accepted g → length Q ≡ nodeCount g

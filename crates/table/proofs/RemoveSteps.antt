@@ -5,19 +5,22 @@ use mathlib.Core.Path.{_≡_, refl, sym, ap, _∙_}
 use mathlib.Core.Logic.{_≢_, _⊎_, inl, inr, ⊎-elim}
 use mathlib.Core.Bool.{Bool, true, false, false≢true, true≢false}
 use mathlib.Core.List.{List, List·Memᴰ, Memᴰ·cast}
-use native.Mathlib.Decide.{ℕ-discrete, decLt}
+use native.Mathlib.Decide.{ℕ-discrete}
 use native.Mathlib.Numerals.{add-one}
 use native.Mathlib.Omega.{arith}
 use lib.ListN.{length, getD, set, take, drop, length-set, List·getD-eq-default}
-use lib.Seq.{getD-take, getD-drop, getD-set-same, getD-set-other}
-use borrow.Author.Tests.{eq-eqb, ne-eqb, eqb-true}
+use lib.Seq.{getD-set-same, getD-set-other}
+use borrow.Author.Tests.{eq-eqb, ne-eqb}
 use borrow.Rule.Slice.PartMut.{midOf, putMid, mid-len, put-same, set-mid-at}
 use Rattle.network.specs.Network.{Network, nodeCount, neighboursOf, weightsOf}
 use Rattle.network.specs.Distance.{NONE, LONGEST}
 use Rattle.network.specs.Count.{bit, count}
 use Rattle.network.specs.Nearest.{key}
 use Rattle.network.specs.Points.{marked}
-use Rattle.network.proofs.Counts.{count-mono, count-all}
+use Rattle.network.proofs.Tests.{bool-cases}
+use Rattle.network.proofs.Counts.{count-few}
+use Rattle.network.proofs.Lends.{mid-length, mid-at, row-fits}
+use Rattle.network.proofs.Rank.{marked-inside}
 use Rattle.expansion.specs.Queue.{Queue, PushedAt}
 use Rattle.rows.specs.Flat.{place, rowAt, Sized}
 use Rattle.rows.specs.Take.{takeOut, hasPoint, PointAt, TakenOutOfRow}
@@ -25,13 +28,8 @@ use Rattle.table.specs.Candidate.{Fits, Better, Gives, BestOfRow, Fit, G
 use Rattle.table.specs.Offer.{offerOf, arcOffer, OfferedBy}
 use Rattle.table.specs.Mend.{isShort, Freed, SeedOf, Seeded, PutLast, CanTakeIn, TakenIn, Offered}
 use Rattle.rows.proofs.Flat.{place-in, in-place}
-use Rattle.rows.proofs.Laid.{row-fits}
 use Rattle.rows.proofs.Frame.{row-width, row-long, set-other, set-row}
 use Rattle.rows.proofs.TakeLaws.{has-member, has-some}
-
-pub bool-cases : (b : Bool) → (b ≡ true) ⊎ (b ≡ false)
-bool-cases true = inl refl
-bool-cases false = inr refl
 
 count-zero : (t : ℕ → Bool) → count t 0 ≡ 0
 unfolding count
@@ -115,17 +113,9 @@ module _ {xs ys ids dists ids′ dists′ ids″ dists″ : List ℕ} {K x i cha
       }
 
 pub freed-few : {xs ys ids dists ids′ dists′ : List ℕ} {K x i changed : ℕ} → Freed xs ys ids dists ids′ dists′ K x i changed → changed ≤ i
-freed-few {ids} {dists} {K} {x} {i} f =
-    omega (arith, f .counted, count-mono (λ j. hasPoint x (rowAt ids dists K j)) (λ _. true) i (λ j h e. refl), count-all i)
+freed-few {ids} {dists} {K} {x} {i} f = omega (arith, f .counted, count-few (λ j. hasPoint x (rowAt ids dists K j)) i)
 
 -- ---- is_marked: a number that is no node has no mark.
-pub marked-inside : (P : List ℕ) (p : ℕ) → marked P p ≡ true → p < length P
-marked-inside P p e =
-    elim (decLt p (length P)) [
-      | yes l ↦ l
-      | no n ↦ absurd (omega (arith, eqb-true (getD P p 0) 1 e, List·getD-eq-default P 0 {n = p} (omega arith)))
-    ]
-
 pub unmarked-outside : (P : List ℕ) (p : ℕ) → length P ≤ p → marked P p ≡ false
 unmarked-outside P p h = ne-eqb (getD P p 0) 1 (omega (arith, List·getD-eq-default P 0 {n = p} h))
 
@@ -178,19 +168,14 @@ best-more {P} {own} {ids} {dists} {w} {j} {best} {r} {q} f b =
     }
 
 -- ---- candidate: the rows of the neighbours by the arcs before place j are tried. A row is lent as the part of both arrays that it is.
-part-at : (xs : List ℕ) (a K j : ℕ) → j < K → getD (take K (drop a xs)) j 0 ≡ getD xs (a + j) 0
-part-at xs a K j h = getD-take K (drop a xs) j 0 h ∙ getD-drop a xs j 0
-
 module _ (P ids dists : List ℕ) (K i : ℕ) (fits : i * K + K ≤ length ids) where
   part-long : length (take K (drop (i * K) ids)) ≡ K
-  part-long =
-      let q : (i * K + K) - i * K ≡ K = omega arith in
-      rw q at (mid-len (i * K) (i * K + K) ids fits)
+  part-long = mid-length (i * K) K ids fits
 
   lacks-part : (p : ℕ) → hasPoint p (rowAt ids dists K i) ≡ false → (j : ℕ) → j < length (take K (drop (i * K) ids)) → getD (take K (drop (i * K) ids)) j 0 ≢ p
   lacks-part p e j h q =
       let l : j < K = omega (arith, part-long) in
-      let s : getD ids (i * K + j) 0 ≡ p = sym (part-at ids (i * K) K j l) ∙ q in
+      let s : getD ids (i * K + j) 0 ≡ p = sym (mid-at (i * K) K ids j l) ∙ q in
       false≢true (sym e ∙ has-member p (getD dists (i * K + j) 0) (rowAt ids dists K i) (Memᴰ·cast (λ k. (sym s k, getD dists (i * K + j) 0)) (place-in ids dists (i * K) K j l)))
 
   part-lacks : (p : ℕ) → ((j : ℕ) → j < length (take K (drop (i * K) ids)) → getD (take K (drop (i * K) ids)) j 0 ≢ p) → hasPoint p (rowAt ids dists K i) ≡ false
@@ -199,7 +184,7 @@ module _ (P ids dists : List ℕ) (K i : ℕ) (fits : i * K + K ≤ length ids) 
       (λ e.
       let m = has-some p (rowAt ids dists K i) e in
       let a = in-place ids dists (i * K) K (p, m .far) (m .mem) in
-      absurd (n (a .index) (omega (arith, a .low, part-long)) (part-at ids (i * K) K (a .index) (a .low) ∙ sym (ap (λ (x : ℕ × ℕ). x .0) (a .is)))))
+      absurd (n (a .index) (omega (arith, a .low, part-long)) (mid-at (i * K) K ids (a .index) (a .low) ∙ sym (ap (λ (x : ℕ × ℕ). x .0) (a .is)))))
       (λ e. e)
       (bool-cases (hasPoint p (rowAt ids dists K i)))
 
@@ -254,16 +239,16 @@ module _ {g : Network} {P ids dists : List ℕ} {K i : ℕ} (sized : Sized g K i
       here : (p e : ℕ) → List·Memᴰ (p, e) (rowAt ids dists K (getD (neighboursOf g i) j 0)) → Fit P (rowAt ids dists K i) p e → key q ≤ key (p, e + getD (weightsOf g i) j 0)
       here p e m fit =
           let a = in-place ids dists (getD (neighboursOf g i) j 0 * K) K (p, e) m in
-          let u = part-at ids (getD (neighboursOf g i) j 0 * K) K (a .index) (a .low) ∙ sym (ap (λ (x : ℕ × ℕ). x .0) (a .is)) in
-          let v = part-at dists (getD (neighboursOf g i) j 0 * K) K (a .index) (a .low) ∙ sym (ap (λ (x : ℕ × ℕ). x .1) (a .is)) in
+          let u = mid-at (getD (neighboursOf g i) j 0 * K) K ids (a .index) (a .low) ∙ sym (ap (λ (x : ℕ × ℕ). x .0) (a .is)) in
+          let v = mid-at (getD (neighboursOf g i) j 0 * K) K dists (a .index) (a .low) ∙ sym (ap (λ (x : ℕ × ℕ). x .1) (a .is)) in
           let w = b .least (a .index) (a .low) (rw (u, v) (fit-fits P ids dists K i fits fit)) in
           omega (arith, w, u, v)
 
       given : Gives P (take K (drop (i * K) ids)) (take K (drop (getD (neighboursOf g i) j 0 * K) ids)) (take K (drop (getD (neighboursOf g i) j 0 * K) dists)) (getD (weightsOf g i) j 0) K q
           → GivesOver g P ids dists K i (j + 1) q
       given s =
-          let u = part-at ids (getD (neighboursOf g i) j 0 * K) K (s .index) (s .low) in
-          let v = part-at dists (getD (neighboursOf g i) j 0 * K) K (s .index) (s .low) in
+          let u = mid-at (getD (neighboursOf g i) j 0 * K) K ids (s .index) (s .low) in
+          let v = mid-at (getD (neighboursOf g i) j 0 * K) K dists (s .index) (s .low) in
           record {
             place = j;
             low = omega arith;

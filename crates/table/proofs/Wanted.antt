@@ -25,7 +25,7 @@ use Rattle.network.proofs.Rows.{by-below, by-all, by-only, all-rising, nearest-
 use Rattle.rows.specs.Take.{hasPoint}
 use Rattle.table.specs.Mend.{Wants}
 use Rattle.rows.proofs.TakeLaws.{has-member, has-some}
-use Rattle.table.proofs.RemoveSteps.{bool-cases}
+use Rattle.network.proofs.Tests.{bool-cases}
 
 -- ---- Rising lists: how many are below.
 below-mono : (k l : ℕ) (xs : List (ℕ × ℕ)) → k ≤ l → below k xs ≤ below l xs

@@ -114,7 +114,7 @@ loop-again c =
     let t = o .before .before .before .before .before .before .before in
     let l = t .before .before .before .before .before .before in
     let ok = start-of l .pre .accepted in
-    (kept-trans (l .loop .inv .0) (frame-settled ok (l .loop .inv .1) (took t) (all-leads ok _) (followed o)), progress-settled ok (l .loop .inv .1) (took t) (all-leads ok _) (followed o))
+    (kept-trans (l .loop .inv .0) (frame-settled ok (l .loop .inv .1) (took t) (followed o .frame)), progress-settled ok (l .loop .inv .1) (took t) (all-leads ok _) (followed o))
 
 pub settle-all-spec : {M : Type 1} → statement M
 settle-all-spec =

@@ -175,7 +175,7 @@ loop-again c =
     let t = taken-of o in
     let l = loop-of t in
     let ok = start-of l .pre .expand .accepted in (
-      beside m .size ∙ frame-settled ok (l .loop .inv .1) (took t) (all-leads ok _) (followed o) .size ∙ l .loop .inv .0,
+      beside m .size ∙ frame-settled ok (l .loop .inv .1) (took t) (followed o .frame) .size ∙ l .loop .inv .0,
       progress-beside (beside m) ok (progress-settled ok (l .loop .inv .1) (took t) (all-leads ok _) (followed o)),
       finding-noted ok (l .loop .inv .1) (l .loop .inv .2) (took t) (followed o) (near o) (place t) (m .note .ensures),
     )

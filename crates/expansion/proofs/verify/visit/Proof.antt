@@ -197,7 +197,7 @@ loop-again c =
     let ok = accepted l in
     let e = l .loop .inv .1 in
     let r = o .before .before .before .before .before .before .before in (
-      kept-trans (l .loop .inv .0) (frame-settled ok e (took t) (all-leads ok _) (followed o)),
+      kept-trans (l .loop .inv .0) (frame-settled ok e (took t) (followed o .frame)),
       progress-settled ok e (took t) (all-leads ok _) (followed o),
       counted-next ok e (took t) (start-of l .pre .inside) (eqb-false (t .taken .given .0 .1 .0) (start-of l .args .q) (r .before .if2 .left)) (counted d) (followed o)
           (came-label ok e (took t) (start-of l .pre .inside) (l .loop .inv .2) (d .come-to .ensures)) (r .counts .ensures),

@@ -10,8 +10,8 @@ use borrow.Author.Tests.{leb-true}
 use Rattle.network.specs.Network.{Network, network, nodeCount, neighboursOf}
 use Rattle.expansion.specs.Area.{Took, Followed}
 use Rattle.expansion.proofs.AreaLaws.{room, settledAs}
-use Rattle.expansion.proofs.Progress.{progress-nodes}
-use Rattle.lazy_searches.proofs.LazySearch.{room-dropped, settle-fits, settled-few, can-follow, room-left, room-followed}
+use Rattle.expansion.proofs.Progress.{progress-nodes, took-place, took-fits, took-follow, room-taken}
+use Rattle.lazy_searches.proofs.LazySearch.{room-left, room-followed}
 use Rattle.lazy_searches.proofs.Lazily.{Lazily, Arriving, low, lazily-start, parent-inside, node-fits, lazily-dropped, can-discover, discovered, lazily-stopped, lazily-opened, lazily-listed}
 use borrow.Author.Needs.{needs}
 use Rattle.lazy_searches.proofs.lazy.explore.Statement.{statement}
@@ -127,7 +127,7 @@ loop-less : tie.Need-loop-less Inv-loop μ-loop
 loop-less c =
     let k = taken-of (c .before) in
     let l = loop-of k in
-    room-dropped (start-of l .pre .accepted) (low (start-of l .pre)) (l .loop .inv .1 .searched) (took k)
+    room-taken (start-of l .pre .accepted) (l .loop .inv .1 .searched .progress) (took k)
 
 loop-again : tie.Need-loop-again Inv-loop μ-loop
 loop-again c =
@@ -147,7 +147,7 @@ loop-less-2 : tie.Need-loop-less-2 Inv-loop μ-loop
 loop-less-2 c =
     let k = taken-of (node-of (c .before)) in
     let l = loop-of k in
-    room-dropped (start-of l .pre .accepted) (low (start-of l .pre)) (l .loop .inv .1 .searched) (took k)
+    room-taken (start-of l .pre .accepted) (l .loop .inv .1 .searched .progress) (took k)
 
 loop-again-2 : tie.Need-loop-again-2 Inv-loop μ-loop
 loop-again-2 c =
@@ -167,20 +167,20 @@ settle-requires : tie.Need-settle-requires Inv-loop μ-loop
 settle-requires c κs =
     let d = c .before .before .before in
     let p = start-of (loop-of (taken-at d)) .pre in
-    settle-fits (p .accepted) (low p) (arriving d .arrived)
+    took-fits (p .accepted) (arriving d .arrived .progress) (arriving d .arrived .took)
 
 add-settled : tie.Need-add-settled Inv-loop μ-loop
 add-settled c =
     let d = discover-of (c .before .before) in
     let p = start-of (loop-of (taken-at d)) .pre in
-    record { fits = omega (arith, settled-few (p .accepted) (low p) (arriving d .arrived), p .accepted .few) }
+    record { fits = omega (arith, took-place (p .accepted) (arriving d .arrived .progress) (arriving d .arrived .took), p .accepted .few) }
 
 is-closed-requires-3 : tie.Need-is-closed-requires-3 Inv-loop μ-loop
 is-closed-requires-3 c κs =
     let s = c .before .before .before in
     let d = discover-of s in
     let p = start-of (loop-of (taken-at d)) .pre in
-    rw (s .settle .ensures) (simp length-set (omega (arith, settle-fits (p .accepted) (low p) (arriving d .arrived) .1)))
+    rw (s .settle .ensures) (simp length-set (omega (arith, took-fits (p .accepted) (arriving d .arrived .progress) (arriving d .arrived .took) .1)))
 
 loop-less-3 : tie.Need-loop-less-3 Inv-loop μ-loop
 loop-less-3 c =
@@ -204,7 +204,7 @@ open-requires c κs =
     let s = settle-of (c .before .before) in
     let d = discover-of s in
     let p = start-of (loop-of (taken-at d)) .pre in
-    rw (s .settle .ensures) (can-follow (p .accepted) (low p) (arriving d .arrived))
+    rw (s .settle .ensures) (took-follow (p .accepted) (arriving d .arrived .progress) (arriving d .arrived .took))
 
 loop-less-4 : tie.Need-loop-less-4 Inv-loop μ-loop
 loop-less-4 c =

@@ -10,8 +10,8 @@ use lib.Seq.{length-take-le}
 use Rattle.network.specs.Network.{Network, network, nodeCount, neighboursOf}
 use Rattle.expansion.specs.Area.{Took, Followed}
 use Rattle.expansion.proofs.AreaLaws.{room, settledAs, frame-settle}
-use Rattle.expansion.proofs.Progress.{progress-nodes}
-use Rattle.lazy_searches.proofs.LazySearch.{settle-fits, settled-few, can-follow, room-left, room-followed}
+use Rattle.expansion.proofs.Progress.{progress-nodes, took-place, took-fits, took-follow}
+use Rattle.lazy_searches.proofs.LazySearch.{room-left, room-followed}
 use Rattle.lazy_searches.proofs.LazyEpLaws.{Extending, Coming, flags-low, extending-start, can-advance, advanced-size, can-take-back, extending-dropped, room-back, fits-on, can-discover, coming, come-size, can-close, extending-stopped, extending-opened, extended-listed}
 use borrow.Author.Needs.{needs}
 use Rattle.lazy_searches.proofs.lazy_ep.settle_found.Statement.{statement}
@@ -189,13 +189,13 @@ settle-requires : tie.Need-settle-requires Inv-loop μ-loop
 settle-requires c κs =
     let d = c .before .before .before in
     let p = start-of (loop-of (taken-of (advance-of (back-of d)))) .pre in
-    settle-fits (p .accepted) (flags-low p) (come d .arrived)
+    took-fits (p .accepted) (come d .arrived .progress) (come d .arrived .took)
 
 add-settled : tie.Need-add-settled Inv-loop μ-loop
 add-settled c =
     let d = discover-of (c .before .before) in
     let p = start-of (loop-of (taken-of (advance-of (back-of d)))) .pre in
-    record { fits = omega (arith, settled-few (p .accepted) (flags-low p) (come d .arrived), p .accepted .few) }
+    record { fits = omega (arith, took-place (p .accepted) (come d .arrived .progress) (come d .arrived .took), p .accepted .few) }
 
 closed-requires : tie.Need-closed-requires Inv-loop μ-loop
 closed-requires c κs =
@@ -225,7 +225,7 @@ open-requires c κs =
     let s = settle-of (c .before .before) in
     let d = discover-of s in
     let p = start-of (loop-of (taken-of (advance-of (back-of d)))) .pre in
-    rw (s .settle .ensures) (can-follow (p .accepted) (flags-low p) (come d .arrived))
+    rw (s .settle .ensures) (took-follow (p .accepted) (come d .arrived .progress) (come d .arrived .took))
 
 loop-less-3 : tie.Need-loop-less-3 Inv-loop μ-loop
 loop-less-3 c =

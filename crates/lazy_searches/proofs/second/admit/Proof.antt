@@ -6,7 +6,7 @@ use lib.ListN.{length-set}
 use native.Mathlib.Omega.{arith}
 use Rattle.network.specs.Network.{Network, network, nodeCount}
 use Rattle.lazy_searches.specs.Second.{wordsBase, PlaceFor}
-use Rattle.lazy_searches.proofs.RowLaws.{row-end}
+use Rattle.network.proofs.Lends.{row-fits}
 use Rattle.lazy_searches.proofs.SecondLaws.{taken-second, admitted, admitted-not}
 use borrow.Author.Needs.{needs}
 use Rattle.lazy_searches.proofs.second.admit.Statement.{statement}
@@ -20,7 +20,7 @@ G s = network (s .args .starts .now) (s .args .neighbours .now) (s .args .weight
 
 -- the node's row ends before the queue
 row : (w : tie.After-wide) → w .wide .result * start-of w .args .k + start-of w .args .k ≤ nodeCount (G (start-of w)) * start-of w .args .k
-row w = row-end (nodeCount (G (start-of w))) (start-of w .args .k) (w .wide .result) (omega (arith, w .wide .ensures, start-of w .pre .inside))
+row w = row-fits (w .wide .result) (nodeCount (G (start-of w))) (start-of w .args .k) (omega (arith, w .wide .ensures, start-of w .pre .inside))
 
 -- the place that was found
 found : (p : tie.After-place-for)

@@ -7,7 +7,7 @@ use lib.ListN.{getD}
 use native.Mathlib.Decide.{ℕ-discrete}
 use native.Mathlib.Omega.{arith}
 use Rattle.expansion.specs.Expand.{wordDistance}
-use Rattle.lazy_searches.proofs.RowLaws.{row-end}
+use Rattle.network.proofs.Lends.{row-fits}
 use borrow.Author.Needs.{needs}
 use Rattle.lazy_searches.proofs.second.closed.Statement.{statement}
 use Rattle.lazy_searches.proofs.second.closed.Tie as tie
@@ -23,7 +23,7 @@ start-of w = w .before .before
 
 -- the node's row ends before the queue
 row : (w : tie.After-wide Inv-loop μ-loop) → w .wide .result * start-of w .args .k + start-of w .args .k ≤ start-of w .args .n * start-of w .args .k
-row w = row-end (start-of w .args .n) (start-of w .args .k) (w .wide .result) (omega (arith, w .wide .ensures, start-of w .pre .1))
+row w = row-fits (w .wide .result) (start-of w .args .n) (start-of w .args .k) (omega (arith, w .wide .ensures, start-of w .pre .1))
 
 mul-words : tie.Need-mul-words Inv-loop μ-loop
 mul-words c = search needs

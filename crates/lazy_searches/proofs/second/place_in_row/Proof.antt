@@ -2,7 +2,7 @@
 -- Assumes nothing.
 use Prim.Native.Nat.{_+_, _*_, _≤_}
 use native.Mathlib.Omega.{arith}
-use Rattle.lazy_searches.proofs.RowLaws.{row-end}
+use Rattle.network.proofs.Lends.{row-fits}
 use borrow.Author.Needs.{needs}
 use Rattle.lazy_searches.proofs.second.place_in_row.Statement.{statement}
 use Rattle.lazy_searches.proofs.second.place_in_row.Tie as tie
@@ -12,7 +12,7 @@ start-of w = w .before .before
 
 -- the node's row ends before the queue
 row : (w : tie.After-wide) → w .wide .result * start-of w .args .k + start-of w .args .k ≤ start-of w .args .n * start-of w .args .k
-row w = row-end (start-of w .args .n) (start-of w .args .k) (w .wide .result) (omega (arith, w .wide .ensures, start-of w .pre .1))
+row w = row-fits (w .wide .result) (start-of w .args .n) (start-of w .args .k) (omega (arith, w .wide .ensures, start-of w .pre .1))
 
 wide-requires : tie.Need-wide-requires
 wide-requires c κs = search needs

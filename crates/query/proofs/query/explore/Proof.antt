@@ -9,9 +9,9 @@ use lib.ListN.{length, drop, length-set}
 use Rattle.network.specs.Network.{Network, network, nodeCount, neighboursOf}
 use Rattle.expansion.specs.Area.{Took, Followed}
 use Rattle.expansion.proofs.AreaLaws.{room, settledAs}
-use Rattle.expansion.proofs.Progress.{progress-nodes}
+use Rattle.expansion.proofs.Progress.{progress-nodes, took-place, took-fits, took-follow}
 use Rattle.rows.specs.Flat.{IsTable}
-use Rattle.query.proofs.Querying.{Querying, Arrived, querying-start, front-size, can-look, arrived-size, arrive, settle-fits, settled-few, can-follow, room-left, querying-stopped, room-followed, querying-opened, ended-only, ended-found}
+use Rattle.query.proofs.Querying.{Querying, Arrived, querying-start, front-size, can-look, arrived-size, arrive, room-left, querying-stopped, room-followed, querying-opened, ended-only, ended-found}
 use borrow.Author.Needs.{needs}
 use Rattle.query.proofs.query.explore.Statement.{statement}
 use Rattle.query.proofs.query.explore.Tie as tie
@@ -146,13 +146,13 @@ settle-requires : tie.Need-settle-requires Inv-loop μ-loop
 settle-requires c κs =
     let k = c .before .before .before in
     let l = loop-of (taken-of k) in
-    settle-fits (start-of l .pre) (arrived k)
+    took-fits (start-of l .pre .asked .accepted) (arrived k .querying .progress) (arrived k .took)
 
 add-settled : tie.Need-add-settled Inv-loop μ-loop
 add-settled c =
     let k = look-of (c .before .before) in
     let l = loop-of (taken-of k) in
-    record { fits = omega (arith, settled-few (start-of l .pre) (arrived k), start-of l .pre .asked .accepted .few) }
+    record { fits = omega (arith, took-place (start-of l .pre .asked .accepted) (arrived k .querying .progress) (arrived k .took), start-of l .pre .asked .accepted .few) }
 
 loop-less : tie.Need-loop-less Inv-loop μ-loop
 loop-less c =
@@ -175,7 +175,7 @@ open-requires c κs =
     let s = c .before .before .before .before in
     let k = look-of s in
     let l = loop-of (taken-of k) in
-    rw (s .settle .ensures) (can-follow (start-of l .pre) (arrived k))
+    rw (s .settle .ensures) (took-follow (start-of l .pre .asked .accepted) (arrived k .querying .progress) (arrived k .took))
 
 loop-less-2 : tie.Need-loop-less-2 Inv-loop μ-loop
 loop-less-2 c =

@@ -252,7 +252,7 @@ loop-again-2 c =
     let e = exploring k in
     let t = took-after k in
     let few = o .before .before .if3 .left in (
-      frame-settled (p .accepted) (e .progress) t (met-leads (p .accepted) _ _ _ (p .some)) (followed o) .size ∙ flags-set k .size ∙ l .loop .inv .0,
+      frame-settled (p .accepted) (e .progress) t (followed o .frame) .size ∙ flags-set k .size ∙ l .loop .inv .0,
       exploring-opened p e t (told k) (few-expanded p e t (k .look .ensures .count) few) (below s few) (followed o),
     )
 

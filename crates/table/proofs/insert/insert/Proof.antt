@@ -212,7 +212,7 @@ loop-again-2 c =
     let l = loop-of t in
     let p = start-of l .pre in (
       l .loop .inv .0,
-      frame-settled (p .expand .accepted) (l .loop .inv .2 .progress) (took t) (enters-leads p) (followed o) .size ∙ l .loop .inv .1,
+      frame-settled (p .expand .accepted) (l .loop .inv .2 .progress) (took t) (followed o .frame) .size ∙ l .loop .inv .1,
       inserting-entered p (l .loop .inv .2) (took t) (put q) (not-false _ (o .before .before .if1 .left)) (followed o),
     )
 

@@ -5,7 +5,7 @@ use mathlib.Core.Path.{_≡_, sym, _∙_}
 use mathlib.Core.Logic.{⊎-elim}
 use native.Mathlib.Omega.{arith}
 use Rattle.table.specs.Mend.{Freed}
-use Rattle.rows.proofs.Laid.{row-fits}
+use Rattle.network.proofs.Lends.{row-fits}
 use Rattle.table.proofs.RemoveSteps.{freed-none, freed-had, freed-not, freed-few}
 use borrow.Author.Needs.{needs}
 use Rattle.table.proofs.remove.free.Statement.{statement}
