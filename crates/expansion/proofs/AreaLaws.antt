@@ -20,7 +20,7 @@ use Rattle.network.proofs.Counts.{count-same, count-all, without, without-self,
 use Rattle.network.proofs.Ranges.{arc-at}
 use Rattle.network.proofs.NumberZero.{accepted-ranges}
 use Rattle.expansion.specs.Queue.{Holds, Queue}
-use Rattle.expansion.specs.Area.{queueBase, queueOf, unsettled, Entry, Stands, Area, Kept, Blank, Started, Left, PutIn, Followed}
+use Rattle.expansion.specs.Area.{queueBase, queueOf, unsettled, Entry, Stands, Area, Kept, Blank, Started, Left, PutIn, arcKey, Followed}
 use Rattle.expansion.specs.Room.{degree, arcsLeft}
 use Rattle.expansion.proofs.Room.{left-same, left-less}
 
@@ -225,7 +225,7 @@ module _ {n : ℕ} {xs : List ℕ} {b settled len : ℕ} (a : Area n xs b settle
 -- the arcs of a node that is settled at label l are followed
 module _ {g : Network} (ok : Accepted g) {xs ys : List ℕ} {b settled len more : ℕ} (a : Area (nodeCount g) xs b settled len) (v l : ℕ)
     (h : v < nodeCount g) (is : getD xs (b + v) 0 ≡ suc l) (f : Followed g xs ys b len more v l (length (neighboursOf g v))) where
-  put-in : (k : ℕ) → PutIn g v l (length (neighboursOf g v)) k → Entry (nodeCount g) settled k
+  put-in : {Puts : ℕ → Type 0} (k : ℕ) → PutIn (arcKey g v l) Puts (length (neighboursOf g v)) k → Entry (nodeCount g) settled k
   put-in k p =
       let x = arc-at (accepted-ranges ok) v h (p .place) (p .low) in
       record {
@@ -239,7 +239,7 @@ module _ {g : Network} (ok : Accepted g) {xs ys : List ℕ} {b settled len more 
       }
 
   pub area-followed : Area (nodeCount g) ys b settled more
-  area-followed = area-queue a (f .frame) (f .queue) (λ k e. ⊎-elim (λ o. a .entries k o) (λ p. put-in k p) (f .old k e))
+  area-followed = area-queue a (f .frame) (f .queue) (λ k e. ⊎-elim (λ o. a .entries k o) (λ p. put-in k p) (f .holds k .0 e))
 
 pub room-same : (g : Network) {xs ys : List ℕ} (b len : ℕ) → Kept xs ys (queueBase (nodeCount g) b) → room g ys b len ≡ room g xs b len
 room-same g {xs} {ys} b len same = ap (λ (m : ℕ). len + m) (left-same g (unsettled xs b) (unsettled ys b) (nodeCount g) (unsettled-same b same))

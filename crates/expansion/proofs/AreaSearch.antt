@@ -15,10 +15,11 @@ use Rattle.network.proofs.Ranges.{arc-at, arc-place}
 use Rattle.network.proofs.NumberZero.{accepted-ranges}
 use Rattle.expansion.specs.Queue.{Holds, keyOf}
 use Rattle.expansion.specs.Tags.{tagOf}
-use Rattle.expansion.specs.Area.{nodeOf, queueBase, queueOf, LabelAt, HeldAt, Area, Kept, Blank, Started, Took, Emptied, PutIn, Followed}
+use Rattle.expansion.specs.Area.{nodeOf, queueBase, queueOf, LabelAt, HeldAt, Area, Kept, Blank, Started, Took, Emptied, PutIn, arcKey, Followed}
 use Rattle.expansion.proofs.TagLaws.{entry-same, tag-fits, key-distance}
 use Rattle.expansion.proofs.Search.{Search, Leads, pop-exact, finished}
 use Rattle.expansion.proofs.Steps.{Outcome, waits, has-label, initial, same-settled, requeue, Marks, Along, Spreads, settle}
+use Rattle.expansion.proofs.EnteredLaws.{entered-held}
 use Rattle.expansion.proofs.AreaLaws.{settledAs, label-same, label-settle, others-settle, queue-settle}
 
 -- the search of an area
@@ -169,10 +170,11 @@ module _ {g : Network} (ok : Accepted g) {ys : List ℕ} {b settled left v : ℕ
     spreads = record { kept = kept; old = old }
       where
         kept : (x m u : ℕ) → AndOne (nodeCount g) ys b left v l p x m u → HeldAt (nodeCount g) ws b more x m u ⊎ (x ≡ v)
-        kept x m u (inl y) = inl (record { inside = y .inside; parent = y .parent; holds = f .kept (keyOf m (tagOf x u)) (queue-same _ (y .holds)) })
+        kept x m u (inl y) = inl (record { inside = y .inside; parent = y .parent; holds = f .holds (keyOf m (tagOf x u)) .1 (inl (queue-same _ (y .holds))) })
         kept x m u (inr q) = inr (q .0)
 
-        along : {x m u : ℕ} → HeldAt (nodeCount g) ws b more x m u → PutIn g v l (length (neighboursOf g v)) (keyOf m (tagOf x u)) → Along g v l x m
+        along : {x m u : ℕ} {Puts : ℕ → Type 0} → HeldAt (nodeCount g) ws b more x m u
+            → PutIn (arcKey g v l) Puts (length (neighboursOf g v)) (keyOf m (tagOf x u)) → Along g v l x m
         along {x} {m} {u} y i =
             let r = arc-at (accepted-ranges ok) v h (i .place) (i .low) in
             let q = held-same ok m (l + getD (weightsOf g v) (i .place) 0) (y .inside) (y .parent) (ok .leads-in r) (small ok h) (i .is) in
@@ -183,18 +185,18 @@ module _ {g : Network} (ok : Accepted g) {ys : List ℕ} {b settled left v : ℕ
             ⊎-elim
             (λ k. inl (inl (record { inside = y .inside; parent = y .parent; holds = rw (queue-settle a v l h new) at k })))
             (λ i. inr (along y i))
-            (f .old (keyOf m (tagOf x u)) (y .holds))
+            (f .holds (keyOf m (tagOf x u)) .0 (y .holds))
 
     arcs : (x w : ℕ) → Open v → Arc g v x w → Outcome Open Seen (LabelAt (nodeCount g) ws b) (HeldAt (nodeCount g) ws b more) x (l + w) v
     arcs x w o r =
         let i = arc-place (accepted-ranges ok) r in
         let k = ok .leads-in r in
-        ⊎-elim
-        (λ y.
-        let d = word-label {n = nodeCount g} {xs = ws} b x k (λ z. y (ap (λ (t : ℕ). getD (settledAs (nodeCount g) ys b settled v l) (b + t) 0) (i .leads) ∙ sym (label-same b (f .frame) x k) ∙ z)) in
-        has-label (d .0) (d .1))
-        (λ y. waits (record { inside = k; parent = h; holds = rw (i .leads, i .weighs) at y }))
-        (f .new (i .at) (i .low))
+        elim (ℕ-discrete (getD ws (b + x) 0) 0) [
+          | yes z ↦
+              let y = entered-held f (i .at) (i .low) (rw (i .leads) (sym (label-same b (f .frame) x k) ∙ z)) in
+              waits (record { inside = k; parent = h; holds = rw (i .leads, i .weighs) at y })
+          | no n ↦ let d = word-label {n = nodeCount g} {xs = ws} b x k n in has-label (d .0) (d .1)
+        ]
 
     pub search-settle : Searched g s Open Seen ws b more
     search-settle =

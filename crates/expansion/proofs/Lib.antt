@@ -1,11 +1,12 @@
--- The theorems of this crate, from the bottom up: the queue; the law of a search and its steps (exported for the searches); the area that holds a
--- search, what keeps it, and stopping behind a node; the three expansions.
+-- The theorems of this crate, from the bottom up: the queue; the law of a search and its steps (exported for the searches); entries put in place by
+-- place (exported for the table); the area that holds a search, what keeps it, and stopping behind a node; the three expansions.
 pub mod LentParts
 pub mod QueueLaws
 pub mod TagLaws
 pub mod Search
 pub mod Steps
 pub mod Room
+pub mod EnteredLaws
 pub mod AreaLaws
 pub mod AreaSearch
 pub mod StepLaws

@@ -8,10 +8,9 @@ use native.Mathlib.Decide.{ℕ-discrete, decLt}
 use native.Mathlib.Omega.{arith}
 use lib.ListN.{length, getD, set, length-set}
 use lib.Seq.{getD-set-same, getD-set-other, getD-drop, drop-set-lt}
-use Rattle.network.specs.Network.{Network, nodeCount, neighboursOf}
 use Rattle.expansion.specs.Queue.{Holds, Queue, PushedAt, PoppedAt, ClearedAt, keyOf}
 use Rattle.expansion.specs.Tags.{tagOf, tagNode, tagParent}
-use Rattle.expansion.specs.Area.{nodeOf, queueBase, queueOf, Area, Blank, Wiped, Started, Left, Took, Emptied, arcKey, PutIn, Followed}
+use Rattle.expansion.specs.Area.{nodeOf, queueBase, queueOf, Area, Blank, Wiped, Started, Left, Took, Emptied}
 
 -- start: a blank area has an empty queue, and one entry is put in
 pub blank-queue : {xs : List ℕ} (n b : ℕ) → Blank xs b → Queue (queueOf n xs b) 0
@@ -106,57 +105,6 @@ dropped-all {n} {b} {len} {left} {xs} {ys} d h =
       leaves = rw z at (d .leaves);
       settled = λ k o. ⊎-elim (λ (r : Holds (queueOf n ys b) left k). absurd (omega (arith, r .inside))) (λ w. w) (d .gone k o);
     }
-
--- open: the arcs before place j are followed
-module _ {g : Network} {xs : List ℕ} {b len v l : ℕ} where
-  pub followed-none : Queue (queueOf (nodeCount g) xs b) len → Followed g xs xs b len len v l 0
-  followed-none q =
-      record {
-        frame = record { size = refl; words = λ i h. refl };
-        queue = q;
-        grown = omega arith;
-        kept = λ k h. h;
-        old = λ k h. inl h;
-        new = λ j h. absurd (omega arith);
-      }
-
-  module _ {ys : List ℕ} {more j : ℕ} (f : Followed g xs ys b len more v l j) where
-    longer : {k : ℕ} → PutIn g v l j k → PutIn g v l (j + 1) k
-    longer p = record { place = p .place; low = omega (arith, p .low); is = p .is }
-
-    -- the arc at j leads to a settled node
-    pub followed-skip : getD xs (b + getD (neighboursOf g v) j 0) 0 ≢ 0 → Followed g xs ys b len more v l (j + 1)
-    followed-skip w =
-        record {
-          frame = f .frame;
-          queue = f .queue;
-          grown = omega (arith, f .grown);
-          kept = f .kept;
-          old = λ k h. ⊎-elim (λ o. inl o) (λ p. inr (longer p)) (f .old k h);
-          new = λ i h. elim (ℕ-discrete i j) [ yes e ↦ inl (rw e w) | no n ↦ f .new i (omega arith) ];
-        }
-
-    -- its entry is put in
-    pub followed-push : {zs : List ℕ} → PushedAt ys zs (queueBase (nodeCount g) b) more (arcKey g v l j) → Followed g xs zs b len (more + 1) v l (j + 1)
-    followed-push p =
-        record {
-          frame = record { size = p .size ∙ f .frame .size; words = λ i h. p .before i h ∙ f .frame .words i h };
-          queue = p .queue .queue;
-          grown = omega (arith, f .grown);
-          kept = λ k h. p .queue .holds k .1 (inl (f .kept k h));
-          old =
-              λ k h.
-              ⊎-elim
-              (λ o. ⊎-elim (λ x. inl x) (λ x. inr (longer x)) (f .old k o))
-              (λ e. inr (record { place = j; low = omega arith; is = e }))
-              (p .queue .holds k .0 h);
-          new =
-              λ i h.
-              elim (ℕ-discrete i j) [
-                | yes e ↦ inr (p .queue .holds (arcKey g v l i) .1 (inr (ap (arcKey g v l) e)))
-                | no n ↦ ⊎-elim (λ w. inl w) (λ o. inr (p .queue .holds (arcKey g v l i) .1 (inl o))) (f .new i (omega arith))
-              ];
-        }
 
 -- clear: the labels of the first i settled nodes, and their places, are 0
 pub record Later (n : ℕ) (xs : List ℕ) (b i settled v : ℕ) : Type 0 where

@@ -111,26 +111,28 @@ pub record Emptied (n : ℕ) (xs ys : List ℕ) (b len : ℕ) : Type 0 where
   pub leaves : Left n xs ys b len 0
   pub settled : (k : ℕ) → Holds (queueOf n xs b) len k → getD xs (b + nodeOf k) 0 ≢ 0
 
+-- some place before `end` puts in an entry, which has the key
+pub record PutIn (key : ℕ → ℕ) (Puts : ℕ → Type 0) (end k : ℕ) : Type 0 where
+  pub place : ℕ
+  pub low : place < end
+  pub puts : Puts place
+  pub is : k ≡ key place
+
+-- the places before `end` that put in have each put their key into the queue behind `base` words, and no other key is new; `more` is its length
+pub record Entered (base : ℕ) (xs ys : List ℕ) (len more end : ℕ) (key : ℕ → ℕ) (Puts : ℕ → Type 0) : Type 0 where
+  pub frame : Kept xs ys base
+  pub queue : Queue (drop base ys) more
+  pub grown : more ≤ len + end
+  pub holds : (k : ℕ) → Holds (drop base ys) more k ↔ (Holds (drop base xs) len k ⊎ PutIn key Puts end k)
+
 -- the entry that arc j of node v, settled at label l, puts in
 abbrev pub arcKey : Network → ℕ → ℕ → ℕ → ℕ
 arcKey g v l j = keyOf (l + getD (weightsOf g v) j 0) (tagOf (getD (neighboursOf g v) j 0) v)
 
--- some arc of v before place `end` put in the key
-pub record PutIn (g : Network) (v l end k : ℕ) : Type 0 where
-  pub place : ℕ
-  pub low : place < end
-  pub is : k ≡ arcKey g v l place
-
 -- the arcs of v before place `end` are followed: each has put in its entry, or leads to a settled node
-pub record Followed (g : Network) (xs ys : List ℕ) (b len more v l end : ℕ) : Type 0 where
-  pub frame : Kept xs ys (queueBase (nodeCount g) b)
-  pub queue : Queue (queueOf (nodeCount g) ys b) more
-  pub grown : more ≤ len + end
-  pub kept : (k : ℕ) → Holds (queueOf (nodeCount g) xs b) len k → Holds (queueOf (nodeCount g) ys b) more k
-  pub old : (k : ℕ) → Holds (queueOf (nodeCount g) ys b) more k → Holds (queueOf (nodeCount g) xs b) len k ⊎ PutIn g v l end k
-  pub new :
-      (j : ℕ) → j < end
-      → (getD xs (b + getD (neighboursOf g v) j 0) 0 ≢ 0) ⊎ Holds (queueOf (nodeCount g) ys b) more (arcKey g v l j)
+abbrev pub Followed : Network → List ℕ → List ℕ → ℕ → ℕ → ℕ → ℕ → ℕ → ℕ → Type 0
+Followed g xs ys b len more v l end =
+    Entered (queueBase (nodeCount g) b) xs ys len more end (arcKey g v l) (λ j. getD xs (b + getD (neighboursOf g v) j 0) 0 ≡ 0)
 
 -- what following the arcs of node v, settled at label l, requires: the label and the queue have room for them
 pub record CanFollow (g : Network) (xs : List ℕ) (b len v l : ℕ) : Type 0 where

@@ -3,8 +3,9 @@
 -- keep all this, and the room falls. When the queue is empty, the arrays are the table.
 -- Assumes nothing.
 use Prim.Native.Nat.{ℕ, zero, suc, _+_, _-_, _*_, _≤_, _<_}
-use mathlib.Core.Path.{_≡_, refl, sym, ap, _∙_}
-use mathlib.Core.Logic.{_≢_, _↔_, inl, inr, ⊎-elim}
+use mathlib.Core.Path.{_≡_, sym, ap, _∙_}
+use mathlib.Core.Logic.{_≢_, inl, inr, ⊎-elim}
+use mathlib.Core.Bool.{true}
 use mathlib.Core.List.{List, [], _∷_, _++_, List·Memᴰ, List·Memᴰ·not-nil, Memᴰ·cast}
 use native.Mathlib.Decide.{ℕ-discrete, decLt}
 use native.Mathlib.Nat.{add-zero}
@@ -16,18 +17,21 @@ use Rattle.network.specs.Accepted.{Accepted}
 use Rattle.network.specs.Walk.{here}
 use Rattle.network.specs.Distance.{NONE}
 use Rattle.network.specs.Nearest.{key}
+use Rattle.network.specs.Points.{marked}
 use Rattle.network.specs.Rows.{row}
 use Rattle.network.proofs.Ranges.{arc-at, arc-place, neighbours-length}
 use Rattle.network.proofs.NumberZero.{accepted-ranges}
 use Rattle.network.proofs.Least.{distance}
 use Rattle.network.proofs.Distances.{dist-walk}
 use Rattle.expansion.specs.Queue.{Holds, Queue, PoppedAt}
+use Rattle.expansion.specs.Area.{PutIn, Entered}
 use Rattle.expansion.specs.Room.{degree}
 use Rattle.expansion.proofs.TagLaws.{entry-same}
+use Rattle.expansion.proofs.EnteredLaws.{entered-held}
 use Rattle.rows.specs.Exact.{Placed}
 use Rattle.rows.specs.Flat.{place, places, rowAt, Sized, IsTable}
-use Rattle.table.specs.Offer.{offerOf, OfferedBy}
-use Rattle.table.specs.Build.{Stands, NoPlaceAt, CanAppend, TakesAt, RefusesAt, CanOfferOn, Offered, SeededBy, Seeded, CanSpread}
+use Rattle.table.specs.Offer.{offerOf, arcOffer}
+use Rattle.table.specs.Build.{Stands, NoPlaceAt, CanAppend, TakesAt, RefusesAt, CanOfferOn, Offered, Seeded, CanSpread}
 use Rattle.rows.proofs.Exact.{exact-row}
 use Rattle.rows.proofs.Flat.{places-length, place-in, in-place, places-padded, places-same}
 use Rattle.network.proofs.Lends.{row-fits}
@@ -77,24 +81,25 @@ module _ {g : Network} {P xs ys ids dists : List ℕ} {K len : ℕ} (c : CanSpre
   nodes : length P ≡ nodeCount g
   nodes = c .can .points
 
-  start-holds : (k : ℕ) → Holds (drop (nodeCount g) ys) len k ↔ SeededBy P (nodeCount g) k
-  start-holds k = rw nodes at (s .holds k)
+  seeded : Entered (nodeCount g) xs ys 0 len (nodeCount g) (λ i. offerOf i i 0) (λ i. marked P i ≡ true)
+  seeded = rw nodes at s
 
   start-word : (i : ℕ) → i < nodeCount g → getD ys i 0 ≡ 0
   start-word i h = s .frame .words i (omega (arith, nodes)) ∙ c .can .blank .zero i (omega arith)
 
   start-held : (i p d : ℕ) → HeldIn (nodeCount g) ys len i p d → Offer g P i p d
-  start-held i p d x = from (start-holds (offerOf i p d) .0 (x .holds))
+  start-held i p d x =
+      ⊎-elim (λ (h : Holds (drop (nodeCount g) xs) 0 (offerOf i p d)). absurd (omega (arith, h .inside))) from (seeded .holds (offerOf i p d) .0 (x .holds))
     where
-      from : SeededBy P (nodeCount g) (offerOf i p d) → Offer g P i p d
+      from : PutIn (λ i. offerOf i i 0) (λ i. marked P i ≡ true) (nodeCount g) (offerOf i p d) → Offer g P i p d
       from s =
           let f = c .can .accepted .few in
-          let e = entry-same d p i 0 (s .node) (s .node) (x .point) (x .node) (omega (arith, s .low)) (omega (arith, s .low)) (s .is) in
+          let e = entry-same d p i 0 (s .place) (s .place) (x .point) (x .node) (omega (arith, s .low)) (omega (arith, s .low)) (s .is) in
           record {
             node = omega (arith, s .low, e .2);
             sound = record {
               inside = omega (arith, s .low, e .1);
-              point = rw (e .1) (s .point);
+              point = rw (e .1) (s .puts);
               walk = rw (e .0, e .1, e .2) here;
             };
           }
@@ -112,7 +117,7 @@ module _ {g : Network} {P xs ys ids dists : List ℕ} {K len : ℕ} (c : CanSpre
               (record {
                 node = omega arith;
                 point = omega arith;
-                holds = start-holds (offerOf i i 0) .1 (record { node = i; low = h; point = a; is = refl });
+                holds = entered-held seeded i h a;
               });
           closed = λ r p d m. absurd (List·Memᴰ·not-nil m);
         };
@@ -140,7 +145,7 @@ module _ {g : Network} {P xs ys ids dists : List ℕ} {K len : ℕ} (c : CanSpre
             building-same (c .can .accepted)
             (λ i h. ap (places ids dists (i * K)) (start-word i h) ∙ places-nil ids dists (i * K))
             start-built;
-        left = omega (arith, s .few, nodes, free-all (c .can .accepted) K ys start-word);
+        left = omega (arith, s .grown, nodes, free-all (c .can .accepted) K ys start-word);
       }
 
 -- ---- The end.
@@ -343,7 +348,7 @@ module _ {g : Network} {P xs ys ids dists : List ℕ} {K len : ℕ} (ok : Accept
       abbrev deg : ℕ
       deg = length (neighboursOf g i)
 
-      over : (j q e : ℕ) → j < 65536 → q < 65536 → OfferedBy g i p d deg (offerOf j q e) → OverArc g i p d j q e
+      over : {Puts : ℕ → Type 0} (j q e : ℕ) → j < 65536 → q < 65536 → PutIn (arcOffer g i p d) Puts deg (offerOf j q e) → OverArc g i p d j q e
       over j q e a b y =
           let arc = arc-at (accepted-ranges ok) i popped-node (y .place) (y .low) in
           let s = entry-same e q j (d + getD (weightsOf g i) (y .place) 0) p (getD (neighboursOf g i) (y .place) 0) b a point-fits (omega (arith, ok .leads-in arc, ok .few)) (y .is) in
@@ -367,7 +372,7 @@ module _ {g : Network} {P xs ys ids dists : List ℕ} {K len : ℕ} (ok : Accept
                 λ j q e x.
                 ⊎-elim
                 (λ a. inl (record { node = x .node; point = x .point; holds = rw same-queue at a }))
-                (λ a. inr (over j q e (x .node) (x .point) (a .by)))
+                (λ a. inr (over j q e (x .node) (x .point) a))
                 (o .holds (offerOf j q e) .0 (x .holds));
             new =
                 λ {j} {w} arc.
@@ -379,16 +384,14 @@ module _ {g : Network} {P xs ys ids dists : List ℕ} {K len : ℕ} (ok : Accept
                 (record {
                   node = omega (arith, h, ok .few);
                   point = point-fits;
-                  holds =
-                      o .holds (offerOf j p (d + w)) .1
-                      (inr (record { by = record { place = y .at; low = y .low; is = omega (arith, y .leads, y .weighs) }; place = rw (y .leads) a }));
+                  holds = rw (y .leads, y .weighs) at (entered-held o (y .at) (y .low) (rw (y .leads) a));
                 }))
                 (λ a. inl (served j h a))
                 (place-or zs ids′ K j p (sizes-fit j h));
           }
 
       pub taken-less : then + freeArcs g K ws (nodeCount g) < len + freeArcs g K xs (nodeCount g)
-      taken-less = omega (arith, free-taken, arcs-of, o .few, free-same g K zs ws (nodeCount g) (λ x h. o .frame .words x h))
+      taken-less = omega (arith, free-taken, arcs-of, o .grown, free-same g K zs ws (nodeCount g) (λ x h. o .frame .words x h))
 
       pub filling-taken : Filling g P K ws ids′ dists′ then
       filling-taken =

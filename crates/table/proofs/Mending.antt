@@ -30,12 +30,14 @@ use Rattle.network.proofs.Prefix.{near-next}
 use Rattle.network.proofs.Ranges.{arc-at, arc-place}
 use Rattle.network.proofs.NumberZero.{accepted-ranges}
 use Rattle.expansion.specs.Queue.{Holds, PoppedAt}
+use Rattle.expansion.specs.Area.{PutIn}
 use Rattle.expansion.proofs.TagLaws.{entry-same}
+use Rattle.expansion.proofs.EnteredLaws.{entered-held}
 use Rattle.rows.specs.Flat.{rowAt, IsTable}
 use Rattle.rows.specs.Update.{Added}
 use Rattle.rows.specs.Take.{takeOut, hasPoint}
 use Rattle.table.specs.Candidate.{Fit, GivesOver}
-use Rattle.table.specs.Offer.{offerOf, arcOffer, OfferedBy}
+use Rattle.table.specs.Offer.{offerOf, arcOffer}
 use Rattle.table.specs.Mend.{isShort, Freed, Seeded, Takes, Refuses, Offered, Wants, Behind, Lead, Mending}
 use Rattle.rows.proofs.Laid.{table-rows}
 use Rattle.rows.proofs.Update.{nearest-removed, row-kept}
@@ -174,7 +176,7 @@ module _ {g : Network} (ok : Accepted g) {Q : List ℕ} {K : ℕ} {ids dists xs 
                   | yes e ↦ rw e new-row
                   | no n ↦ others c n ∙ m .whole c h (sym (other-flag c h n) ∙ s)
                 ];
-            leads = λ k h. ⊎-elim (λ u. m .leads k (o .queue .old k (rw queue at u))) (λ u. new-lead k u) (f .old k h);
+            leads = λ k h. ⊎-elim (λ u. m .leads k (o .queue .old k (rw queue at u))) (λ u. new-lead k u) (f .holds k .0 h);
             frontier = λ c q h s w. let n = still c h s in ahead c q h (n .0) (n .1) w (m .frontier c q h (n .1) w);
           }
         where
@@ -208,7 +210,7 @@ module _ {g : Network} (ok : Accepted g) {Q : List ℕ} {K : ℕ} {ids dists xs 
               ∙ ap (λ v. set (pad K (nearest g Q i NONE (K - 1))) (K - 1) (p, v)) (want .1)
               ∙ taken-whole ok Q K i (omega arith) (want .0)
 
-          new-lead : (k : ℕ) → OfferedBy g i p d (length (neighboursOf g i)) k → Lead g Q k
+          new-lead : {Puts : ℕ → Type 0} (k : ℕ) → PutIn (arcOffer g i p d) Puts (length (neighboursOf g i)) k → Lead g Q k
           new-lead k u =
               let arc = arc-at (accepted-ranges ok) i low-i (u .place) (u .low) in
               let v : getD (weightsOf g i) (u .place) 0 + d ≡ d + getD (weightsOf g i) (u .place) 0 = omega arith in
@@ -230,11 +232,8 @@ module _ {g : Network} (ok : Accepted g) {Q : List ℕ} {K : ℕ} {ids dists xs 
               let e = wants-same ok Q K i v (want .0) in
               let a = arc-place (accepted-ranges ok) (ok .returns arc) in
               let k : arcOffer g i p d (a .at) ≡ offerOf c q (dist g c q) = omega (arith, a .leads, a .weighs, sum, want .1, ap (dist g i) e) in
-              ⊎-elim
-              (λ u.
-              absurd (false≢true (sym u ∙ ap (isShort zs) (a .leads) ∙ ap (λ v. eqb v 1) (sym (f .frame .words c (ok .leads-in (ok .returns arc)))) ∙ s)))
-              (λ u. rw k at u)
-              (f .new (a .at) (a .low))
+              let h = f .frame .words c (ok .leads-in (ok .returns arc)) in
+              rw k at (entered-held f (a .at) (a .low) (ap (isShort zs) (a .leads) ∙ ap (λ v. eqb v 1) (sym h) ∙ s))
 
           ahead : (c q : ℕ) → c < nodeCount g → c ≢ i → isShort xs c ≡ true → Wants g Q K c q
               → Holds (drop (nodeCount g) xs) len (offerOf c q (dist g c q)) ⊎ Behind g Q xs K c q
@@ -243,7 +242,7 @@ module _ {g : Network} (ok : Accepted g) {Q : List ℕ} {K : ℕ} {ids dists xs 
               ⊎-elim
               (λ v.
               ⊎-elim
-              (λ a. inl (f .kept (offerOf c q (dist g c q)) (rw queue a)))
+              (λ a. inl (f .holds (offerOf c q (dist g c q)) .1 (inl (rw queue a))))
               (λ e.
               let few = ok .few in
               absurd (n (entry-same (dist g c q) q c d p i (omega (arith, w .nearer .inside)) (omega arith) (omega arith) (omega arith) e .2)))

@@ -18,6 +18,7 @@ use Rattle.network.proofs.Rank.{marked-inside}
 use Rattle.network.proofs.Ranges.{arc-at, neighbours-length}
 use Rattle.network.proofs.NumberZero.{accepted-ranges}
 use Rattle.expansion.specs.Queue.{PoppedAt}
+use Rattle.expansion.specs.Area.{PutIn}
 use Rattle.expansion.specs.Room.{degree, arcsLeft}
 use Rattle.expansion.proofs.QueueLaws.{empty-queue}
 use Rattle.expansion.proofs.Settled.{zero-blank}
@@ -25,7 +26,7 @@ use Rattle.expansion.proofs.TagLaws.{entry-same}
 use Rattle.expansion.proofs.Room.{left-same, left-less, left-most}
 use Rattle.rows.specs.Flat.{Sized}
 use Rattle.rows.specs.Update.{Added}
-use Rattle.table.specs.Offer.{offerOf, CanOffer, OfferedBy}
+use Rattle.table.specs.Offer.{offerOf, arcOffer, CanOffer}
 use Rattle.table.specs.Mend.{isShort, CanFree, Freed, CanSeed, Seeded, CanTakeIn, TakenIn, Offered, Entry, Waiting, CanFill, Mending, FillLeft}
 use Rattle.table.specs.Remove.{CanRemove}
 use Rattle.table.specs.Updated.{UpdateLeft}
@@ -110,7 +111,7 @@ module _ {g : Network} (ok : Accepted g) {xs : List ℕ} {len : ℕ} (w : Waitin
           room = simp length-set (omega (arith, w .size, w .room, arcs-of, taken-left (set xs i 0) (λ c h. refl)));
         }
 
-    module _ {ys : List ℕ} {p d more : ℕ} (point : p < nodeCount g) (f : Offered g (set xs i 0) ys len more i p d (length (neighboursOf g i))) where
+    module _ {ys : List ℕ} {p more : ℕ} (d : ℕ) (point : p < nodeCount g) (f : Offered g (set xs i 0) ys len more i p d (length (neighboursOf g i))) where
       left : arcsLeft g (isShort ys) (nodeCount g) + degree g i ≡ arcsLeft g (isShort xs) (nodeCount g)
       left = taken-left ys (f .frame .words)
 
@@ -118,12 +119,12 @@ module _ {g : Network} (ok : Accepted g) {xs : List ℕ} {len : ℕ} (w : Waitin
       waiting-taken =
           record {
             queue = f .queue;
-            entries = λ k h. ⊎-elim (λ o. w .entries k (rw queue at o)) (λ o. new k o) (f .old k h);
+            entries = λ k h. ⊎-elim (λ o. w .entries k (rw queue at o)) (λ o. new k o) (f .holds k .0 h);
             room = omega (arith, w .room, f .grown, arcs-of, left);
             size = omega (arith, w .size, f .frame .size ∙ length-set xs i 0);
           }
         where
-          new : (k : ℕ) → OfferedBy g i p d (length (neighboursOf g i)) k → Entry (nodeCount g) k
+          new : {Puts : ℕ → Type 0} (k : ℕ) → PutIn (arcOffer g i p d) Puts (length (neighboursOf g i)) k → Entry (nodeCount g) k
           new k o =
               record {
                 node = getD (neighboursOf g i) (o .place) 0;
@@ -211,7 +212,7 @@ module _ {g : Network} {K : ℕ} {xs ids dists : List ℕ} {len : ℕ} (can : Ca
           record {
             size = u .frame .size ∙ t .size ∙ o .size ∙ f .size;
             sized = new-sized;
-            waiting = waiting-taken (can .accepted) after (inside .0) (t .taken e .short) (inside .1) offered;
+            waiting = waiting-taken (can .accepted) after (inside .0) (t .taken e .short) d (inside .1) offered;
             mending =
                 λ Q m.
                 mending-taken (can .accepted) (can .some) (f .mending Q m) i p d (inside .0) (inside .1) o (t .others)
@@ -222,7 +223,7 @@ module _ {g : Network} {K : ℕ} {xs ids dists : List ℕ} {len : ℕ} (can : Ca
       taken-work =
           omega (
             arith,
-            taken-falls (can .accepted) after (inside .0) (t .taken e .short) (inside .1) offered,
+            taken-falls (can .accepted) after (inside .0) (t .taken e .short) d (inside .1) offered,
             popped-falls (can .accepted) (f .waiting) i p d o some,
           )
 

@@ -25,8 +25,8 @@ use Rattle.expansion.specs.Queue.{Queue, PushedAt}
 use Rattle.rows.specs.Flat.{place, rowAt, Sized}
 use Rattle.rows.specs.Take.{takeOut, hasPoint, PointAt, TakenOutOfRow}
 use Rattle.table.specs.Candidate.{Fits, Better, Gives, BestOfRow, Fit, GivesOver, BestOf}
-use Rattle.table.specs.Offer.{offerOf, arcOffer, OfferedBy}
-use Rattle.table.specs.Mend.{isShort, Freed, SeedOf, Seeded, PutLast, CanTakeIn, TakenIn, Offered}
+use Rattle.table.specs.Offer.{offerOf}
+use Rattle.table.specs.Mend.{isShort, Freed, SeedOf, Seeded, PutLast, CanTakeIn, TakenIn}
 use Rattle.rows.proofs.Flat.{place-in, in-place}
 use Rattle.rows.proofs.Frame.{row-width, row-long, set-other, set-row}
 use Rattle.rows.proofs.TakeLaws.{has-member, has-some}
@@ -424,59 +424,3 @@ module _ {xs ids dists : List ℕ} {K i : ℕ} (can : CanTakeIn xs ids dists K i
             (λ e. e)
             (λ e. absurd (lacks-part xs ids dists K i (can .fits) p e (m .0) (rw (row-width i K) at (m .1)) (rw (row-width i K) at (m .2))))
             (bool-cases (hasPoint p (rowAt ids dists K i)))
-
--- ---- offer: the arcs before place j have put in their entries.
-module _ {g : Network} {xs : List ℕ} {len v p d : ℕ} where
-  pub offered-none : Queue (drop (nodeCount g) xs) len → Offered g xs xs len len v p d 0
-  offered-none q =
-      record {
-        frame = record { size = refl; words = λ i h. refl };
-        queue = q;
-        grown = omega arith;
-        kept = λ k h. h;
-        old = λ k h. inl h;
-        new = λ j h. absurd (omega arith);
-      }
-
-  module _ {ys : List ℕ} {more j : ℕ} (f : Offered g xs ys len more v p d j) where
-    longer : {k : ℕ} → OfferedBy g v p d j k → OfferedBy g v p d (j + 1) k
-    longer o = record { place = o .place; low = omega (arith, o .low); is = o .is }
-
-    -- the arc at j leads to a row that is not short
-    pub offered-skip : getD xs (getD (neighboursOf g v) j 0) 0 ≢ 1 → Offered g xs ys len more v p d (j + 1)
-    offered-skip w =
-        record {
-          frame = f .frame;
-          queue = f .queue;
-          grown = omega (arith, f .grown);
-          kept = f .kept;
-          old = λ k h. ⊎-elim (λ o. inl o) (λ o. inr (longer o)) (f .old k h);
-          new =
-              λ i h.
-              elim (ℕ-discrete i j) [
-                | yes e ↦ inl (rw e (ne-eqb (getD xs (getD (neighboursOf g v) j 0) 0) 1 w))
-                | no n ↦ f .new i (omega arith)
-              ];
-        }
-
-    -- its entry is put in
-    pub offered-push : {zs : List ℕ} → PushedAt ys zs (nodeCount g) more (arcOffer g v p d j) → Offered g xs zs len (more + 1) v p d (j + 1)
-    offered-push t =
-        record {
-          frame = record { size = t .size ∙ f .frame .size; words = λ i h. t .before i h ∙ f .frame .words i h };
-          queue = t .queue .queue;
-          grown = omega (arith, f .grown);
-          kept = λ k h. t .queue .holds k .1 (inl (f .kept k h));
-          old =
-              λ k h.
-              ⊎-elim
-              (λ o. ⊎-elim (λ x. inl x) (λ x. inr (longer x)) (f .old k o))
-              (λ e. inr (record { place = j; low = omega arith; is = e }))
-              (t .queue .holds k .0 h);
-          new =
-              λ i h.
-              elim (ℕ-discrete i j) [
-                | yes e ↦ inr (t .queue .holds (arcOffer g v p d i) .1 (inr (ap (arcOffer g v p d) e)))
-                | no n ↦ ⊎-elim (λ w. inl w) (λ o. inr (t .queue .holds (arcOffer g v p d i) .1 (inl o))) (f .new i (omega arith))
-              ];
-        }

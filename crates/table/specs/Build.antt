@@ -3,18 +3,17 @@
 -- Assumes nothing.
 use Prim.Native.Nat.{ℕ, _+_, _*_, _≤_, _<_}
 use mathlib.Core.Path.{_≡_}
-use mathlib.Core.Logic.{_⊎_, _↔_}
+use mathlib.Core.Logic.{_⊎_}
 use mathlib.Core.Bool.{Bool, true, false}
 use mathlib.Core.List.{List}
-use lib.ListN.{length, getD, set, drop, replicate}
+use lib.ListN.{length, getD, set, replicate}
 use Rattle.network.specs.Network.{Network, nodeCount, arcCount, neighboursOf}
 use Rattle.network.specs.Accepted.{Accepted}
 use Rattle.network.specs.Distance.{NONE}
 use Rattle.network.specs.Points.{marked}
-use Rattle.expansion.specs.Queue.{Holds, Queue}
-use Rattle.expansion.specs.Area.{Kept, Blank, Wiped}
+use Rattle.expansion.specs.Area.{Blank, Wiped, Entered}
 use Rattle.rows.specs.Flat.{Sized, IsTable}
-use Rattle.table.specs.Offer.{offerOf, OfferedBy, CanOffer}
+use Rattle.table.specs.Offer.{offerOf, arcOffer, CanOffer}
 
 -- a point stands among the `size` ids from place `from` on
 pub record Stands (ids : List ℕ) (from size p : ℕ) : Type 0 where
@@ -99,35 +98,20 @@ pub record CanOfferOn (g : Network) (xs ids : List ℕ) (K len v p d : ℕ) : Ty
   pub can : CanOffer g xs len v p d
   pub looks : (i : ℕ) → i < nodeCount g → CanLook xs ids K i
 
--- some arc of v before place `end` put in the key: the row that it leads to has a place for p
-pub record OfferedTo (g : Network) (xs ids : List ℕ) (K v p d end k : ℕ) : Type 0 where
-  pub by : OfferedBy g v p d end k
-  pub place : HasPlaceAt xs ids K (getD (neighboursOf g v) (by .place) 0) p
-
 -- the arcs of v before place `end` that lead to a row with a place for p have each put in an entry; `more` is the queue's length then
-pub record Offered (g : Network) (xs ys ids : List ℕ) (K len more v p d end : ℕ) : Type 0 where
-  pub frame : Kept xs ys (nodeCount g)
-  pub few : more ≤ len + end
-  pub queue : Queue (drop (nodeCount g) ys) more
-  pub holds : (k : ℕ) → Holds (drop (nodeCount g) ys) more k ↔ (Holds (drop (nodeCount g) xs) len k ⊎ OfferedTo g xs ids K v p d end k)
+abbrev pub Offered : Network → List ℕ → List ℕ → List ℕ → ℕ → ℕ → ℕ → ℕ → ℕ → ℕ → ℕ → Type 0
+Offered g xs ys ids K len more v p d end =
+    Entered (nodeCount g) xs ys len more end (arcOffer g v p d) (λ j. HasPlaceAt xs ids K (getD (neighboursOf g v) j 0) p)
 
--- the points below `end` have each put in an entry: itself, at distance 0
-pub record SeededBy (P : List ℕ) (end k : ℕ) : Type 0 where
-  pub node : ℕ
-  pub low : node < end
-  pub point : marked P node ≡ true
-  pub is : k ≡ offerOf node node 0
-
+-- words that are all 0, with room for an entry for each node
 pub record CanSeed (P xs : List ℕ) : Type 0 where
   pub few : length P ≤ 65535
   pub blank : Blank xs 0
   pub room : length P + 2 * length P ≤ length xs
 
-pub record Seeded (P xs ys : List ℕ) (end len : ℕ) : Type 0 where
-  pub frame : Kept xs ys (length P)
-  pub few : len ≤ end
-  pub queue : Queue (drop (length P) ys) len
-  pub holds : (k : ℕ) → Holds (drop (length P) ys) len k ↔ SeededBy P end k
+-- the points below `end` have each put in an entry: itself, at distance 0
+abbrev pub Seeded : List ℕ → List ℕ → List ℕ → ℕ → ℕ → Type 0
+Seeded P xs ys end len = Entered (length P) xs ys 0 len end (λ i. offerOf i i 0) (λ i. marked P i ≡ true)
 
 -- an accepted network, a byte for each node, K of 2 to 17, table arrays of n * K entries, and words that are all 0: n, and 2 (n + K A) for the queue
 pub record CanBuild (g : Network) (P xs ids dists : List ℕ) (K : ℕ) : Type 0 where

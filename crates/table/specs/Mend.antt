@@ -17,12 +17,12 @@ use Rattle.network.specs.Count.{count}
 use Rattle.network.specs.Nearest.{key, nearest, Nearer, before}
 use Rattle.network.specs.Rows.{pad, row}
 use Rattle.expansion.specs.Queue.{Holds, Queue}
-use Rattle.expansion.specs.Area.{Kept}
+use Rattle.expansion.specs.Area.{Kept, Entered}
 use Rattle.expansion.specs.Room.{arcsLeft}
 use Rattle.rows.specs.Flat.{rowAt, Sized}
 use Rattle.rows.specs.Take.{takeOut, hasPoint}
 use Rattle.table.specs.Candidate.{GivesOver, BestOf}
-use Rattle.table.specs.Offer.{offerOf, arcOffer, OfferedBy}
+use Rattle.table.specs.Offer.{offerOf, arcOffer}
 
 -- row i lacks the entry that it lost
 abbrev pub isShort : List ℕ → ℕ → Bool
@@ -117,13 +117,9 @@ pub record TakenIn (xs ys ids dists ids′ dists′ : List ℕ) (K i p d : ℕ) 
 
 -- ---- Offering it on.
 -- the arcs of v before place `end` have each put in an entry, or lead to a row that is not short
-pub record Offered (g : Network) (xs ys : List ℕ) (len more v p d end : ℕ) : Type 0 where
-  pub frame : Kept xs ys (nodeCount g)
-  pub queue : Queue (drop (nodeCount g) ys) more
-  pub grown : more ≤ len + end
-  pub kept : (k : ℕ) → Holds (drop (nodeCount g) xs) len k → Holds (drop (nodeCount g) ys) more k
-  pub old : (k : ℕ) → Holds (drop (nodeCount g) ys) more k → Holds (drop (nodeCount g) xs) len k ⊎ OfferedBy g v p d end k
-  pub new : (j : ℕ) → j < end → (isShort xs (getD (neighboursOf g v) j 0) ≡ false) ⊎ Holds (drop (nodeCount g) ys) more (arcOffer g v p d j)
+abbrev pub Offered : Network → List ℕ → List ℕ → ℕ → ℕ → ℕ → ℕ → ℕ → ℕ → Type 0
+Offered g xs ys len more v p d end =
+    Entered (nodeCount g) xs ys len more end (arcOffer g v p d) (λ j. isShort xs (getD (neighboursOf g v) j 0) ≡ true)
 
 -- ---- Filling.
 -- an entry is of nodes

@@ -1,7 +1,6 @@
 -- Offers, which build and remove both put into their queue behind n words: a point, at a distance, to the row of a node.
 -- Assumes nothing.
 use Prim.Native.Nat.{ℕ, _+_, _*_, _≤_, _<_}
-use mathlib.Core.Path.{_≡_}
 use mathlib.Core.List.{List}
 use lib.ListN.{length, getD, drop}
 use Rattle.network.specs.Network.{Network, nodeCount, neighboursOf, weightsOf}
@@ -22,11 +21,6 @@ pub record CanOffer (g : Network) (xs : List ℕ) (len v p d : ℕ) : Type 0 whe
   pub queue : Queue (drop (nodeCount g) xs) len
   pub room : nodeCount g + 2 * (len + length (neighboursOf g v)) ≤ length xs
 
--- the entry of arc j of v; some arc of v before place `end` put in the key
+-- the entry of arc j of v
 abbrev pub arcOffer : Network → ℕ → ℕ → ℕ → ℕ → ℕ
 arcOffer g v p d j = offerOf (getD (neighboursOf g v) j 0) p (d + getD (weightsOf g v) j 0)
-
-pub record OfferedBy (g : Network) (v p d end k : ℕ) : Type 0 where
-  pub place : ℕ
-  pub low : place < end
-  pub is : k ≡ arcOffer g v p d place

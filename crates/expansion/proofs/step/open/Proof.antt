@@ -7,10 +7,10 @@ use Rattle.network.specs.Network.{Network, neighboursOf, weightsOf, network}
 use Rattle.network.proofs.NumberZero.{accepted-searchable}
 use Rattle.network.proofs.ArcAt.{ArcAt, arc-handed}
 use Prim.Native.Nat.{_+_, _-_, _≤_, _<_}
-use mathlib.Core.Path.{_≡_, ap, _∙_}
+use mathlib.Core.Path.{_≡_, sym, ap, _∙_}
 use native.Mathlib.Omega.{arith}
 use lib.ListN.{length, getD}
-use Rattle.expansion.proofs.StepLaws.{followed-none, followed-skip, followed-push}
+use Rattle.expansion.proofs.EnteredLaws.{entered-none, entered-passed, entered-pushed}
 use borrow.Author.Needs.{needs}
 use Rattle.expansion.proofs.step.open.Statement.{statement}
 use Rattle.expansion.proofs.step.open.Tie as tie
@@ -49,6 +49,19 @@ word c =
     let s = start (i .before .before) in
     omega (arith, c .wide3 .ensures, place i .to, s .pre .accepted .leads-in (place i .arc), i .before .loop .inv .1 .frame .size, s .pre .room)
 
+-- it is as it was
+kept : (c : tie.After-wide3 Inv-loop μ-loop)
+    → let i = c .before .before .before in
+    let s = start (i .before .before) in
+    getD (i .before .loop .s) (s .args .b + c .wide3 .result) 0
+    ≡ getD (s .args .s .now) (s .args .b + getD (neighboursOf (G s) (s .args .node)) (i .before .loop .j) 0) 0
+kept c =
+    let i = c .before .before .before in
+    let s = start (i .before .before) in
+    let same : c .wide3 .result ≡ getD (neighboursOf (G s) (s .args .node)) (i .before .loop .j) 0 = c .wide3 .ensures ∙ place i .to in
+    i .before .loop .inv .1 .frame .words (s .args .b + c .wide3 .result) (omega (arith, s .pre .accepted .leads-in (place i .arc)))
+    ∙ ap (λ x. getD (s .args .s .now) (s .args .b + x) 0) same
+
 sub-at : tie.Need-sub-at Inv-loop μ-loop
 sub-at c = search needs
 
@@ -75,7 +88,7 @@ weights-of-requires c κs =
     accepted-searchable (s .pre .accepted) .weights .part _ (omega (arith, c .wide2 .ensures, s .pre .inside))
 
 loop-holds : tie.Need-loop-holds Inv-loop μ-loop
-loop-holds c = (omega arith, followed-none (start c .pre .queue))
+loop-holds c = (omega arith, entered-none (start c .pre .queue))
 
 mul-to : tie.Need-mul-to Inv-loop μ-loop
 mul-to c = search needs
@@ -130,11 +143,11 @@ loop-less c = search needs
 
 loop-again : tie.Need-loop-again Inv-loop μ-loop
 loop-again c =
-    let i = c .before .before .before .before .before .before .before .before .before .before in
-    let s = start (i .before .before) in
     let t = c .before .before .before .before in
+    let i = t .before .before .before .before .before .before in
+    let s = start (i .before .before) in
     let e : keyOf (s .args .label + getD (i .before .before .weights-of .result .now) (i .before .loop .j) 0) (t .tag-of .result) ≡ arcKey (G s) (s .args .node) (s .args .label) (i .before .loop .j) = omega (arith, t .tag-of .ensures, place i .to, place i .weight) in
-    (omega arith, followed-push (i .before .loop .inv .1) (rw e at (c .before .before .push-at .ensures)))
+    (omega arith, entered-pushed (i .before .loop .inv .1) (sym (kept (t .before .before .before)) ∙ t .before .if1 .taken) (rw e at (c .before .before .push-at .ensures)))
 
 loop-less-2 : tie.Need-loop-less-2 Inv-loop μ-loop
 loop-less-2 c = search needs
@@ -142,12 +155,7 @@ loop-less-2 c = search needs
 loop-again-2 : tie.Need-loop-again-2 Inv-loop μ-loop
 loop-again-2 c =
     let i = c .before .before .before .before .before in
-    let f = i .before .loop .inv .1 in
-    let s = start (i .before .before) in
-    let d = c .before .before in
-    let same : d .wide3 .result ≡ getD (neighboursOf (G s) (s .args .node)) (i .before .loop .j) 0 = d .wide3 .ensures ∙ place i .to in
-    let word = f .frame .words (s .args .b + d .wide3 .result) (omega (arith, s .pre .accepted .leads-in (place i .arc))) in
-    (omega arith, followed-skip f (λ z. c .if1 .left (word ∙ ap (λ x. getD (s .args .s .now) (s .args .b + x) 0) same ∙ z)))
+    (omega arith, entered-passed (i .before .loop .inv .1) (λ z. c .if1 .left (kept (c .before .before) ∙ z)))
 
 same-length : tie.Need-same-length Inv-loop μ-loop
 same-length c = search needs

@@ -2,6 +2,7 @@
 -- (`Offered`). The measure is what is left of the node's arcs. An entry fits: its distance by `CanOffer`, the queue by its room.
 -- Assumes nothing.
 use Rattle.expansion.specs.Queue.{keyOf}
+use Rattle.expansion.proofs.EnteredLaws.{entered-none, entered-passed, entered-pushed}
 use Rattle.table.specs.Offer.{arcOffer}
 use Rattle.table.specs.Build.{Offered}
 use Rattle.network.specs.Network.{Network, neighboursOf, weightsOf, network}
@@ -11,7 +12,7 @@ use Prim.Native.Nat.{_+_, _-_, _≤_}
 use mathlib.Core.Path.{_≡_, ap}
 use native.Mathlib.Omega.{arith}
 use lib.ListN.{length, getD}
-use Rattle.table.proofs.BuildSteps.{place-kept, none-kept, look-kept, offered-none, offered-skip, offered-push}
+use Rattle.table.proofs.BuildSteps.{place-kept, none-kept, look-kept, place-not-none}
 use borrow.Author.Needs.{needs}
 use Rattle.table.proofs.build.offer.Statement.{statement}
 use Rattle.table.proofs.build.offer.Tie as tie
@@ -64,7 +65,7 @@ weights-of-requires c κs =
     accepted-searchable (s .pre .can .accepted) .weights .part _ (omega (arith, c .wide2 .ensures, s .pre .can .inside))
 
 loop-holds : tie.Need-loop-holds Inv-loop μ-loop
-loop-holds c = (omega arith, offered-none (start c .pre .can .queue))
+loop-holds c = (omega arith, entered-none (start c .pre .can .queue))
 
 mul-to : tie.Need-mul-to Inv-loop μ-loop
 mul-to c = search needs
@@ -112,13 +113,13 @@ push-at-requires : tie.Need-push-at-requires Inv-loop μ-loop
 push-at-requires c κs =
     let i = c .before .before .before .before .before .before .before in
     let f = i .before .loop .inv .1 in
-    (f .queue, omega (arith, f .frame .size, f .few, start (i .before .before) .pre .can .room, place i .low))
+    (f .queue, omega (arith, f .frame .size, f .grown, start (i .before .before) .pre .can .room, place i .low))
 
 add-more : tie.Need-add-more Inv-loop μ-loop
 add-more c =
     let i = c .before .before .before .before .before .before .before .before .before .before in
     let s = start (i .before .before) in
-    omega (arith, i .before .loop .inv .1 .few, s .pre .can .room, place i .low, s .good .1 .1 .1 .0)
+    omega (arith, i .before .loop .inv .1 .grown, s .pre .can .room, place i .low, s .good .1 .1 .1 .0)
 
 loop-less : tie.Need-loop-less Inv-loop μ-loop
 loop-less c = search needs
@@ -130,7 +131,7 @@ loop-again c =
     let s = start (i .before .before) in
     let e : keyOf (s .args .d + getD (i .before .before .weights-of .result .now) (i .before .loop .j) 0) (t .tag-of .result) ≡ arcOffer (G s) (s .args .node) (s .args .p) (s .args .d) (i .before .loop .j) = omega (arith, t .tag-of .ensures, place i .to, place i .weight) in
     let h = t .before .before .has-place-at .ensures .yes (t .before .if1 .taken) in
-    (omega arith, offered-push (i .before .loop .inv .1) (rw (place i .to) at (place-kept {xs = s .args .s .now} (kept i) h)) (rw e at (c .before .before .push-at .ensures)))
+    (omega arith, entered-pushed (i .before .loop .inv .1) (rw (place i .to) at (place-kept {xs = s .args .s .now} (kept i) h)) (rw e at (c .before .before .push-at .ensures)))
 
 loop-less-2 : tie.Need-loop-less-2 Inv-loop μ-loop
 loop-less-2 c = search needs
@@ -138,7 +139,7 @@ loop-less-2 c = search needs
 loop-again-2 : tie.Need-loop-again-2 Inv-loop μ-loop
 loop-again-2 c =
     let i = c .before .before .before .before .before in
-    (omega arith, offered-skip (i .before .loop .inv .1) (rw (place i .to) at (none-kept {xs = start (i .before .before) .args .s .now} (kept i) (c .before .has-place-at .ensures .no (c .if1 .left)))))
+    (omega arith, entered-passed (i .before .loop .inv .1) (λ h. place-not-none h (rw (place i .to) at (none-kept {xs = start (i .before .before) .args .s .now} (kept i) (c .before .has-place-at .ensures .no (c .if1 .left))))))
 
 same-length : tie.Need-same-length Inv-loop μ-loop
 same-length c = search needs

@@ -6,8 +6,9 @@ use mathlib.Core.Path.{_≡_, refl}
 use native.Mathlib.Omega.{arith}
 use lib.ListN.{length}
 use borrow.Author.Tests.{eqb-true}
+use Rattle.expansion.proofs.EnteredLaws.{entered-none, entered-passed, entered-pushed}
 use Rattle.table.specs.Build.{Seeded}
-use Rattle.table.proofs.BuildSteps.{seed-queue, seeded-none, seeded-other, seeded-point}
+use Rattle.table.proofs.BuildSteps.{seed-queue}
 use borrow.Author.Needs.{needs}
 use Rattle.table.proofs.build.seed.Statement.{statement}
 use Rattle.table.proofs.build.seed.Tie as tie
@@ -21,7 +22,7 @@ abbrev μ-loop : tie.MeasureT-loop
 loop-holds : tie.Need-loop-holds Inv-loop μ-loop
 loop-holds c =
     let s = c .before .before in
-    (omega arith, seeded-none (seed-queue (length (s .args .points .now)) (s .pre .blank)))
+    (omega arith, entered-none (seed-queue (length (s .args .points .now)) (s .pre .blank)))
 
 cast-node : tie.Need-cast-node Inv-loop μ-loop
 cast-node c = search needs
@@ -49,7 +50,7 @@ loop-again c =
     let i = c .before .before .before .before .before .before .before in
     let b = c .before .before .before .before .before in
     let e = c .before .before .before .before .tag-of .ensures in
-    (omega arith, seeded-point (i .before .loop .inv .1) (rw (b .if1 .taken) refl) (rw e at (c .before .before .push-at .ensures)))
+    (omega arith, entered-pushed (i .before .loop .inv .1) (rw (b .if1 .taken) refl) (rw e at (c .before .before .push-at .ensures)))
 
 loop-less-2 : tie.Need-loop-less-2 Inv-loop μ-loop
 loop-less-2 c = search needs
@@ -57,7 +58,7 @@ loop-less-2 c = search needs
 loop-again-2 : tie.Need-loop-again-2 Inv-loop μ-loop
 loop-again-2 c =
     let i = c .before .before in
-    (omega arith, seeded-other (i .before .loop .inv .1) (λ e. c .if1 .left (eqb-true _ 1 e)))
+    (omega arith, entered-passed (i .before .loop .inv .1) (λ e. c .if1 .left (eqb-true _ 1 e)))
 
 same-length : tie.Need-same-length Inv-loop μ-loop
 same-length c = search needs

@@ -2,17 +2,18 @@
 -- left of the arcs. An entry fits: its distance by `CanOffer`, the queue by its room.
 -- Assumes nothing.
 use Prim.Native.Nat.{ℕ, _+_, _-_, _≤_, _<_}
-use mathlib.Core.Path.{_≡_, ap, _∙_}
+use mathlib.Core.Path.{_≡_, sym, ap, _∙_}
 use native.Mathlib.Omega.{arith}
 use lib.ListN.{length, getD}
 use Rattle.network.specs.Network.{Network, neighboursOf, weightsOf, network}
 use Rattle.network.proofs.NumberZero.{accepted-searchable}
 use Rattle.network.proofs.ArcAt.{ArcAt, arc-handed}
 use Rattle.expansion.specs.Queue.{keyOf}
+use Rattle.expansion.proofs.EnteredLaws.{entered-none, entered-passed, entered-pushed}
 use Rattle.table.specs.Offer.{arcOffer}
 use Rattle.table.specs.Mend.{Offered}
-use Rattle.table.proofs.RemoveSteps.{offered-none, offered-skip, offered-push}
 use borrow.Author.Needs.{needs}
+use borrow.Author.Tests.{eq-eqb, eqb-true}
 use Rattle.table.proofs.remove.offer.Statement.{statement}
 use Rattle.table.proofs.remove.offer.Tie as tie
 
@@ -50,6 +51,17 @@ word c =
     let s = start (i .before .before) in
     omega (arith, c .wide .ensures, place i .to, s .pre .accepted .leads-in (place i .arc), i .before .loop .inv .1 .frame .size, s .pre .room)
 
+-- it is as it was
+kept : (c : tie.After-wide Inv-loop μ-loop)
+    → let i = c .before .before .before in
+    let s = start (i .before .before) in
+    getD (i .before .loop .s) (c .wide .result) 0 ≡ getD (s .args .s .now) (getD (neighboursOf (G s) (s .args .node)) (i .before .loop .j) 0) 0
+kept c =
+    let i = c .before .before .before in
+    let s = start (i .before .before) in
+    ap (λ (x : ℕ). getD (i .before .loop .s) x 0) (c .wide .ensures ∙ place i .to)
+    ∙ i .before .loop .inv .1 .frame .words _ (s .pre .accepted .leads-in (place i .arc))
+
 sub-n : tie.Need-sub-n Inv-loop μ-loop
 sub-n c = search needs
 
@@ -60,7 +72,7 @@ weights-of-requires : tie.Need-weights-of-requires Inv-loop μ-loop
 weights-of-requires c κs = let s = c .before .before .before .before .before in accepted-searchable (s .pre .accepted) .weights .part _ (omega (arith, s .pre .inside))
 
 loop-holds : tie.Need-loop-holds Inv-loop μ-loop
-loop-holds c = (omega arith, offered-none (start c .pre .queue))
+loop-holds c = (omega arith, entered-none (start c .pre .queue))
 
 mul-to : tie.Need-mul-to Inv-loop μ-loop
 mul-to c = search needs
@@ -116,11 +128,12 @@ loop-less c = search needs
 
 loop-again : tie.Need-loop-again Inv-loop μ-loop
 loop-again c =
-    let i = c .before .before .before .before .before .before .before .before .before .before in
-    let s = start (i .before .before) in
     let t = c .before .before .before .before in
+    let i = t .before .before .before .before .before .before in
+    let s = start (i .before .before) in
     let e : keyOf (s .args .d + getD (i .before .before .weights-of .result .now) (i .before .loop .j) 0) (t .tag-of .result) ≡ arcOffer (G s) (s .args .node) (s .args .p) (s .args .d) (i .before .loop .j) = omega (arith, t .tag-of .ensures, place i .to, place i .weight) in
-    (omega (arith, i .loop-test .taken), offered-push (i .before .loop .inv .1) (rw e at (c .before .before .push-at .ensures)))
+    let h = eq-eqb _ 1 (sym (kept (t .before .before .before)) ∙ t .before .if1 .taken) in
+    (omega (arith, i .loop-test .taken), entered-pushed (i .before .loop .inv .1) h (rw e at (c .before .before .push-at .ensures)))
 
 loop-less-2 : tie.Need-loop-less-2 Inv-loop μ-loop
 loop-less-2 c = search needs
@@ -128,12 +141,7 @@ loop-less-2 c = search needs
 loop-again-2 : tie.Need-loop-again-2 Inv-loop μ-loop
 loop-again-2 c =
     let i = c .before .before .before .before .before in
-    let s = start (i .before .before) in
-    let f = i .before .loop .inv .1 in (
-      omega (arith, i .loop-test .taken),
-      offered-skip f
-          (λ e. c .if1 .left (ap (λ (x : ℕ). getD (i .before .loop .s) x 0) (c .before .before .wide .ensures ∙ place i .to) ∙ f .frame .words _ (s .pre .accepted .leads-in (place i .arc)) ∙ e)),
-    )
+    (omega (arith, i .loop-test .taken), entered-passed (i .before .loop .inv .1) (λ h. c .if1 .left (kept (c .before .before) ∙ eqb-true _ 1 h)))
 
 same-length : tie.Need-same-length Inv-loop μ-loop
 same-length c = c .before .loop .inv .1 .frame .size
