@@ -1,5 +1,8 @@
 -- `network::check::bad_size` meets its contract: each return is what its tests say.
 -- Assumes nothing.
+use native.Mathlib.Omega.{arith}
+use lib.ListN.{length}
+use borrow.Author.Tests.{lt-ltb, le-ltb}
 use Rattle.network.proofs.Tests.{tests}
 use Rattle.network.specs.Check.{badSize}
 use Rattle.network.proofs.check.bad_size.Statement.{statement}
@@ -11,7 +14,10 @@ returns c = search tests
 
 returns-2 : tie.Need-returns-2
 unfolding badSize
-returns-2 c = search tests
+returns-2 c =
+    let e = c .before in
+    let a = e .before .args in
+    rw (le-ltb (length (a .starts .now)) 2 (e .if1 .left), lt-ltb 65536 (length (a .starts .now)) (omega (arith, c .if2 .taken)))
 
 returns-3 : tie.Need-returns-3
 unfolding badSize

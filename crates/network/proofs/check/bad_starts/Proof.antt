@@ -1,6 +1,8 @@
 -- `network::check::bad_starts` meets its contract: each return is what the tests before it say.
 -- Assumes nothing.
 use mathlib.Core.Path.{sym, _∙_}
+use native.Mathlib.Omega.{arith}
+use lib.ListN.{length}
 use borrow.Author.Tests.{eq-eqb, ne-eqb, lt-ltb, le-ltb}
 use Rattle.network.specs.Check.{badStarts}
 use borrow.Author.Needs.{needs}
@@ -51,14 +53,16 @@ unfolding badStarts
 returns-5 c =
     let s = c .before .before .before .before .before in
     let f = c .before .before .before in
-    rw (eq-eqb _ _ (s .if1 .left), sym (f .before .starts-fall .ensures) ∙ f .if2 .left, eq-eqb _ _ (sym (s .before .wide .ensures) ∙ c .before .before .if3 .left), eq-eqb _ _ (c .before .if4 .left), lt-ltb _ _ (c .if5 .taken))
+    let arcs = length (s .before .before .before .before .before .before .before .args .neighbours .now) in
+    rw (eq-eqb _ _ (s .if1 .left), sym (f .before .starts-fall .ensures) ∙ f .if2 .left, eq-eqb _ _ (sym (s .before .wide .ensures) ∙ c .before .before .if3 .left), eq-eqb _ _ (c .before .if4 .left), lt-ltb 524288 arcs (omega (arith, c .if5 .taken)))
 
 returns-6 : tie.Need-returns-6
 unfolding badStarts
 returns-6 c =
     let s = c .before .before .before .before .before in
     let f = c .before .before .before in
-    rw (eq-eqb _ _ (s .if1 .left), sym (f .before .starts-fall .ensures) ∙ f .if2 .left, eq-eqb _ _ (sym (s .before .wide .ensures) ∙ c .before .before .if3 .left), eq-eqb _ _ (c .before .if4 .left), le-ltb _ _ (c .if5 .left))
+    let arcs = length (s .before .before .before .before .before .before .before .args .neighbours .now) in
+    rw (eq-eqb _ _ (s .if1 .left), sym (f .before .starts-fall .ensures) ∙ f .if2 .left, eq-eqb _ _ (sym (s .before .wide .ensures) ∙ c .before .before .if3 .left), eq-eqb _ _ (c .before .if4 .left), le-ltb 524288 arcs (omega (arith, c .if5 .left)))
 
 pub bad-starts-spec : {M : Type 1} → statement M
 bad-starts-spec =

@@ -5,6 +5,7 @@ use Rattle.network.proofs.Tests.{any-start, any-more, found, not-found}
 use Prim.Native.Nat.{_-_, _≤_}
 use mathlib.Core.Path.{_≡_}
 use mathlib.Core.Bool.{false}
+use native.Mathlib.Omega.{arith}
 use lib.ListN.{length}
 use Rattle.network.specs.Count.{any}
 use Rattle.network.specs.Check.{badWeightAt, badWeights}
@@ -33,7 +34,7 @@ returns c = found _ _ _ (c .before .before .loop-test .taken) (weight-none _ _ (
 
 returns-2 : tie.Need-returns-2 Inv-loop μ-loop
 unfolding badWeights
-returns-2 c = found _ _ _ (c .before .before .before .loop-test .taken) (weight-high _ _ (c .if2 .taken))
+returns-2 c = found _ _ _ (c .before .before .before .loop-test .taken) (weight-high _ _ (omega (arith, c .if2 .taken)))
 
 add-e : tie.Need-add-e Inv-loop μ-loop
 add-e c = search needs

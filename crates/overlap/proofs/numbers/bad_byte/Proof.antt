@@ -1,9 +1,11 @@
 -- `overlap::numbers::bad_byte` meets its contract. The invariant: no byte before i is above 1. The measure is what is left of the bytes.
 -- Assumes nothing.
-use Prim.Native.Nat.{_-_, _≤_}
+use Prim.Native.Nat.{ℕ, _-_, _≤_, _<_}
 use mathlib.Core.Path.{_≡_}
-use mathlib.Core.Bool.{false}
-use lib.ListN.{length}
+use mathlib.Core.Bool.{true, false}
+use mathlib.Core.List.{List}
+use native.Mathlib.Omega.{arith}
+use lib.ListN.{length, getD}
 use borrow.Author.Tests.{lt-ltb, le-ltb}
 use Rattle.network.specs.Count.{any}
 use Rattle.network.proofs.Tests.{any-start, any-more, found, not-found}
@@ -11,6 +13,16 @@ use Rattle.overlap.specs.Numbers.{badByteAt}
 use borrow.Author.Needs.{needs}
 use Rattle.overlap.proofs.numbers.bad_byte.Statement.{statement}
 use Rattle.overlap.proofs.numbers.bad_byte.Tie as tie
+
+-- the test at byte i, from what the code compares there
+module _ (P : List ℕ) (i : ℕ) where
+  byte-high : 1 < getD P i 0 → badByteAt P i ≡ true
+  unfolding badByteAt
+  byte-high h = lt-ltb 1 (getD P i 0) h
+
+  byte-good : getD P i 0 ≤ 1 → badByteAt P i ≡ false
+  unfolding badByteAt
+  byte-good h = le-ltb 1 (getD P i 0) h
 
 abbrev Inv-loop : tie.InvT-loop
 Inv-loop points i₀ i = (i ≤ length points) × (any (badByteAt points) i ≡ false)
@@ -25,8 +37,7 @@ shared-slice-read-mark : tie.Need-shared-slice-read-mark Inv-loop μ-loop
 shared-slice-read-mark c = search needs
 
 returns : tie.Need-returns Inv-loop μ-loop
-unfolding badByteAt
-returns c = found _ _ _ (c .before .before .loop-test .taken) (lt-ltb _ _ (c .if1 .taken))
+returns c = found _ _ _ (c .before .before .loop-test .taken) (byte-high _ _ (omega (arith, c .if1 .taken)))
 
 add-i : tie.Need-add-i Inv-loop μ-loop
 add-i c = search needs
@@ -35,8 +46,7 @@ loop-less : tie.Need-loop-less Inv-loop μ-loop
 loop-less c = search needs
 
 loop-again : tie.Need-loop-again Inv-loop μ-loop
-unfolding badByteAt
-loop-again c = (search needs, any-more _ _ (c .before .before .before .loop .inv .1) (le-ltb _ _ (c .if1 .left)))
+loop-again c = (search needs, any-more _ _ (c .before .before .before .loop .inv .1) (byte-good _ _ (omega (arith, c .if1 .left))))
 
 returns-2 : tie.Need-returns-2 Inv-loop μ-loop
 returns-2 c = not-found _ _ _ (c .before .loop .inv .0) (c .loop-test .left) (c .before .loop .inv .1)

@@ -57,7 +57,7 @@ returns-4 c =
       le-ltb (a .places) 2 (omega (arith, e .before .if1 .left)),
       le-ltb 17 (a .places) (omega (arith, e .if2 .left)),
       eq-eqb (a .ids) (a .n * a .places) (f .if3 .left ∙ ap (λ (k : ℕ). a .n * k) (w .wide .ensures)),
-      ne-eqb (a .distances) (a .n * a .places) (λ q. c .if4 .taken (q ∙ ap (λ (k : ℕ). a .n * k) (sym (w .wide .ensures)))),
+      ne-eqb (a .distances) (a .n * a .places) (λ q. omega (arith, c .if4 .taken, q, ap (λ (k : ℕ). a .n * k) (w .wide .ensures))),
     )
 
 returns-5 : tie.Need-returns-5
@@ -72,7 +72,7 @@ returns-5 c =
       le-ltb (a .places) 2 (omega (arith, e .before .if1 .left)),
       le-ltb 17 (a .places) (omega (arith, e .if2 .left)),
       eq-eqb (a .ids) (a .n * a .places) (f .if3 .left ∙ ap (λ (k : ℕ). a .n * k) (w .wide .ensures)),
-      eq-eqb (a .distances) (a .n * a .places) (c .if4 .left ∙ ap (λ (k : ℕ). a .n * k) (w .wide .ensures)),
+      eq-eqb (a .distances) (a .n * a .places) (omega (arith, c .if4 .left, ap (λ (k : ℕ). a .n * k) (w .wide .ensures))),
     )
 
 pub table-number-spec : {M : Type 1} → statement M

@@ -1,9 +1,11 @@
 -- `overlap::updated::answer` meets its contract: refused with its number, or run where no condition is met.
 -- Assumes nothing.
 use Prim.Native.Nat.{ℕ}
-use mathlib.Core.Path.{refl, sym, ap, _∙_}
+use mathlib.Core.Path.{_≡_, refl, sym, ap, _∙_}
+use native.Mathlib.Omega.{arith}
 use lib.ListN.{length}
 use Rattle.network.specs.Network.{Network, network}
+use Rattle.overlap.specs.declared.Update.{Update}
 use Rattle.overlap.proofs.Ready.{change-ready}
 use Rattle.overlap.proofs.Scratch.{all-zero}
 use borrow.Author.Needs.{needs}
@@ -15,6 +17,10 @@ G s = network (s .args .starts .now) (s .args .neighbours .now) (s .args .weight
 
 abbrev start : tie.After-change-number → tie.Start
 start n = n .before .before .before .before .before .before .before .before .before .before .before .before
+
+-- refused with equal numbers
+same-number : {m n : ℕ} → m ≡ n → _≡_ {A = Update} (record { number = m; changed = 0 }) (record { number = n; changed = 0 })
+same-number e = ap (λ (m : ℕ). record { number = m; changed = 0 }) e
 
 change-number-requires : tie.Need-change-number-requires
 change-number-requires c κs = search needs
@@ -32,12 +38,7 @@ same-length-4 : tie.Need-same-length-4
 same-length-4 c = search needs
 
 returns : tie.Need-returns
-returns c =
-    let n = c .before in
-    record {
-      refused = λ _. (ap (λ (m : ℕ). record { number = m; changed = 0 }) (n .change-number .ensures), refl);
-      accepted = λ z. absurd (c .if1 .taken (n .change-number .ensures ∙ z));
-    }
+returns c = record { refused = λ _. (same-number (omega arith), refl); accepted = λ z. absurd (omega (arith, z)) }
 
 run-requires : tie.Need-run-requires
 run-requires c κs =

@@ -34,7 +34,7 @@ same-length c = c .before .before .before .loop .inv .grown .size
 returns : tie.Need-returns Inv-loop μ-loop
 returns c =
     let l = c .before .before .before in
-    row-end (start-of l .pre) (start-of l .args .label) (l .loop .inv) (λ _. c .if1 .taken)
+    row-end (start-of l .pre) (start-of l .args .label) (l .loop .inv) (λ _. omega (arith, c .if1 .taken))
 
 mul-p : tie.Need-mul-p Inv-loop μ-loop
 mul-p c = search needs
