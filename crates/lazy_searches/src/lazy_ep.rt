@@ -112,27 +112,15 @@ fn settle_found(
     let mut settled = 0;
     let mut len = 1;
     let mut waiting = 0;
-    loop {
-        let taken = step::next(s, outer, n, len);
-        let Taken::Node {
-            label,
-            node,
-            parent,
-            left,
-        } = taken
-        else {
-            return;
-        };
+    while let Taken::Node {
+        label,
+        node,
+        parent,
+        left,
+    } = step::next(s, outer, n, len) {
         len = left;
-        waiting = second::advance(
-            starts,
-            neighbours,
-            weights,
-            &mut s[..inner],
-            k,
-            waiting,
-            label,
-        );
+        let rows = &mut s[..inner];
+        waiting = second::advance(starts, neighbours, weights, rows, k, waiting, label);
         if taken_back(s, outer, n, k, node, label, parent) {
             continue;
         }

@@ -1,5 +1,5 @@
 // Replays lists of calls on network N of document 01, and prints what comes out of each.
-ghost use Prim.Native.Nat.{_<_};
+ghost use Prim.Native.Nat.{_≤_, _<_};
 ghost use lib.ListN.{length};
 
 mod replay;
@@ -78,9 +78,12 @@ fn print_call(kind: u32, node: u32, number: u32, changed: u32) {
     io::write_all(1, b"\n");
 }
 
-fn print_calls(kinds: &[u32; 14], nodes: &[u32; 14], numbers: &[u32; 14], counts: &[u32; 14]) {
+// All calls of a list.
+fn print_calls(kinds: &[u32], nodes: &[u32], numbers: &[u32], counts: &[u32])
+    requires { ⌜ (length (now kinds) ≤ length (now nodes)) × (length (now kinds) ≤ length (now numbers)) × (length (now kinds) ≤ length (now counts)) ⌝ }
+{
     let mut j = 0;
-    while j < 14 {
+    while j < kinds.len() {
         print_call(kinds[j], nodes[j], numbers[j], counts[j]);
         j += 1;
     }
@@ -130,12 +133,45 @@ fn print_scratch(scratch: &[u32; 360]) {
     io::write_all(1, b"\n");
 }
 
-// Insertions and removals, accepted and refused with 7, 8, 10 and 11, and some that meet several.
-fn all_kinds() {
+// Builds with K = places on network N with the points 2, 4 and 5, makes the calls, and prints what comes out: the answer, each call's entries, the
+// marks, the rows and the scratch.
+fn print_replay(
+    places: u32,
+    kinds: &[u32],
+    nodes: &[u32],
+    each_places: &[u32],
+    lengths: &[usize],
+    numbers: &mut [u32],
+    counts: &mut [u32],
+)
+    requires { ⌜ (length (now kinds) ≤ length (now nodes)) × (length (now kinds) ≤ length (now numbers)) × (length (now kinds) ≤ length (now counts)) ⌝ }
+{
     let mut points = [0u8, 0, 1, 0, 1, 1];
     let mut scratch = [7u32; 360];
     let mut ids = [9u32; 12];
     let mut distances = [9u32; 12];
+    let answer = on_n(
+        &mut points,
+        places,
+        &mut scratch,
+        &mut ids,
+        &mut distances,
+        kinds,
+        nodes,
+        each_places,
+        lengths,
+        numbers,
+        counts,
+    );
+    print_answer(answer);
+    print_calls(kinds, nodes, numbers, counts);
+    print_marks(&points);
+    print_rows(&ids, &distances);
+    print_scratch(&scratch);
+}
+
+// Insertions and removals, accepted and refused with 7, 8, 10 and 11, and some that meet several.
+fn all_kinds() {
     let kinds = [0u32, 1, 0, 0, 0, 0, 1, 0, 9, 0, 1, 1, 0, 1];
     let nodes = [0u32, 2, 6, 1, 1, 4, 2, 3, 5, 7, 3, 1, 2, 4];
     let each_places = [2u32, 2, 2, 3, 2, 2, 2, 2, 2, 18, 1, 2, 2, 2];
@@ -157,12 +193,8 @@ fn all_kinds() {
     ];
     let mut numbers = [9u32; 14];
     let mut counts = [9u32; 14];
-    let answer = on_n(
-        &mut points,
+    print_replay(
         2,
-        &mut scratch,
-        &mut ids,
-        &mut distances,
         &kinds,
         &nodes,
         &each_places,
@@ -170,29 +202,16 @@ fn all_kinds() {
         &mut numbers,
         &mut counts,
     );
-    print_answer(answer);
-    print_calls(&kinds, &nodes, &numbers, &counts);
-    print_marks(&points);
-    print_rows(&ids, &distances);
-    print_scratch(&scratch);
 }
 
 // The list may be empty: the table as build writes it.
 fn no_calls() {
-    let mut points = [0u8, 0, 1, 0, 1, 1];
-    let mut scratch = [7u32; 360];
-    let mut ids = [9u32; 12];
-    let mut distances = [9u32; 12];
     let words = [0u32; 0];
     let lengths = [0usize; 0];
     let mut numbers = [0u32; 0];
     let mut counts = [0u32; 0];
-    let answer = on_n(
-        &mut points,
+    print_replay(
         2,
-        &mut scratch,
-        &mut ids,
-        &mut distances,
         &words,
         &words,
         &words,
@@ -200,31 +219,19 @@ fn no_calls() {
         &mut numbers,
         &mut counts,
     );
-    print_answer(answer);
-    print_marks(&points);
-    print_rows(&ids, &distances);
-    print_scratch(&scratch);
 }
 
 // One call, an insertion at node 0 with K = 2 and so many words of scratch, behind a build with `places`; `counts` is fit with one entry.
 fn one_call(places: u32, words: usize, counts: &mut [u32])
     requires { ⌜ 0 < length (now counts) ⌝ }
 {
-    let mut points = [0u8, 0, 1, 0, 1, 1];
-    let mut scratch = [7u32; 360];
-    let mut ids = [9u32; 12];
-    let mut distances = [9u32; 12];
     let kinds = [0u32];
     let nodes = [0u32];
     let each_places = [2u32];
     let lengths = [words];
     let mut numbers = [9u32; 1];
-    let answer = on_n(
-        &mut points,
+    print_replay(
         places,
-        &mut scratch,
-        &mut ids,
-        &mut distances,
         &kinds,
         &nodes,
         &each_places,
@@ -232,11 +239,6 @@ fn one_call(places: u32, words: usize, counts: &mut [u32])
         &mut numbers,
         counts,
     );
-    print_answer(answer);
-    print_call(0, 0, numbers[0], counts[0]);
-    print_marks(&points);
-    print_rows(&ids, &distances);
-    print_scratch(&scratch);
 }
 
 fn main() {

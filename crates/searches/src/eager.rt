@@ -1,6 +1,7 @@
 // Eager: source 000, Fig. 4. An expansion from the site that stops behind a node with k points strictly nearer to it than the site, and verifies
 // each point that it finds once. Document 01, 'What a site receives'.
 ghost use mathlib.Core.Path.{_≡_};
+ghost use mathlib.Core.Bool.{true, false};
 ghost use Prim.Native.Nat.{_<_};
 ghost use lib.ListN.{length};
 ghost use Rattle.network.specs.Network.{network};
@@ -29,6 +30,32 @@ struct End {
     settled: usize,
     len: usize,
     count: u32,
+}
+
+impl End {
+    // No entry waits any more.
+    fn complete(settled: usize, count: u32) -> Self
+        ensures { λ r. ⌜ r ≡ record { refused = false; settled = settled; len = 0; count = count } ⌝ }
+    {
+        Self {
+            refused: false,
+            settled,
+            len: 0,
+            count,
+        }
+    }
+
+    // The count would exceed the limit.
+    fn beyond(settled: usize, len: usize, count: u32) -> Self
+        ensures { λ r. ⌜ r ≡ record { refused = true; settled = settled; len = len; count = count } ⌝ }
+    {
+        Self {
+            refused: true,
+            settled,
+            len,
+            count,
+        }
+    }
 }
 
 // The site's own flag: 1 where it is a point.
@@ -157,31 +184,12 @@ fn explore(
             left,
         } = taken
         else {
-            return End {
-                refused: false,
-                settled,
-                len: 0,
-                count,
-            };
+            return End::complete(settled, count);
         };
-        let found = look(
-            starts,
-            neighbours,
-            weights,
-            points,
-            &mut s[..b],
-            node,
-            label,
-            q,
-            k,
-        );
+        let f = &mut s[..b];
+        let found = look(starts, neighbours, weights, points, f, node, label, q, k);
         if found < k && count == limit {
-            return End {
-                refused: true,
-                settled,
-                len: left,
-                count,
-            };
+            return End::beyond(settled, left, count);
         }
         step::settle(s, b, n, settled, node, label);
         settled += 1;

@@ -29,10 +29,10 @@ abbrev μ-loop : tie.MeasureT-loop
 abbrev start-of : tie.At-loop Inv-loop μ-loop → tie.Start Inv-loop μ-loop
 start-of l = l .before .before .before .before .before .before .before .before .before .before
 
-abbrev loop-of : tie.After-taken Inv-loop μ-loop → tie.At-loop Inv-loop μ-loop
+abbrev loop-of : tie.After-label Inv-loop μ-loop → tie.At-loop Inv-loop μ-loop
 loop-of c = c .before .before .before .before .before .before
 
-abbrev taken-of : tie.After-advance Inv-loop μ-loop → tie.After-taken Inv-loop μ-loop
+abbrev taken-of : tie.After-advance Inv-loop μ-loop → tie.After-label Inv-loop μ-loop
 taken-of a = a .before .before .before
 
 abbrev advance-of : tie.After-taken-back Inv-loop μ-loop → tie.After-advance Inv-loop μ-loop
@@ -51,7 +51,7 @@ abbrev G : tie.At-loop Inv-loop μ-loop → Network
 G l = let s = start-of l in network (s .args .starts .now) (s .args .neighbours .now) (s .args .weights .now)
 
 -- the words when an entry was taken, the second expansion has gone on, and its node is come to
-abbrev left-words : tie.After-taken Inv-loop μ-loop → List ℕ
+abbrev left-words : tie.After-label Inv-loop μ-loop → List ℕ
 left-words c = c .before .before .before .before .next .last .0
 
 abbrev on-words : tie.After-advance Inv-loop μ-loop → List ℕ
@@ -60,17 +60,17 @@ on-words a = a .advance .last .1 .1 .1 .0 ++ drop (start-of (loop-of (taken-of a
 abbrev come-words : tie.After-discover Inv-loop μ-loop → List ℕ
 come-words d = d .discover .last .1 .1 .1 .1 .0 ++ drop (start-of (loop-of (taken-of (advance-of (back-of d)))) .args .outer) (on-words (advance-of (back-of d)))
 
-took : (c : tie.After-taken Inv-loop μ-loop)
+took : (c : tie.After-label Inv-loop μ-loop)
     → Took (nodeCount (G (loop-of c))) (loop-of c .loop .s) (left-words c) (start-of (loop-of c) .args .outer)
-    (loop-of c .loop .len) (c .taken .given .0 .1 .1 .1 .0) (c .taken .given .0 .0) (c .taken .given .0 .1 .0) (c .taken .given .0 .1 .1 .0)
-took c = rw (c .taken .given .1) at (c .before .before .before .before .next .ensures)
+    (loop-of c .loop .len) (c .label .given .0 .1 .1 .1 .0) (c .label .given .0 .0) (c .label .given .0 .1 .0) (c .label .given .0 .1 .1 .0)
+took c = rw (c .label .given .1) at (c .before .before .before .before .next .ensures)
 
 come : (d : tie.After-discover Inv-loop μ-loop)
     → let c = taken-of (advance-of (back-of d)) in
     let l = loop-of c in
     let a = start-of l .args in
     Coming (G l) (a .points .now) (a .q) (a .k) (room (G l) (l .loop .s) (a .outer) (l .loop .len)) (come-words d) (a .inner) (a .outer)
-    (l .loop .settled) (c .taken .given .0 .1 .1 .1 .0) (d .discover .result) (c .taken .given .0 .0) (c .taken .given .0 .1 .0)
+    (l .loop .settled) (c .label .given .0 .1 .1 .1 .0) (d .discover .result) (c .label .given .0 .0) (c .label .given .0 .1 .0)
 come d =
     let a = advance-of (back-of d) in
     let c = taken-of a in
@@ -83,9 +83,9 @@ followed : (o : tie.After-open Inv-loop μ-loop)
     let c = taken-of (advance-of (back-of d)) in
     let l = loop-of c in
     let b = start-of l .args .outer in
-    Followed (G l) (settledAs (nodeCount (G l)) (come-words d) b (l .loop .settled) (c .taken .given .0 .1 .0) (c .taken .given .0 .0))
-    (o .«open» .last .1 .1 .1 .0) b (c .taken .given .0 .1 .1 .1 .0) (o .«open» .result) (c .taken .given .0 .1 .0) (c .taken .given .0 .0)
-    (length (neighboursOf (G l) (c .taken .given .0 .1 .0)))
+    Followed (G l) (settledAs (nodeCount (G l)) (come-words d) b (l .loop .settled) (c .label .given .0 .1 .0) (c .label .given .0 .0))
+    (o .«open» .last .1 .1 .1 .0) b (c .label .given .0 .1 .1 .1 .0) (o .«open» .result) (c .label .given .0 .1 .0) (c .label .given .0 .0)
+    (length (neighboursOf (G l) (c .label .given .0 .1 .0)))
 followed o = rw (settle-of (o .before .before .before) .settle .ensures) at (o .«open» .ensures)
 
 -- the words are as many as they were
@@ -115,30 +115,14 @@ next-requires c κs =
     let p = l .loop .inv .1 .discovering .progress in
     ((p .area .fits, p .area .queue), progress-nodes (start-of l .pre .accepted) p)
 
-enum-known-taken : tie.Need-enum-known-taken Inv-loop μ-loop
-enum-known-taken c = search needs
+enum-known-label : tie.Need-enum-known-label Inv-loop μ-loop
+enum-known-label c = search needs
 
-enum-told : tie.Need-enum-told Inv-loop μ-loop
-enum-told c = search needs
+slice-relend-prefix-rows : tie.Need-slice-relend-prefix-rows Inv-loop μ-loop
+slice-relend-prefix-rows c = search needs
 
-same-length : tie.Need-same-length Inv-loop μ-loop
-same-length c = search needs
-
-returns : tie.Need-returns Inv-loop μ-loop
-returns c =
-    let n = c .before .before .before .before in
-    let l = n .before .before in
-    let t = rw (c .enum-told .given .1) at (n .next .ensures) in
-    record {
-      size = t .leaves .frame .size ∙ l .loop .inv .0 ∙ l .before .before .before .start .ensures .frame .size;
-      found = extended-listed (start-of l .pre) (l .loop .inv .1) t;
-    }
-
-slice-relend-prefix-advance : tie.Need-slice-relend-prefix-advance Inv-loop μ-loop
-slice-relend-prefix-advance c = search needs
-
-slice-aggregate-advance : tie.Need-slice-aggregate-advance Inv-loop μ-loop
-slice-aggregate-advance c =
+slice-aggregate-rows : tie.Need-slice-aggregate-rows Inv-loop μ-loop
+slice-aggregate-rows c =
     let t = c .before .before in
     let l = loop-of t in
     let p = start-of l .pre in
@@ -242,11 +226,27 @@ loop-again-3 c =
     let l = loop-of t in
     let a = start-of l .args in (
       followed o .frame .size
-          ∙ frame-settle (nodeCount (G l)) (come-words d) (a .outer) (l .loop .settled) (t .taken .given .0 .1 .0) (t .taken .given .0 .0) .size
+          ∙ frame-settle (nodeCount (G l)) (come-words d) (a .outer) (l .loop .settled) (t .label .given .0 .1 .0) (t .label .given .0 .0) .size
           ∙ size-come d
           ∙ l .loop .inv .0,
       extending-opened (start-of l .pre) (come d) (followed o),
     )
+
+enum-told : tie.Need-enum-told Inv-loop μ-loop
+enum-told c = search needs
+
+same-length : tie.Need-same-length Inv-loop μ-loop
+same-length c = search needs
+
+returns : tie.Need-returns Inv-loop μ-loop
+returns c =
+    let n = c .before .before .before .before in
+    let l = n .before .before in
+    let t = rw (c .enum-told .given .1) at (n .next .ensures) in
+    record {
+      size = t .leaves .frame .size ∙ l .loop .inv .0 ∙ l .before .before .before .start .ensures .frame .size;
+      found = extended-listed (start-of l .pre) (l .loop .inv .1) t;
+    }
 
 pub settle-found-spec : {M : Type 1} → statement M
 settle-found-spec =
@@ -258,12 +258,9 @@ settle-found-spec =
     start-requires
     loop-holds
     next-requires
-    enum-known-taken
-    enum-told
-    same-length
-    returns
-    slice-relend-prefix-advance
-    slice-aggregate-advance
+    enum-known-label
+    slice-relend-prefix-rows
+    slice-aggregate-rows
     advance-requires
     taken-back-requires
     loop-less
@@ -278,4 +275,7 @@ settle-found-spec =
     loop-again-2
     open-requires
     loop-less-3
-    loop-again-3)
+    loop-again-3
+    enum-told
+    same-length
+    returns)

@@ -131,16 +131,20 @@ enum-known-taken c = search needs
 enum-told : tie.Need-enum-told Inv-loop μ-loop
 enum-told c = search needs
 
+complete-requires : tie.Need-complete-requires Inv-loop μ-loop
+complete-requires c κs = search needs
+
 same-length : tie.Need-same-length Inv-loop μ-loop
 same-length c = search needs
 
 returns : tie.Need-returns Inv-loop μ-loop
 returns c =
-    let n = c .before .before .before .before in
+    let n = c .before .before .before .before .before in
     let l = n .before .before in
     let e = l .loop .inv .1 in
-    let t = rw (c .enum-told .given .1) at (n .next .ensures) in
+    let t = rw (c .before .enum-told .given .1) at (n .next .ensures) in
     let all = count-all (start-of l .pre) e t in
+    rw (c .complete .ensures)
     record {
       size = t .leaves .frame .size ∙ l .loop .inv .0 ∙ l .before .before .before .start .ensures .frame .size;
       area = area-left (e .progress .area) (t .leaves);
@@ -149,11 +153,11 @@ returns c =
       beyond = λ a. absurd (false≢true a);
     }
 
-slice-relend-prefix-look : tie.Need-slice-relend-prefix-look Inv-loop μ-loop
-slice-relend-prefix-look c = search needs
+slice-relend-prefix-f : tie.Need-slice-relend-prefix-f Inv-loop μ-loop
+slice-relend-prefix-f c = search needs
 
-slice-aggregate-look : tie.Need-slice-aggregate-look Inv-loop μ-loop
-slice-aggregate-look c =
+slice-aggregate-f : tie.Need-slice-aggregate-f Inv-loop μ-loop
+slice-aggregate-f c =
     let t = c .before .before in
     let l = loop-of t in
     sym (length-take-le (start-of l .args .b) (t .before .before .before .before .next .last .0) (omega (arith, l .loop .inv .1 .progress .size, took t .leaves .frame .size)))
@@ -163,15 +167,19 @@ look-requires c κs =
     let t = c .before .before in
     can-look (start-of (loop-of t) .pre) (loop-of t .loop .inv .1) (took t)
 
+beyond-requires : tie.Need-beyond-requires Inv-loop μ-loop
+beyond-requires c κs = search needs
+
 same-length-2 : tie.Need-same-length-2 Inv-loop μ-loop
 same-length-2 c = search needs
 
 returns-2 : tie.Need-returns-2 Inv-loop μ-loop
 returns-2 c =
-    let k = c .before .before .before .before in
+    let k = c .before .before .before .before .before in
     let l = loop-of (taken-of k) in
     let e = exploring k in
     let t = took-after k in
+    rw (c .beyond .ensures)
     record {
       size = t .leaves .frame .size ∙ flags-set k .size ∙ l .loop .inv .0 ∙ l .before .before .before .start .ensures .frame .size;
       area = took-area (start-of l .pre .accepted) (e .progress) t;
@@ -181,8 +189,8 @@ returns-2 c =
           λ a.
           omega (
             arith,
-            beyond (start-of l .pre) e t (few-expanded (start-of l .pre) e t (k .look .ensures .count) (c .before .if1 .taken)),
-            eqb-true (l .loop .count) (start-of l .args .limit) (c .if2 .taken),
+            beyond (start-of l .pre) e t (few-expanded (start-of l .pre) e t (k .look .ensures .count) (c .before .before .if1 .taken)),
+            eqb-true (l .loop .count) (start-of l .args .limit) (c .before .if2 .taken),
           );
     }
 
@@ -268,11 +276,13 @@ explore-spec =
     next-requires
     enum-known-taken
     enum-told
+    complete-requires
     same-length
     returns
-    slice-relend-prefix-look
-    slice-aggregate-look
+    slice-relend-prefix-f
+    slice-aggregate-f
     look-requires
+    beyond-requires
     same-length-2
     returns-2
     settle-requires
