@@ -16,6 +16,7 @@ use expansion::step::Taken;
 use expansion::verify;
 use expansion::words;
 use network::arcs::wide;
+use network::distance::Distance;
 use searches::flags;
 
 // Whether an entry of node v at label l is taken back: k points are nearer to v than l, or nearer to the settled node u that put it in than u's own
@@ -27,11 +28,11 @@ fn taken_back(s: &[u32], outer: usize, n: usize, k: usize, v: u32, l: u32, u: u3
     if second::closed(s, n, k, v, l) {
         return true;
     }
-    let word = s[outer + wide(u)];
-    if word == 0 {
+    let label = second::distance_at(s, outer + wide(u));
+    if label == Distance::NONE {
         return false;
     }
-    second::closed(s, n, k, u, word - 1)
+    second::closed(s, n, k, u, label)
 }
 
 // Verifies point v, and flags it where it is listed.

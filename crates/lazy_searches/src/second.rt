@@ -13,8 +13,8 @@ use expansion::tags;
 use network::arcs;
 use network::arcs::wide;
 
-// The distance that stands at a place, NONE where the place is empty.
-fn distance_at(s: &[u32], at: usize) -> u32
+// The distance that a word stands for, at a place of a row or as a label: NONE where the place is empty, or the node not settled.
+pub fn distance_at(s: &[u32], at: usize) -> u32
     requires { ⌜ at < length (now s) ⌝ }
     ensures { λ r. ⌜ r ≡ wordDistance (getD (now (s .entry)) at 0) ⌝ }
 {
