@@ -1,21 +1,13 @@
 //! Sees that the engine and its twins answer the same and leave the same arrays. A time is compared
 //! only where the work is the same.
 
-use super::calls::{self, Answer, Call, Query, ENGINE, PLAIN, TABLE_CHECK};
+use super::calls::{self, Answer, Query, PLAIN, TABLE_CHECK};
 use super::common::damage::damage;
 use super::common::inputs::{no_k, no_node, some_k, some_node, some_places, some_points};
 use super::common::network::OwnedNetwork;
 use super::common::random::Random;
 use super::common::shapes::random_network;
 use super::lent::{Lent, Written};
-
-/// Runs a call by both from the same arrays and returns the answer, which is the same.
-pub fn assert_same(lent: &mut Lent<'_>, call: Call, query: Query, before: &Written) -> Answer {
-    let engine = lent.outcome(&ENGINE, call, query, before);
-    let twin = lent.outcome(&PLAIN, call, query, before);
-    assert!(engine == twin, "{} differs: {query:?}", call.name);
-    engine.answer
-}
 
 /// Tries every call on so many small random networks, and returns how many calls were accepted and
 /// how many refused.
@@ -41,11 +33,11 @@ fn try_calls(network: &OwnedNetwork, points: &[u8], random: &mut Random) -> Vec<
     let mut answers = Vec::new();
     for call in calls::ALL {
         let query = some_query(network, random);
-        answers.push(assert_same(&mut lent, call, query, &before));
+        answers.push(lent.assert_same(&PLAIN, call, query, &before));
     }
     let query = some_query(network, random);
     let changed = with_one_word_changed(before, random);
-    answers.push(assert_same(&mut lent, TABLE_CHECK, query, &changed));
+    answers.push(lent.assert_same(&PLAIN, TABLE_CHECK, query, &changed));
     answers
 }
 

@@ -6,22 +6,22 @@ use super::lent::Lent;
 use super::plain;
 use overlap::calls::{Found, Listing, Network, Table, TableMut, Verdict, NONE};
 
-/// The functions of the engine, or their twins in plain Rust.
+/// The functions of the engine, their twins in plain Rust, or those of another build.
 #[allow(clippy::type_complexity)] // each type is used once, and a field reads as its function does
 pub struct Functions {
-    network_check: fn(Network<'_>) -> u32,
-    distances: fn(Network<'_>, u32, &mut [u32], &mut [u32]) -> u32,
-    nearest: fn(Network<'_>, &[u8], u32, u32, u32, &mut [u32], Found<'_>) -> Listing,
-    verify: fn(Network<'_>, &[u8], u32, u32, u32, &mut [u32]) -> Verdict,
-    eager: fn(Network<'_>, &[u8], u32, u32, u32, &mut [u32], &mut [u32]) -> Listing,
-    short_query: fn(Network<'_>, &[u8], u32, &mut [u32], &mut [u32]) -> Listing,
-    lazy: SearchCall,
-    lazy_ep: SearchCall,
-    build: fn(Network<'_>, &[u8], &mut [u32], TableMut<'_>) -> u32,
-    insert: ChangeCall,
-    remove: ChangeCall,
-    table_query: fn(Network<'_>, &[u8], u32, u32, Table<'_>, &mut [u32], &mut [u32]) -> Listing,
-    table_check: fn(Network<'_>, &[u8], Table<'_>) -> Verdict,
+    pub network_check: fn(Network<'_>) -> u32,
+    pub distances: fn(Network<'_>, u32, &mut [u32], &mut [u32]) -> u32,
+    pub nearest: fn(Network<'_>, &[u8], u32, u32, u32, &mut [u32], Found<'_>) -> Listing,
+    pub verify: fn(Network<'_>, &[u8], u32, u32, u32, &mut [u32]) -> Verdict,
+    pub eager: fn(Network<'_>, &[u8], u32, u32, u32, &mut [u32], &mut [u32]) -> Listing,
+    pub short_query: fn(Network<'_>, &[u8], u32, &mut [u32], &mut [u32]) -> Listing,
+    pub lazy: SearchCall,
+    pub lazy_ep: SearchCall,
+    pub build: fn(Network<'_>, &[u8], &mut [u32], TableMut<'_>) -> u32,
+    pub insert: ChangeCall,
+    pub remove: ChangeCall,
+    pub table_query: fn(Network<'_>, &[u8], u32, u32, Table<'_>, &mut [u32], &mut [u32]) -> Listing,
+    pub table_check: fn(Network<'_>, &[u8], Table<'_>) -> Verdict,
 }
 
 pub const ENGINE: Functions = Functions {

@@ -94,14 +94,23 @@ impl<'a> Lent<'a> {
         self.written.take_table_of(before);
     }
 
-    /// What a call answers and leaves when it starts from these arrays and old entries in scratch.
-    pub fn outcome(
+    /// Runs a call by the engine and by the other from the same arrays and returns the answer, which
+    /// is the same.
+    pub fn assert_same(
         &mut self,
-        by: &Functions,
+        other: &Functions,
         call: Call,
         query: Query,
         before: &Written,
-    ) -> Outcome {
+    ) -> Answer {
+        let engine = self.outcome(&ENGINE, call, query, before);
+        let outcome = self.outcome(other, call, query, before);
+        assert!(engine == outcome, "{} differs: {query:?}", call.name);
+        engine.answer
+    }
+
+    /// What a call answers and leaves when it starts from these arrays and old entries in scratch.
+    fn outcome(&mut self, by: &Functions, call: Call, query: Query, before: &Written) -> Outcome {
         self.written.clone_from(before);
         self.scratch.words.fill(1);
         Outcome {
@@ -114,8 +123,8 @@ impl<'a> Lent<'a> {
 
 /// What a call answers, and every array that it may write.
 #[derive(PartialEq, Eq)]
-pub struct Outcome {
-    pub answer: Answer,
+struct Outcome {
+    answer: Answer,
     written: Written,
     scratch: Vec<u32>,
 }

@@ -19,7 +19,7 @@ mod report;
 mod roads;
 mod settings;
 
-use calls::Call;
+use calls::{Call, PLAIN};
 use chart::{Axis, Chart, Panel, Sample};
 use lent::Lent;
 use measure::{measure, Budget, Pairs};
@@ -52,8 +52,8 @@ fn measure_calls(
     let mut lent = Lent::built(subject.network.lend(), &subject.points, places, places);
     let mut times = Vec::new();
     for &call in calls {
-        let pairs = measure(call, &mut lent, &queries, budget);
-        print!("{}", report::times_row(call.name, &pairs));
+        let pairs = measure(call, &PLAIN, &mut lent, &queries, budget);
+        print!("{}", pairs.row(call.name));
         times.push((call, pairs));
     }
     Measured {
@@ -89,7 +89,7 @@ fn panels(calls: &[Call], measured: &[(f64, Measured)]) -> Vec<Panel> {
     let sample = |place: usize, x: f64, of_network: &Measured| Sample {
         x,
         engine: of_network.times[place].1.engine(),
-        plain: of_network.times[place].1.plain(),
+        plain: of_network.times[place].1.other(),
     };
     let panel = |(place, call): (usize, &Call)| Panel {
         title: call.name,

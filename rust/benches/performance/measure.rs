@@ -1,7 +1,7 @@
-//! Times of a call by the engine and by its twin, taken in turn in one run.
+//! Times of a call by the engine and by other functions, its twin or another build, taken in turn in
+//! one run.
 
-use super::agree::assert_same;
-use super::calls::{Answer, Call, Functions, Query, ENGINE, PLAIN};
+use super::calls::{Answer, Call, Functions, Query, ENGINE};
 use super::lent::{Lent, Written};
 use std::hint::black_box;
 use std::time::{Duration, Instant};
@@ -9,7 +9,7 @@ use std::time::{Duration, Instant};
 /// The times of pairs of runs in milliseconds, each pair one query.
 pub struct Pairs {
     engine: Vec<f64>,
-    plain: Vec<f64>,
+    other: Vec<f64>,
 }
 
 /// The median and the quartiles.
@@ -21,22 +21,33 @@ pub struct Spread {
 }
 
 impl Pairs {
-    pub fn len(&self) -> usize {
-        self.engine.len()
+    /// A row of a table: a name, how many pairs, the engine's times, the other's, and the ratio.
+    pub fn row(&self, name: &str) -> String {
+        let (engine, other) = (self.engine().shown(3), self.other().shown(3));
+        let (count, ratio) = (self.engine.len(), self.ratio().shown(2));
+        format!("| {name} | {count} | {engine} | {other} | {ratio} |\n")
     }
 
     pub fn engine(&self) -> Spread {
         spread(self.engine.clone())
     }
 
-    pub fn plain(&self) -> Spread {
-        spread(self.plain.clone())
+    pub fn other(&self) -> Spread {
+        spread(self.other.clone())
     }
 
-    /// Of the ratio of each pair, engine to plain Rust.
+    /// Of the ratio of each pair, engine to the other.
     pub fn ratio(&self) -> Spread {
-        let pairs = self.engine.iter().zip(&self.plain);
-        spread(pairs.map(|(engine, plain)| engine / plain).collect())
+        let pairs = self.engine.iter().zip(&self.other);
+        spread(pairs.map(|(engine, other)| engine / other).collect())
+    }
+}
+
+impl Spread {
+    /// The median and the quartiles, with so many places behind the point.
+    fn shown(self, places: usize) -> String {
+        let Self { low, median, high } = self;
+        format!("**{median:.places$}** ({low:.places$} to {high:.places$})")
     }
 }
 
@@ -66,43 +77,55 @@ pub struct Budget {
     pub most_pairs: usize,
 }
 
-/// A call and the arrays from which each of its runs starts.
+/// A call, what the engine is timed against, and the arrays from which each run starts.
 struct Timed<'a, 'b> {
     call: Call,
+    other: &'a Functions,
     lent: &'a mut Lent<'b>,
     before: Written,
 }
 
 /// Compares the outcomes of the first query whole, then times the queries in turn. Behind each pair
 /// of runs the answers and all arrays but scratch are compared. All calls are accepted.
-pub fn measure(call: Call, lent: &mut Lent<'_>, queries: &[Query], budget: Budget) -> Pairs {
+pub fn measure(
+    call: Call,
+    other: &Functions,
+    lent: &mut Lent<'_>,
+    queries: &[Query],
+    budget: Budget,
+) -> Pairs {
     let before = lent.written.clone();
-    let answer = assert_same(lent, call, queries[0], &before);
+    let answer = lent.assert_same(other, call, queries[0], &before);
     assert_eq!(answer.0, 0, "{} is refused", call.name);
-    let mut timed = Timed { call, lent, before };
+    let mut timed = Timed {
+        call,
+        other,
+        lent,
+        before,
+    };
     let mut pairs = Pairs {
         engine: Vec::new(),
-        plain: Vec::new(),
+        other: Vec::new(),
     };
     let start = Instant::now();
     for (round, &query) in queries.iter().cycle().take(budget.most_pairs).enumerate() {
         if round >= budget.least_pairs && start.elapsed() > budget.time {
             break;
         }
-        let (engine, plain) = timed.time_pair(query, round % 2 == 0);
+        let (engine, other) = timed.time_pair(query, round % 2 == 0);
         pairs.engine.push(engine);
-        pairs.plain.push(plain);
+        pairs.other.push(other);
     }
     timed.lent.written = timed.before;
     pairs
 }
 
 impl Timed<'_, '_> {
-    /// The times of the engine and of its twin, one behind the other.
+    /// The times of the engine and of the other, one behind the other.
     fn time_pair(&mut self, query: Query, engine_first: bool) -> (f64, f64) {
         let (first, second) = match engine_first {
-            true => (&ENGINE, &PLAIN),
-            false => (&PLAIN, &ENGINE),
+            true => (&ENGINE, self.other),
+            false => (self.other, &ENGINE),
         };
         let (first_time, first_answer) = self.time(first, query);
         let first_written = self.lent.written.clone();

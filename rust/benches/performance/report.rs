@@ -3,7 +3,7 @@
 use super::calls::{Call, BUILD, REMOVE};
 use super::chart::number;
 use super::extremes::{Range, LINE};
-use super::measure::{Pairs, Spread};
+use super::measure::Pairs;
 use super::networks::Subject;
 use super::Measured;
 use std::fmt::Write;
@@ -63,7 +63,7 @@ pub fn calls_tables(measured: &[Measured]) -> String {
     for Measured { subject, times, .. } in measured {
         let _ = write!(text, "\n### {}\n\n{TIMES_HEAD}", subject.name);
         for (call, pairs) in times {
-            text += &times_row(call.name, pairs);
+            text += &pairs.row(call.name);
         }
     }
     text
@@ -71,19 +71,6 @@ pub fn calls_tables(measured: &[Measured]) -> String {
 
 const TIMES_HEAD: &str =
     "| Call | Pairs | Engine, ms | Plain Rust, ms | Ratio |\n|---|---|---|---|---|\n";
-
-pub fn times_row(name: &str, pairs: &Pairs) -> String {
-    let count = pairs.len();
-    let (engine, plain) = (shown(pairs.engine(), 3), shown(pairs.plain(), 3));
-    let ratio = shown(pairs.ratio(), 2);
-    format!("| {name} | {count} | {engine} | {plain} | {ratio} |\n")
-}
-
-/// A median and its quartiles.
-fn shown(spread: Spread, places: usize) -> String {
-    let Spread { low, median, high } = spread;
-    format!("**{median:.places$}** ({low:.places$} to {high:.places$})")
-}
 
 /// The largest ratio of all, and what part of a build a removal takes.
 pub fn notes(measured: &[Measured]) -> String {
@@ -121,7 +108,7 @@ pub fn builds_text(builds: &[Measured]) -> String {
         TIMES_HEAD.replace("Call", "K")
     );
     for Measured { places, times, .. } in builds {
-        text += &times_row(&places.to_string(), &times[0].1);
+        text += &times[0].1.row(&places.to_string());
     }
     text
 }
@@ -157,7 +144,7 @@ pub fn line_text(rows: &[(Call, Pairs)]) -> String {
          and lazy-EP three nodes:\n\n{TIMES_HEAD}"
     );
     for (call, pairs) in rows {
-        text += &times_row(call.name, pairs);
+        text += &pairs.row(call.name);
     }
     text
 }

@@ -1,0 +1,58 @@
+//! The time of every call, this tree's engine against another build of it, on the networks of
+//! docs/PERFORMANCE.md. `run` beside this file says how it is used.
+
+// The modules are the benchmark's and the tests'; a part of each is used here.
+mod before;
+#[allow(dead_code)]
+#[path = "../performance/calls.rs"]
+mod calls;
+#[path = "../../tests/common/mod.rs"]
+mod common;
+#[path = "../performance/lent.rs"]
+mod lent;
+#[path = "../performance/measure.rs"]
+mod measure;
+#[allow(dead_code)]
+#[path = "../performance/networks.rs"]
+mod networks;
+#[path = "../plain/mod.rs"]
+mod plain;
+#[path = "../performance/roads.rs"]
+mod roads;
+
+use before::BEFORE;
+use calls::Call;
+use lent::Lent;
+use measure::{measure, Budget};
+use networks::{limits, roads, streets, Subject};
+use std::time::Duration;
+
+const BUDGET: Budget = Budget {
+    time: Duration::from_secs(10),
+    least_pairs: 31,
+    most_pairs: 256,
+};
+
+/// Prints a table of these calls on a network, with k = 4 and a table of these places.
+fn print_times(subject: &Subject, calls: &[Call], places: u32) {
+    println!(
+        "\n### {}, K = {places}\n\n| Call | Pairs | This build, ms | The other, ms | Ratio |\n|---|---|---|---|---|",
+        subject.name
+    );
+    let queries = subject.queries(4);
+    let mut lent = Lent::built(subject.network.lend(), &subject.points, places, places);
+    for &call in calls {
+        let pairs = measure(call, &BEFORE, &mut lent, &queries, BUDGET);
+        print!("{}", pairs.row(call.name));
+    }
+}
+
+fn main() {
+    let named: Vec<String> = std::env::args().skip(1).collect();
+    let is_timed = |call: &Call| named.is_empty() || named.iter().any(|name| name == call.name);
+    let calls: Vec<Call> = calls::ALL.into_iter().filter(is_timed).collect();
+    assert!(!calls.is_empty(), "no call has a name of {named:?}");
+    print_times(&streets(255), &calls, 5);
+    print_times(&roads(65_535), &calls, 5);
+    print_times(&limits(), &calls, 17);
+}
