@@ -2,6 +2,7 @@
 -- place (exported for the table); the area that holds a search, what keeps it, and stopping behind a node; the three expansions.
 pub mod LentParts
 pub mod QueueLaws
+pub mod SinkLaws
 pub mod TagLaws
 pub mod Search
 pub mod Steps

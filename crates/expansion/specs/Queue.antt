@@ -4,7 +4,7 @@
 use mathlib.Core.Path.{_≡_}
 use mathlib.Core.Logic.{_⊎_, _≢_, _↔_}
 use mathlib.Core.List.{List}
-use Prim.Native.Nat.{ℕ, _+_, _-_, _*_, _/_, _≤_, _<_}
+use Prim.Native.Nat.{ℕ, zero, suc, _+_, _-_, _*_, _/_, _≤_, _<_}
 use lib.ListN.{length, getD, drop}
 
 -- the key of a distance and a tag: a tag is below 2^32, so keys go by distance and then by tag
@@ -142,3 +142,30 @@ pub record Filled (xs ys : List ℕ) (len hole key : ℕ) : Type 0 where
   pub size : length ys ≡ length xs
   pub behind : (j : ℕ) → 2 * len ≤ j → getD ys j 0 ≡ getD xs j 0
   pub holds : (k : ℕ) → Holds ys len k ↔ ((k ≡ key) ⊎ HoldsBeside xs len hole k)
+
+-- ---- How far an entry sinks (Ask 2).
+
+-- entry i lies so many levels below entry `top`: so often is a child's index taken on the way from `top` to i
+abbrev pub Below : ℕ → ℕ → ℕ → Type 0
+Below zero top i = i ≡ top
+Below (suc levels) top i = (0 < i) × Below levels top (parentOf i)
+
+-- entry i is on the way from the hole down to the place; both ends are
+pub record OnWay (hole place i : ℕ) : Type 0 where
+  pub above : ℕ
+  pub rest : ℕ
+  pub from : Below above hole i
+  pub to : Below rest i place
+
+-- "The step also returns how many entries it stored, shown to be one more than the levels that the entry sank." The entry of the key stands in its
+-- final place, so many levels below the hole. Each entry on the way there has a lesser key and moved one level up, so that one entry was stored for
+-- each index on the way; every other entry stayed.
+pub record Sank (xs ys : List ℕ) (len hole key stored : ℕ) : Type 0 where
+  pub place : ℕ
+  pub levels : ℕ
+  pub inside : place < len
+  pub below : Below levels hole place
+  pub here : keyAt ys place ≡ key
+  pub moved : (i : ℕ) → i ≢ hole → OnWay hole place i → (keyAt xs i < key) × (keyAt ys (parentOf i) ≡ keyAt xs i)
+  pub others : (i : ℕ) → OnWay hole place i ⊎ (keyAt ys i ≡ keyAt xs i)
+  pub count : stored ≡ levels + 1

@@ -4,7 +4,7 @@
 ghost use mathlib.Core.Path.{_≡_};
 ghost use Prim.Native.Nat.{_+_, _*_, _≤_, _<_};
 ghost use lib.ListN.{length, getD, drop};
-ghost use Rattle.expansion.specs.Queue.{keyOf, keyAt, Queue, Pushed, Popped, Cleared, PushedAt, PoppedAt, ClearedAt, Put, LeastChild, Children, Chosen, CanSink, CanRise, Filled};
+ghost use Rattle.expansion.specs.Queue.{keyOf, keyAt, Queue, Pushed, Popped, Cleared, PushedAt, PoppedAt, ClearedAt, Put, LeastChild, Children, Chosen, CanSink, CanRise, Filled, Sank};
 
 // An entry of a queue.
 pub struct Entry {
@@ -62,10 +62,12 @@ fn lesser_child(q: &[u32], len: usize, i: usize) -> usize
     }
 }
 
-// Fills the hole with an entry: children with lesser keys move up, and the entry is stored once, in its final place.
-fn sink(q: &mut [u32], len: usize, hole: usize, distance: u32, tag: u32)
+// Fills the hole with an entry: children with lesser keys move up, and the entry is stored once, in its final place. Returns how many entries it
+// stored: one for each level that the entry sank, and the entry.
+fn sink(q: &mut [u32], len: usize, hole: usize, distance: u32, tag: u32) -> usize
     requires { ⌜ CanSink (now q) len hole (keyOf distance tag) ⌝ }
     ensures { λ _. ⌜ Filled (now (q .entry)) (now (q .exit)) len hole (keyOf distance tag) ⌝ }
+    ensures { λ r. ⌜ Sank (now (q .entry)) (now (q .exit)) len hole (keyOf distance tag) r ⌝ }
 {
     let left = 2 * hole + 1;
     if left < len {
@@ -74,12 +76,14 @@ fn sink(q: &mut [u32], len: usize, hole: usize, distance: u32, tag: u32)
         let key = key_of(distance, tag);
         if k < key {
             copy(q, child, hole);
-            sink(q, len, child, distance, tag);
+            sink(q, len, child, distance, tag) + 1
         } else {
             put(q, hole, distance, tag);
+            1
         }
     } else {
         put(q, hole, distance, tag);
+        1
     }
 }
 
@@ -98,11 +102,20 @@ fn choose_index(a: u64, b: u64, x: usize, y: usize) -> usize
 }
 
 // Fills the hole as `sink` does, given the keys a and b of its two children. It reads the keys of all four grandchildren before it knows which two
-// of them come next, so that the waits for memory of two levels overlap.
-fn sink_ahead(q: &mut [u32], len: usize, hole: usize, a: u64, b: u64, distance: u32, tag: u32)
+// of them come next, so that the waits for memory of two levels overlap. It counts as `sink` does.
+fn sink_ahead(
+    q: &mut [u32],
+    len: usize,
+    hole: usize,
+    a: u64,
+    b: u64,
+    distance: u32,
+    tag: u32,
+) -> usize
     requires { ⌜ CanSink (now q) len hole (keyOf distance tag) ⌝ }
     requires { ⌜ Children (now q) len hole a b ⌝ }
     ensures { λ _. ⌜ Filled (now (q .entry)) (now (q .exit)) len hole (keyOf distance tag) ⌝ }
+    ensures { λ r. ⌜ Sank (now (q .entry)) (now (q .exit)) len hole (keyOf distance tag) r ⌝ }
 {
     let below = 4 * hole + 3;
     if below + 3 < len {
@@ -117,29 +130,31 @@ fn sink_ahead(q: &mut [u32], len: usize, hole: usize, a: u64, b: u64, distance: 
             copy(q, child, hole);
             let next_a = choose_key(a, b, c, e);
             let next_b = choose_key(a, b, d, f);
-            sink_ahead(q, len, child, next_a, next_b, distance, tag);
+            sink_ahead(q, len, child, next_a, next_b, distance, tag) + 1
         } else {
             put(q, hole, distance, tag);
+            1
         }
     } else {
-        sink(q, len, hole, distance, tag);
+        sink(q, len, hole, distance, tag)
     }
 }
 
 // From how many entries on reading ahead pays: fewer stand in the caches next to the processor.
 const AHEAD_FROM: usize = 16384;
 
-// Fills the hole that the first entry leaves.
-fn sink_first(q: &mut [u32], len: usize, distance: u32, tag: u32)
+// Fills the hole that the first entry leaves, and returns how many entries it stored.
+fn sink_first(q: &mut [u32], len: usize, distance: u32, tag: u32) -> usize
     requires { ⌜ CanSink (now q) len 0 (keyOf distance tag) ⌝ }
     ensures { λ _. ⌜ Filled (now (q .entry)) (now (q .exit)) len 0 (keyOf distance tag) ⌝ }
+    ensures { λ r. ⌜ Sank (now (q .entry)) (now (q .exit)) len 0 (keyOf distance tag) r ⌝ }
 {
     if AHEAD_FROM <= len {
         let a = key_at(q, 1);
         let b = key_at(q, 2);
-        sink_ahead(q, len, 0, a, b, distance, tag);
+        sink_ahead(q, len, 0, a, b, distance, tag)
     } else {
-        sink(q, len, 0, distance, tag);
+        sink(q, len, 0, distance, tag)
     }
 }
 

@@ -1,9 +1,10 @@
 -- `expansion::queue::sink` meets its contract. It calls itself, so this is the proof of a cycle of calls. The measure is the length of the queue
--- less the index of the hole, which moves down to a child.
+-- less the index of the hole, which moves down to a child. The count is that of the child's call and one more.
 -- Assumes nothing.
 use borrow.Author.Needs.{needs}
 use native.Mathlib.Omega.{arith}
 use Rattle.expansion.proofs.QueueLaws.{words-key, hole-down, filled-moved, filled-here}
+use Rattle.expansion.proofs.SinkLaws.{sank-here, sank-below, sank-few}
 use Prim.Native.Nat.{ℕ, _-_, _<_}
 use borrow.Fn.Kinds.{In}
 use borrow.Fn.PlainCycle.{Measures, is, falls, and}
@@ -66,6 +67,9 @@ module _ (t : ℕ) where
   put-requires-2 : sink-lts.Need-put-requires-2 (reads t) (sink-at t) sink.Post
   put-requires-2 c κs = search needs
 
+  add-result : sink-lts.Need-add-result (reads t) (sink-at t) sink.Post
+  add-result c = omega (arith, sank-few _ _ _ _ _ _ (c .before .before .sink .ensures .1))
+
   same-length : sink-lts.Need-same-length (reads t) (sink-at t) sink.Post
   same-length c = search needs
 
@@ -77,7 +81,8 @@ module _ (t : ℕ) where
       let at-child = at-key-of .before .before .before in
       let start = at-child .before .before .before .before in
       let ch = at-child .lesser-child .ensures in
-      filled-moved _ _ _ _ _ _ _ (start .pre .1 .is-hole .inside) (ch .inside) (omega (arith, ch .low)) (at-copy .copy .ensures) (words-key _ _) _ _ (at-sink .sink .ensures)
+      let r = at-sink .sink .ensures in
+      (filled-moved _ _ _ _ _ _ _ (start .pre .1 .is-hole .inside) (ch .inside) (omega (arith, ch .low)) (at-copy .copy .ensures) (words-key _ _) _ _ (r .0), sank-below _ _ _ _ _ _ _ _ _ _ (ch .low) (ch .high) (omega (arith, at-copy .before .before)) (at-copy .copy .ensures) (words-key _ _) (r .1))
 
   same-length-2 : sink-lts.Need-same-length-2 (reads t) (sink-at t) sink.Post
   same-length-2 c = search needs
@@ -88,7 +93,7 @@ module _ (t : ℕ) where
       let at-key-of = at-put .before .before .before in
       let at-child = at-key-of .before .before .before in
       let start = at-child .before .before .before .before in
-      filled-here _ _ _ _ _ _ (start .pre .1 .is-hole) (at-put .put .ensures) (start .pre .1 .at-least) (λ i pos lt e. omega (arith, at-child .lesser-child .ensures .least i pos lt e, at-put .before .before))
+      (filled-here _ _ _ _ _ _ (start .pre .1 .is-hole) (at-put .put .ensures) (start .pre .1 .at-least) (λ i pos lt e. omega (arith, at-child .lesser-child .ensures .least i pos lt e, at-put .before .before)), sank-here _ _ _ _ _ _ (start .pre .1 .is-hole .inside) (at-put .put .ensures))
 
   same-length-3 : sink-lts.Need-same-length-3 (reads t) (sink-at t) sink.Post
   same-length-3 c = search needs
@@ -97,7 +102,7 @@ module _ (t : ℕ) where
   returns-3 c =
       let at-put = c .before .before in
       let start = at-put .before .before .before .before in
-      filled-here _ _ _ _ _ _ (start .pre .1 .is-hole) (at-put .put2 .ensures) (start .pre .1 .at-least) (λ i pos lt e. omega (arith, at-put .before .before .if1))
+      (filled-here _ _ _ _ _ _ (start .pre .1 .is-hole) (at-put .put2 .ensures) (start .pre .1 .at-least) (λ i pos lt e. omega (arith, at-put .before .before .if1)), sank-here _ _ _ _ _ _ (start .pre .1 .is-hole .inside) (at-put .put2 .ensures))
 
 pub +sink-spec : {M : Type 1} → statement M
-+sink-spec = close μ-sink λ t. sink-lts.spec (reads t) (sink-at t) sink.Post (mul-left t) (add-left t) (lesser-child-requires t) (key-at-requires t) (key-of-requires t) (copy-requires t) (sink-requires t) (put-requires t) (put-requires-2 t) (same-length t) (returns t) (same-length-2 t) (returns-2 t) (same-length-3 t) (returns-3 t)
++sink-spec = close μ-sink λ t. sink-lts.spec (reads t) (sink-at t) sink.Post (mul-left t) (add-left t) (lesser-child-requires t) (key-at-requires t) (key-of-requires t) (copy-requires t) (sink-requires t) (add-result t) (put-requires t) (put-requires-2 t) (same-length t) (returns t) (same-length-2 t) (returns-2 t) (same-length-3 t) (returns-3 t)

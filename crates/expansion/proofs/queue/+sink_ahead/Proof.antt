@@ -4,6 +4,7 @@
 use borrow.Author.Needs.{needs}
 use native.Mathlib.Omega.{arith}
 use Rattle.expansion.proofs.QueueLaws.{words-key, chosen-child, chosen-key, chosen-children, at-most-children, hole-down, filled-moved, filled-here}
+use Rattle.expansion.proofs.SinkLaws.{sank-here, sank-below, sank-few}
 use Prim.Native.Nat.{ℕ, _-_, _<_}
 use borrow.Fn.Kinds.{In}
 use borrow.Fn.PlainCycle.{Measures, is, falls, and}
@@ -124,6 +125,13 @@ module _ (t : ℕ) where
         ),
       )
 
+  add-result : lts.Need-add-result (reads t) (ahead-at t) ahead.Post
+  add-result c =
+      let at-sink = c .before .before in
+      let at-copy = at-sink .before .before .before .before .before .before in
+      let start = at-copy .before .before .before .before .before .before .before .before .before .before .before .before .before .before .before .before in
+      omega (arith, sank-few _ _ _ _ _ _ (at-sink .sink-ahead .ensures .1), start .pre .1 .0 .is-hole .fits)
+
   put-requires : lts.Need-put-requires (reads t) (ahead-at t) ahead.Post
   put-requires c κs = search needs
 
@@ -144,7 +152,9 @@ module _ (t : ℕ) where
       let children = start .pre .1 .1 in
       let chosen = at-index .choose-index .ensures in
       let child = chosen-child _ _ _ _ _ _ children chosen in
-      filled-moved _ _ _ _ _ _ _ (hole .is-hole .inside) (child .inside) (omega (arith, child .low)) (at-copy .copy .ensures) (words-key _ _) _ _ (at-sink .sink-ahead .ensures)
+      let key = chosen-key _ _ _ _ _ _ children chosen _ (at-key-of .before .choose-key .ensures) in
+      let r = at-sink .sink-ahead .ensures in
+      (filled-moved _ _ _ _ _ _ _ (hole .is-hole .inside) (child .inside) (omega (arith, child .low)) (at-copy .copy .ensures) (words-key _ _) _ _ (r .0), sank-below _ _ _ _ _ _ _ _ _ _ (child .low) (child .high) (omega (arith, key, at-index .before)) (at-copy .copy .ensures) (words-key _ _) (r .1))
 
   same-length-2 : lts.Need-same-length-2 (reads t) (ahead-at t) ahead.Post
   same-length-2 c = search needs
@@ -155,7 +165,7 @@ module _ (t : ℕ) where
       let at-key-of = at-put .before .before .before in
       let start = at-key-of .before .before .before .before .before .before .before .before .before .before .before .before in
       let hole = start .pre .1 .0 in
-      filled-here _ _ _ _ _ _ (hole .is-hole) (at-put .put .ensures) (hole .at-least) (at-most-children _ _ _ _ _ _ _ (start .pre .1 .1) (at-key-of .before .choose-key .ensures) (omega (arith, at-put .before .before)))
+      (filled-here _ _ _ _ _ _ (hole .is-hole) (at-put .put .ensures) (hole .at-least) (at-most-children _ _ _ _ _ _ _ (start .pre .1 .1) (at-key-of .before .choose-key .ensures) (omega (arith, at-put .before .before))), sank-here _ _ _ _ _ _ (hole .is-hole .inside) (at-put .put .ensures))
 
   same-length-3 : lts.Need-same-length-3 (reads t) (ahead-at t) ahead.Post
   same-length-3 c = search needs
@@ -164,4 +174,4 @@ module _ (t : ℕ) where
   returns-3 c = search needs
 
 pub +sink-ahead-spec : {M : Type 1} → statement M
-+sink-ahead-spec = close μ-sink-ahead λ t. lts.spec (reads t) (ahead-at t) ahead.Post (mul-below t) (add-below t) (add-if1 t) (key-at-requires t) (add-key-at t) (key-at-requires-2 t) (add-key-at-2 t) (key-at-requires-3 t) (add-key-at-3 t) (key-at-requires-4 t) (choose-key-requires t) (key-of-requires t) (mul-choose-index t) (add-choose-index t) (mul-choose-index-2 t) (add-choose-index-2 t) (choose-index-requires t) (copy-requires t) (choose-key-requires-2 t) (choose-key-requires-3 t) (sink-ahead-requires t) (put-requires t) (sink-requires t) (same-length t) (returns t) (same-length-2 t) (returns-2 t) (same-length-3 t) (returns-3 t)
++sink-ahead-spec = close μ-sink-ahead λ t. lts.spec (reads t) (ahead-at t) ahead.Post (mul-below t) (add-below t) (add-if1 t) (key-at-requires t) (add-key-at t) (key-at-requires-2 t) (add-key-at-2 t) (key-at-requires-3 t) (add-key-at-3 t) (key-at-requires-4 t) (choose-key-requires t) (key-of-requires t) (mul-choose-index t) (add-choose-index t) (mul-choose-index-2 t) (add-choose-index-2 t) (choose-index-requires t) (copy-requires t) (choose-key-requires-2 t) (choose-key-requires-3 t) (sink-ahead-requires t) (add-result t) (put-requires t) (sink-requires t) (same-length t) (returns t) (same-length-2 t) (returns-2 t) (same-length-3 t) (returns-3 t)

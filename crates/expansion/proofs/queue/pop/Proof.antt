@@ -64,7 +64,7 @@ returns-2 c =
     let at-sink = c .before .before in
     let at-put = at-sink .before .before .before .before .before in
     let start = at-put .before .before .before .before .before .before .before in
-    popped-more _ _ _ (start .pre .0) (start .pre .1) (at-put .put .ensures) _ (at-sink .sink-first .ensures)
+    popped-more _ _ _ (start .pre .0) (start .pre .1) (at-put .put .ensures) _ (at-sink .sink-first .ensures .0)
 
 pub pop-spec : {M : Type 1} → statement M
 pop-spec =
