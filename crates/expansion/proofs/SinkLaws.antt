@@ -1,59 +1,87 @@
 -- Laws of how far an entry sinks (Ask 2): an entry that is stored in the hole sank no level; one that sinks on from a child's index sank one level more;
--- there are no more levels than entries; and the queue before and after admits one count only, also where keys are equal.
+-- there are no more levels than entries; the count is that of the indices on the way; and the queue before and after admits one count only, also where
+-- keys are equal.
 -- Assumes nothing.
 use mathlib.Core.Path.{_≡_, refl, sym, ap, _∙_}
 use mathlib.Core.Logic.{_⊎_, inl, inr, ⊎-elim, _≢_}
-use mathlib.Core.List.{List}
+use mathlib.Core.List.{List, [], _∷_}
 use Prim.Native.Nat.{ℕ, zero, suc, _+_, _*_, _≤_, _<_}
 use native.Mathlib.Omega.{arith}
 use native.Mathlib.Decide.{ℕ-discrete}
-use Rattle.expansion.specs.Queue.{keyOf, keyAt, parentOf, Put, Below, OnWay, Sank}
+use Rattle.expansion.specs.Queue.{keyOf, keyAt, parentOf, Put, LevelsBelow, OnWay, Sank}
+use Rattle.expansion.proofs.QueueLaws.{put-stored}
 
 -- ---- Levels.
 
 -- each level adds one to the index at least
-below-far : (levels top i : ℕ) → Below levels top i → top + levels ≤ i
+below-far : (levels top i : ℕ) → LevelsBelow levels top i → top + levels ≤ i
 below-far zero top i e = omega arith
 below-far (suc levels) top i (pos, b) = omega (arith, below-far levels top (parentOf i) b)
 
 -- small cases: from 0 by 2 and 5 to 11 there are three levels; 5 is a child of 2 and not of 1
-below-three : Below 3 0 11
+below-three : LevelsBelow 3 0 11
 below-three = (omega arith, (omega arith, (omega arith, refl)))
 
-not-below : Below 1 1 5 → ⊥
+not-below : LevelsBelow 1 1 5 → ⊥
 not-below (pos, e) = omega arith
 
 -- how far one entry lies below another is one number
-below-once : (a b top i : ℕ) → Below a top i → Below b top i → a ≡ b
+pub below-once : (a b top i : ℕ) → LevelsBelow a top i → LevelsBelow b top i → a ≡ b
 below-once zero zero top i p q = refl
 below-once zero (suc b) top i p (pos, q) = omega (arith, below-far b top (parentOf i) q)
 below-once (suc a) zero top i (pos, p) q = omega (arith, below-far a top (parentOf i) p)
 below-once (suc a) (suc b) top i (pos, p) (pos', q) = ap suc (below-once a b top (parentOf i) p q)
 
 -- what lies below a child lies one level more below its parent
-below-parent : (levels child i : ℕ) → 0 < child → Below levels child i → Below (suc levels) (parentOf child) i
+below-parent : (levels child i : ℕ) → 0 < child → LevelsBelow levels child i → LevelsBelow (suc levels) (parentOf child) i
 below-parent zero child i pos e = (omega arith, ap parentOf e)
 below-parent (suc levels) child i pos (p, b) = (p, below-parent levels child (parentOf i) pos b)
 
 -- the first child's index on the way
-record First (levels top i : ℕ) : Type 0 where
+record FirstChild (levels top i : ℕ) : Type 0 where
   child : ℕ
   pos : 0 < child
   parent : parentOf child ≡ top
-  rest : Below levels child i
+  rest : LevelsBelow levels child i
 
-below-first : (levels top i : ℕ) → Below (suc levels) top i → First levels top i
+below-first : (levels top i : ℕ) → LevelsBelow (suc levels) top i → FirstChild levels top i
 below-first zero top i (pos, e) = record { child = i; pos = pos; parent = e; rest = refl }
 below-first (suc levels) top i (pos, b) =
     let f = below-first levels top (parentOf i) b in
     record { child = f .child; pos = f .pos; parent = f .parent; rest = (pos, f .rest) }
 
 -- what lies on a way through the child, and behind the child's parent, is the child or lies below it
-below-child : (levels rest child i place : ℕ) → parentOf child < i → Below levels child place → Below rest i place → (above : ℕ) × Below above child i
+below-child : (levels rest child i place : ℕ) → parentOf child < i → LevelsBelow levels child place → LevelsBelow rest i place → (above : ℕ) × LevelsBelow above child i
 below-child zero zero child i place far p q = (0, sym q ∙ p)
 below-child zero (suc rest) child i place far p (pos, q) = absurd (omega (arith, below-far rest i (parentOf place) q, ap parentOf p))
 below-child (suc levels) zero child i place far p q = (suc levels, rw q at p)
 below-child (suc levels) (suc rest) child i place far (pos, p) (pos', q) = below-child levels rest child i (parentOf place) far p q
+
+-- ---- The way from the hole to the place has as many indices as the count says: one for each number of levels up from the place, from 0 to the levels
+-- that lie between the two.
+
+-- no index on the way is farther up than the hole
+few-up : (levels rest hole i place : ℕ) → hole ≤ i → LevelsBelow levels hole place → LevelsBelow rest i place → rest ≤ levels
+few-up levels zero hole i place le p q = omega arith
+few-up zero (suc rest) hole i place le p q = omega (arith, below-far (suc rest) i place q)
+few-up (suc levels) (suc rest) hole i place le (pos, p) (pos', q) = omega (arith, few-up levels rest hole i (parentOf place) le p q)
+
+pub way-only : (levels hole place i : ℕ) → LevelsBelow levels hole place → (w : OnWay hole place i) → w .rest ≤ levels
+way-only levels hole place i b w = few-up levels (w .rest) hole i place (omega (arith, below-far (w .above) hole i (w .from))) b (w .to)
+
+-- no two indices are equally far up
+pub way-one : (rest i j place : ℕ) → LevelsBelow rest i place → LevelsBelow rest j place → i ≡ j
+way-one zero i j place p q = sym p ∙ q
+way-one (suc rest) i j place (pos, p) (pos', q) = way-one rest i j (parentOf place) p q
+
+-- and for each number there is one
+pub way-each : (levels hole place rest : ℕ) → LevelsBelow levels hole place → rest ≤ levels → (i : ℕ) × (w : OnWay hole place i) × (w .rest ≡ rest)
+way-each levels hole place zero b le = (place, record { above = levels; rest = 0; from = b; to = refl }, refl)
+way-each zero hole place (suc rest) b le = absurd (omega arith)
+way-each (suc levels) hole place (suc rest) (pos, b) le =
+    let up = way-each levels hole (parentOf place) rest b (omega arith) in
+    let w = up .1 in
+    (up .0, record { above = w .above; rest = suc (w .rest); from = w .from; to = (pos, w .to) }, ap suc (up .2))
 
 -- ---- An entry sinks.
 
@@ -81,7 +109,7 @@ module _ (xs ys zs : List ℕ) (len hole child d t key stored : ℕ) (low : 2 * 
   parent : parentOf child ≡ hole
   parent = omega arith
 
-  way-down : Below (suc (s .levels)) hole (s .place)
+  way-down : LevelsBelow (suc (s .levels)) hole (s .place)
   way-down = rw parent at (below-parent (s .levels) child (s .place) (omega arith) (s .below))
 
   way-on : (i : ℕ) → OnWay child (s .place) i → OnWay hole (s .place) i
@@ -119,6 +147,14 @@ module _ (xs ys zs : List ℕ) (len hole child d t key stored : ℕ) (low : 2 * 
         count = omega (arith, s .count);
       }
 
+-- a small case: an entry of distance 3 sinks from 0 to 1, as the one there has distance 1, and no further, as the one at 3 has distance 4: two are stored
+sample : Sank (9 ∷ 9 ∷ 1 ∷ 0 ∷ 2 ∷ 0 ∷ 4 ∷ 0 ∷ []) (1 ∷ 0 ∷ 3 ∷ 0 ∷ 2 ∷ 0 ∷ 4 ∷ 0 ∷ []) 4 0 (keyOf 3 0) 2
+unfolding keyAt
+sample =
+    let before : List ℕ = 9 ∷ 9 ∷ 1 ∷ 0 ∷ 2 ∷ 0 ∷ 4 ∷ 0 ∷ [] in
+    let between : List ℕ = 1 ∷ 0 ∷ 1 ∷ 0 ∷ 2 ∷ 0 ∷ 4 ∷ 0 ∷ [] in
+    sank-below before between _ 4 0 1 1 0 (keyOf 3 0) 1 (omega arith) (omega arith) (omega arith) (put-stored before 0 1 0 (omega arith)) refl (sank-here between _ 4 1 3 0 (omega arith) (put-stored between 1 3 0 (omega arith)))
+
 -- there are no more levels than entries
 pub sank-few : (xs ys : List ℕ) (len hole key stored : ℕ) → Sank xs ys len hole key stored → hole + stored ≤ len
 sank-few xs ys len hole key stored s = omega (arith, s .count, s .inside, below-far (s .levels) hole (s .place) (s .below))
@@ -138,7 +174,7 @@ module _ (xs ys : List ℕ) (len hole key a b : ℕ) (s : Sank xs ys len hole ke
       ]
 
   -- above the place, an entry on the way has a lesser key
-  no-rest : (above rest : ℕ) → Below above hole (t .place) → Below rest (t .place) (s .place) → s .place ≡ t .place
+  no-rest : (above rest : ℕ) → LevelsBelow above hole (t .place) → LevelsBelow rest (t .place) (s .place) → s .place ≡ t .place
   no-rest above zero from to = to
   no-rest above (suc rest) from to =
       let f = below-first rest (t .place) (s .place) to in

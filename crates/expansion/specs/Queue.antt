@@ -146,25 +146,25 @@ pub record Filled (xs ys : List ℕ) (len hole key : ℕ) : Type 0 where
 -- ---- How far an entry sinks (Ask 2).
 
 -- entry i lies so many levels below entry `top`: so often is a child's index taken on the way from `top` to i
-abbrev pub Below : ℕ → ℕ → ℕ → Type 0
-Below zero top i = i ≡ top
-Below (suc levels) top i = (0 < i) × Below levels top (parentOf i)
+abbrev pub LevelsBelow : ℕ → ℕ → ℕ → Type 0
+LevelsBelow zero top i = i ≡ top
+LevelsBelow (suc levels) top i = (0 < i) × LevelsBelow levels top (parentOf i)
 
--- entry i is on the way from the hole down to the place; both ends are
+-- entry i is on the way from the hole down to the place; both ends are on it
 pub record OnWay (hole place i : ℕ) : Type 0 where
   pub above : ℕ
   pub rest : ℕ
-  pub from : Below above hole i
-  pub to : Below rest i place
+  pub from : LevelsBelow above hole i
+  pub to : LevelsBelow rest i place
 
 -- "The step also returns how many entries it stored, shown to be one more than the levels that the entry sank." The entry of the key stands in its
--- final place, so many levels below the hole. Each entry on the way there has a lesser key and moved one level up, so that one entry was stored for
--- each index on the way; every other entry stayed.
+-- final place, so many levels below the hole. Each other entry on the way there had a lesser key and stands one level higher now, so that an entry came
+-- to stand at each index on the way; every entry off the way stands where it stood.
 pub record Sank (xs ys : List ℕ) (len hole key stored : ℕ) : Type 0 where
   pub place : ℕ
   pub levels : ℕ
   pub inside : place < len
-  pub below : Below levels hole place
+  pub below : LevelsBelow levels hole place
   pub here : keyAt ys place ≡ key
   pub moved : (i : ℕ) → i ≢ hole → OnWay hole place i → (keyAt xs i < key) × (keyAt ys (parentOf i) ≡ keyAt xs i)
   pub others : (i : ℕ) → OnWay hole place i ⊎ (keyAt ys i ≡ keyAt xs i)

@@ -53,7 +53,7 @@ fn measure_calls(
     let mut times = Vec::new();
     for &call in calls {
         let pairs = measure(call, &PLAIN, &mut lent, &queries, budget);
-        print!("{}", pairs.row(call.name));
+        print!("{}", pairs.row(call.name, 2));
         times.push((call, pairs));
     }
     Measured {

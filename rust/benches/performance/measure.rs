@@ -21,10 +21,11 @@ pub struct Spread {
 }
 
 impl Pairs {
-    /// A row of a table: a name, how many pairs, the engine's times, the other's, and the ratio.
-    pub fn row(&self, name: &str) -> String {
+    /// A row of a table: a name, how many pairs, the engine's times, the other's, and the ratio with
+    /// so many places behind the point.
+    pub fn row(&self, name: &str, places: usize) -> String {
         let (engine, other) = (self.engine().shown(3), self.other().shown(3));
-        let (count, ratio) = (self.engine.len(), self.ratio().shown(2));
+        let (count, ratio) = (self.engine.len(), self.ratio().shown(places));
         format!("| {name} | {count} | {engine} | {other} | {ratio} |\n")
     }
 
@@ -112,7 +113,9 @@ pub fn measure(
         if round >= budget.least_pairs && start.elapsed() > budget.time {
             break;
         }
-        let (engine, other) = timed.time_pair(query, round % 2 == 0);
+        // a query is timed in the other order when it comes again
+        let engine_first = (round + round / queries.len()).is_multiple_of(2);
+        let (engine, other) = timed.time_pair(query, engine_first);
         pairs.engine.push(engine);
         pairs.other.push(other);
     }

@@ -63,7 +63,7 @@ pub fn calls_tables(measured: &[Measured]) -> String {
     for Measured { subject, times, .. } in measured {
         let _ = write!(text, "\n### {}\n\n{TIMES_HEAD}", subject.name);
         for (call, pairs) in times {
-            text += &pairs.row(call.name);
+            text += &pairs.row(call.name, 2);
         }
     }
     text
@@ -108,7 +108,7 @@ pub fn builds_text(builds: &[Measured]) -> String {
         TIMES_HEAD.replace("Call", "K")
     );
     for Measured { places, times, .. } in builds {
-        text += &times[0].1.row(&places.to_string());
+        text += &times[0].1.row(&places.to_string(), 2);
     }
     text
 }
@@ -144,7 +144,7 @@ pub fn line_text(rows: &[(Call, Pairs)]) -> String {
          and lazy-EP three nodes:\n\n{TIMES_HEAD}"
     );
     for (call, pairs) in rows {
-        text += &pairs.row(call.name);
+        text += &pairs.row(call.name, 2);
     }
     text
 }

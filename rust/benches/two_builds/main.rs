@@ -43,15 +43,20 @@ fn print_times(subject: &Subject, calls: &[Call], places: u32) {
     let mut lent = Lent::built(subject.network.lend(), &subject.points, places, places);
     for &call in calls {
         let pairs = measure(call, &BEFORE, &mut lent, &queries, BUDGET);
-        print!("{}", pairs.row(call.name));
+        print!("{}", pairs.row(call.name, 3));
     }
 }
 
 fn main() {
-    let named: Vec<String> = std::env::args().skip(1).collect();
-    let is_timed = |call: &Call| named.is_empty() || named.iter().any(|name| name == call.name);
-    let calls: Vec<Call> = calls::ALL.into_iter().filter(is_timed).collect();
-    assert!(!calls.is_empty(), "no call has a name of {named:?}");
+    let names: Vec<String> = std::env::args().skip(1).collect();
+    let of_name = |name: &String| {
+        let call = calls::ALL.into_iter().find(|call| call.name == name);
+        call.unwrap_or_else(|| panic!("no call is named {name}"))
+    };
+    let calls: Vec<Call> = match names.len() {
+        0 => calls::ALL.to_vec(),
+        _ => names.iter().map(of_name).collect(),
+    };
     print_times(&streets(255), &calls, 5);
     print_times(&roads(65_535), &calls, 5);
     print_times(&limits(), &calls, 17);
