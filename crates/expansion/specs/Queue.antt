@@ -158,8 +158,8 @@ pub record OnWay (hole place i : ℕ) : Type 0 where
   pub to : LevelsBelow rest i place
 
 -- "The step also returns how many entries it stored, shown to be one more than the levels that the entry sank." The entry of the key stands in its
--- final place, so many levels below the hole. Each other entry on the way there had a lesser key and stands one level higher now, so that an entry came
--- to stand at each index on the way; every entry off the way stands where it stood.
+-- final place, so many levels below the hole. Each entry on the way below the hole had a lesser key and stands one level higher now, so that an entry
+-- came to stand at each index on the way; every entry off the way stands where it stood.
 pub record Sank (xs ys : List ℕ) (len hole key stored : ℕ) : Type 0 where
   pub place : ℕ
   pub levels : ℕ
