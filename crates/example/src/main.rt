@@ -37,6 +37,7 @@ fn main() {
     cases::show_rows();
     updates::show_build();
     updates::show_updates();
+    updates::show_second();
     lease::show();
     refusals::show_networks();
     refusals::show_arguments();

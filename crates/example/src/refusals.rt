@@ -1,4 +1,4 @@
-// The twelve numbers of refusal, each with the example that document 01 gives.
+// The twelve numbers of refusal, each with the example that document 01 gives, 6 and 11 with those of Ask 8.
 use crate::network_n;
 use crate::network_n::NEIGHBOURS;
 use crate::network_n::POINTS;
@@ -39,11 +39,11 @@ pub fn show_networks() {
     );
 }
 
-// 6, 7 and 9: N with a byte 2, node 6, and K = 2 with k = 2.
+// 6, 7 and 9: N with a byte 16, node 6, and K = 2 with k = 2.
 pub fn show_arguments() {
     let mut answers = [0; 6];
-    let byte = network_n::eager(&WEIGHTS, &[0, 0, 2, 0, 1, 1], 0, 1, 65535, &mut answers);
-    show(b"  N, byte 2", byte.number);
+    let byte = network_n::eager(&WEIGHTS, &[0, 0, 16, 0, 1, 1], 0, 1, 65535, &mut answers);
+    show(b"  N, byte 16", byte.number);
     show(b"  N, node 6", network_n::distances(6, &mut answers));
     show_short_ids();
     let query = network_n::table_query(0, 2, 2, &[0; 12], &[0; 12], &mut answers);
@@ -85,14 +85,14 @@ pub fn show_short_answers() {
     show(b"  N, 5 answer places", listing.number);
 }
 
-// 11 and 12: insertion of a marked node, and a limit below eager's count.
+// 11 and 12: removal where no locker stands, and a limit below eager's count.
 pub fn show_last() {
     let mut points = POINTS;
     let mut ids = [0; 12];
     let mut distances = [0; 12];
     network_n::build(2, &mut ids, &mut distances);
-    let update = network_n::insert(&mut points, 2, &mut ids, &mut distances);
-    show(b"  N, insert 2", update.number);
+    let update = network_n::remove(&mut points, 0, &mut ids, &mut distances);
+    show(b"  N, remove 0", update.number);
     let mut answers = [0; 6];
     let listing = network_n::eager(&WEIGHTS, &POINTS, 0, 2, 3, &mut answers);
     show(b"  N, q = 0, k = 2, limit 3", listing.number);

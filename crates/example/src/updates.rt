@@ -72,8 +72,23 @@ pub fn show_updates() {
     );
     show_table_check(&points, &ids, &distances);
     if is_table(&ids, &distances, &built_ids, &built_distances) {
-        put(b"    the table as built: yes\n\n");
+        put(b"    the table as built: yes\n");
     } else {
-        put(b"    the table as built: no\n\n");
+        put(b"    the table as built: no\n");
     }
+}
+
+// A second locker on junction 2: rows repeat it, as far as they have room.
+pub fn show_second() {
+    let mut points = POINTS;
+    let mut ids = [0; 12];
+    let mut distances = [0; 12];
+    network_n::build(2, &mut ids, &mut distances);
+    show_update(
+        b"  insert 2",
+        network_n::insert(&mut points, 2, &mut ids, &mut distances),
+    );
+    show_rows(&ids, &distances);
+    show_table_check(&points, &ids, &distances);
+    put(b"\n");
 }

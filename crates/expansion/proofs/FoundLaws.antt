@@ -1,60 +1,117 @@
--- Lists that rise by key, taken from the front: which member comes next, and when no more come.
+-- Lists in order by key, taken from the front: at which places a key stands, and when no more come; and the loop that writes a found point.
 -- Assumes nothing.
 use Prim.Native.Nat.{ℕ, zero, suc, _+_, _≤_, _<_}
-use mathlib.Core.Path.{_≡_, refl, sym, ap}
-use mathlib.Core.Logic.{_⊎_, inl, inr, ⊎-elim}
-use mathlib.Core.List.{List, [], _∷_, _++_, List·Memᴰ, List·Memᴰ·head, List·Memᴰ·tail, List·Memᴰ·cases-cons, List·Memᴰ·not-nil, List·Memᴰ·append-cases, List·Memᴰ·eq-of-singleton, Memᴰ·append-left, Memᴰ·append-right}
-use native.Mathlib.Numerals.{add-one}
+use mathlib.Core.Path.{_≡_, refl, sym, ap, _∙_}
+use mathlib.Core.Logic.{_≢_, _⊎_, ⊎-elim}
+use mathlib.Core.List.{List, [], _∷_, List·Memᴰ, List·Memᴰ·cases-cons, List·Memᴰ·not-nil, Memᴰ·cast}
+use native.Mathlib.Decide.{decLt, ℕ-discrete}
 use native.Mathlib.Omega.{arith}
-use lib.ListN.{length, take, getD, length-take}
-use lib.Seq.{take-suc}
-use Rattle.network.specs.Nearest.{key, Rising}
-use Rattle.network.proofs.Rising.{AllIn, take-rising, take-all-in, same-members}
+use lib.ListN.{length, take, getD, set, length-set, length-take}
+use lib.Seq.{getD-take, getD-set-same, getD-set-other}
+use Rattle.network.specs.Nearest.{key, Ordered}
+use Rattle.network.proofs.Counts.{bit-lt, bit-ge, member-at}
+use Rattle.network.proofs.Ordered.{below, none-below}
+use Rattle.expansion.specs.Found.{Written}
+
+-- the places before `below k` hold what is below k, and those from there on what is not
+pub at-above : (k : ℕ) (xs : List (ℕ × ℕ)) → Ordered xs → (j : ℕ) → j < below k xs → key (getD xs j (0, 0)) < k
+at-above k [] r j h = absurd (omega arith)
+at-above k (x ∷ xs) r j h =
+    elim (decLt (key x) k) [
+      | yes l ↦ by j (λ i m. at-above k xs (r .1) i m) h (ap (λ n. below k xs + n) (bit-lt (key x) k l)) l
+      | no n ↦
+          absurd
+          (omega (arith, bit-ge (key x) k (omega arith), none-below k xs (λ y m. omega (arith, r .0 y m))))
+    ]
+  where
+    by : (j : ℕ) → ((i : ℕ) → i < below k xs → key (getD xs i (0, 0)) < k) → j < below k (x ∷ xs) → below k (x ∷ xs) ≡ below k xs + 1 → key x < k
+        → key (getD (x ∷ xs) j (0, 0)) < k
+    by zero ih h e l = l
+    by (suc j) ih h e l = ih j (omega arith)
+
+pub at-below : (k : ℕ) (xs : List (ℕ × ℕ)) → Ordered xs → (j : ℕ) → j < length xs → below k xs ≤ j → k ≤ key (getD xs j (0, 0))
+at-below k [] r j l h = absurd (omega arith)
+at-below k (x ∷ xs) r zero l h =
+    elim (decLt (key x) k) [
+      | yes m ↦ absurd (omega (arith, bit-lt (key x) k m))
+      | no n ↦ omega arith
+    ]
+at-below k (x ∷ xs) r (suc j) l h =
+    elim (decLt (key x) k) [
+      | yes m ↦ at-below k xs (r .1) j (omega arith) (omega (arith, bit-lt (key x) k m))
+      | no n ↦ omega (arith, r .0 (getD xs j (0, 0)) (member-at (0, 0) xs j (omega arith)))
+    ]
+
+-- a place is not behind its own key
+pub place-own : (xs : List (ℕ × ℕ)) → Ordered xs → (j : ℕ) → j < length xs → j < below (suc (key (getD xs j (0, 0)))) xs
+place-own xs r j l =
+    elim (decLt j (below (suc (key (getD xs j (0, 0)))) xs)) [
+      | yes h ↦ h
+      | no n ↦ absurd (omega (arith, at-below (suc (key (getD xs j (0, 0)))) xs r j l (omega arith)))
+    ]
 
 -- z stands at place m of xs
 pub record Next (xs : List (ℕ × ℕ)) (m : ℕ) (z : ℕ × ℕ) : Type 0 where
   pub low : m < length xs
   pub is : getD xs m (0, 0) ≡ z
 
-deeper : {xs : List (ℕ × ℕ)} {m : ℕ} {x z : ℕ × ℕ} → Next xs m z → Next (x ∷ xs) (suc m) z
-deeper n = record { low = omega (arith, n .low); is = n .is }
+-- the places of the first m
+pub first-in : (m : ℕ) (xs : List (ℕ × ℕ)) (j : ℕ) → j < m → j < length xs → List·Memᴰ (getD xs j (0, 0)) (take m xs)
+first-in m xs j h l =
+    Memᴰ·cast (sym (getD-take m xs j (0, 0) h)) (member-at (0, 0) (take m xs) j (omega (arith, length-take m xs)))
 
--- a member that is not among the first m, while all that come before it are, comes next
-pub comes-next : (m : ℕ) (xs : List (ℕ × ℕ)) (z : ℕ × ℕ) → Rising xs → List·Memᴰ z xs → (List·Memᴰ z (take m xs) → ⊥)
-    → ((y : ℕ × ℕ) → List·Memᴰ y xs → key y < key z → List·Memᴰ y (take m xs)) → Next xs m z
-comes-next zero [] z r i new before = absurd (List·Memᴰ·not-nil i)
-comes-next (suc m) [] z r i new before = absurd (List·Memᴰ·not-nil i)
-comes-next zero (x ∷ xs) z r i new before =
+pub record PlaceIn (m : ℕ) (xs : List (ℕ × ℕ)) (z : ℕ × ℕ) : Type 0 where
+  pub index : ℕ
+  pub low : index < m
+  pub inside : index < length xs
+  pub is : z ≡ getD xs index (0, 0)
+
+pub in-first : (m : ℕ) (xs : List (ℕ × ℕ)) (z : ℕ × ℕ) → List·Memᴰ z (take m xs) → PlaceIn m xs z
+in-first zero xs z i = absurd (List·Memᴰ·not-nil i)
+in-first (suc m) [] z i = absurd (List·Memᴰ·not-nil i)
+in-first (suc m) (x ∷ xs) z i =
     ⊎-elim
-    (λ q. record { low = omega arith; is = sym q })
-    (λ t. absurd (List·Memᴰ·not-nil (before x (List·Memᴰ·head refl) (r .0 z t))))
-    (List·Memᴰ·cases-cons i)
-comes-next (suc m) (x ∷ xs) z r i new before =
-    ⊎-elim
-    (λ q. absurd (new (List·Memᴰ·head q)))
-    (λ t.
-    deeper
-    (comes-next m xs z (r .1) t (λ j. new (List·Memᴰ·tail j))
-    (λ y j l.
-    ⊎-elim (λ q. absurd (omega (arith, r .0 y j, ap key q))) (λ b. b) (List·Memᴰ·cases-cons (before y (List·Memᴰ·tail j) l)))))
+    (λ e. record { index = 0; low = omega arith; inside = omega arith; is = e })
+    (λ t. let r = in-first m xs z t in record { index = suc (r .index); low = omega (arith, r .low); inside = omega (arith, r .inside); is = r .is })
     (List·Memᴰ·cases-cons i)
 
--- all stand among the first m: there are no more
-pub no-more : (m : ℕ) (xs : List (ℕ × ℕ)) → Rising xs → AllIn xs (take m xs) → length xs ≤ m
-no-more m xs r all =
-    omega (arith, ap length (same-members xs (take m xs) r (take-rising m xs r) all (take-all-in m xs)), length-take m xs)
+-- ---- The loop that writes (v, l) at the places from `found` on.
+pub written-none : (xs : List ℕ) (k found v l : ℕ) → Written xs xs k found v l found
+written-none xs k found v l =
+    record {
+      size = refl;
+      ids = λ j a b. absurd (omega arith);
+      distances = λ j a b. absurd (omega arith);
+      before = λ j a. refl;
+      between = λ j a b. refl;
+      behind = λ j a. refl;
+    }
 
--- the members of the first m and one more
-module _ (xs : List (ℕ × ℕ)) (m : ℕ) (z : ℕ × ℕ) (next : Next xs m z) where
-  one-more : take (m + 1) xs ≡ take m xs ++ (z ∷ [])
-  one-more = rw (add-one m, take-suc xs m (0, 0) (next .low), next .is)
+pub written-more : {xs ys : List ℕ} {k found v l at : ℕ} → Written xs ys k found v l at → found ≤ at → at < k → k + k ≤ length ys
+    → Written xs (set (set ys at v) (k + at) l) k found v l (at + 1)
+written-more {xs} {ys} {k} {found} {v} {l} {at} w low high fits =
+    record {
+      size = simp length-set (w .size);
+      ids =
+          λ j a b.
+          elim (ℕ-discrete j at) [
+            | yes q ↦ getD-set-other (set ys at v) (k + at) j l 0 (omega arith) ∙ ap (λ i. getD (set ys at v) i 0) q ∙ getD-set-same ys at v 0 (omega arith)
+            | no n ↦ other j n (omega arith) ∙ w .ids j a (omega arith)
+          ];
+      distances =
+          λ j a b.
+          elim (ℕ-discrete j at) [
+            | yes q ↦ ap (λ i. getD (set (set ys at v) (k + at) l) (k + i) 0) q ∙ getD-set-same (set ys at v) (k + at) l 0 (simp length-set (omega arith))
+            | no n ↦ other (k + j) (omega arith) (omega arith) ∙ w .distances j a (omega arith)
+          ];
+      before = λ j a. other j (omega arith) (omega arith) ∙ w .before j a;
+      between = λ j a b. other j (omega arith) (omega arith) ∙ w .between j (omega arith) b;
+      behind = λ j a. other j (omega arith) (omega arith) ∙ w .behind j (omega arith);
+    }
+  where
+    other : (j : ℕ) → j ≢ at → j ≢ k + at → getD (set (set ys at v) (k + at) l) j 0 ≡ getD ys j 0
+    other j a b = getD-set-other (set ys at v) (k + at) j l 0 b ∙ getD-set-other ys at j v 0 a
 
-  pub more-old : (y : ℕ × ℕ) → List·Memᴰ y (take m xs) → List·Memᴰ y (take (m + 1) xs)
-  more-old y i = rw one-more (Memᴰ·append-left _ i)
-
-  pub more-new : List·Memᴰ z (take (m + 1) xs)
-  more-new = rw one-more (Memᴰ·append-right (take m xs) (List·Memᴰ·head refl))
-
-  pub more-cases : (y : ℕ × ℕ) → List·Memᴰ y (take (m + 1) xs) → List·Memᴰ y (take m xs) ⊎ (y ≡ z)
-  more-cases y i =
-      ⊎-elim (λ t. inl t) (λ t. inr (List·Memᴰ·eq-of-singleton t)) (List·Memᴰ·append-cases (take m xs) (rw one-more at i))
+-- as the code reads and writes
+pub second-fits : (ys : List ℕ) (k at v : ℕ) → at < k → k + k ≤ length ys → k + at < length (set ys at v)
+second-fits ys k at v h f = simp length-set (omega arith)

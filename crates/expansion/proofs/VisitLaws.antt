@@ -1,94 +1,72 @@
--- Verify counts the other points that an expansion from p settles: those at a label below the present one, and those at it. When an entry of
--- label l is taken, every node nearer than l is settled, so the count below l is the rule's count of other points nearer than l.
+-- Verify counts the other lockers that an expansion from p settles: those at a label below the present one, and those at it. When an entry of
+-- label l is taken, every node nearer than l is settled, so the count below l is the rule's count of other lockers nearer than l.
 -- Assumes nothing.
-use Prim.Native.Nat.{ℕ, zero, suc, _+_, _≤_, _<_}
+use Prim.Native.Nat.{ℕ, zero, suc, _+_, _-_, _≤_, _<_}
 use mathlib.Core.Path.{_≡_, refl, sym, ap, _∙_}
-use mathlib.Core.Bool.{Bool, true, false, not, _&&_, false≢true}
+use mathlib.Core.Bool.{Bool, true, false, not, _&&_}
 use mathlib.Core.Logic.{_≢_, _⊎_, ⊎-elim}
 use mathlib.Core.List.{List}
 use native.Mathlib.Decide.{ℕ-discrete, decLt}
 use native.Mathlib.Omega.{arith}
 use lib.Dec.{eqb, ltb}
 use lib.ListN.{length, getD}
-use borrow.Author.Tests.{ltb-true, lt-ltb, le-ltb, eq-eqb, ne-eqb}
+use borrow.Author.Tests.{eqb-true, ltb-true, lt-ltb, le-ltb, eq-eqb, ne-eqb}
 use Rattle.network.specs.Network.{Network, nodeCount, neighboursOf}
 use Rattle.network.specs.Accepted.{Accepted}
 use Rattle.network.specs.Distance.{NONE, dist}
-use Rattle.network.specs.Count.{count, bit}
-use Rattle.network.specs.Points.{marked, isNearer, isOtherNearer, othersNearer, verified}
-use Rattle.network.proofs.Counts.{count-mono, count-same, count-few, count-none}
-use Rattle.network.proofs.Tests.{and-parts, and-intro, and-right}
+use Rattle.network.specs.Count.{weighed, sumOver, bit}
+use Rattle.network.specs.Points.{lockers, marked, isNearer, othersAt, othersNearer, verified}
+use Rattle.network.proofs.Counts.{bit-most}
+use Rattle.network.proofs.Totals.{total-same, total-split, total-at, sum-mono, sum-none}
+use Rattle.network.proofs.Tests.{and-right}
 use Rattle.expansion.specs.declared.verify.Tally.{Tally}
 use Rattle.expansion.specs.Area.{LabelAt, Kept, Blank, Started, Took, Emptied, Followed, queueBase}
-use Rattle.expansion.specs.Visited.{isOther, CameTo}
+use Rattle.expansion.specs.Visited.{CameTo}
 use Rattle.expansion.proofs.Search.{frontier}
 use Rattle.expansion.proofs.AreaLaws.{settledAs, label-same}
 use Rattle.expansion.proofs.AreaSearch.{label-back, search-took, search-finished, took-least, took-exact}
 use Rattle.expansion.proofs.Progress.{All, all-leads, Progress, took-word, took-small, label-taken, label-others}
 
--- ---- Counts.
+-- ---- The others at a node, as the code reads them.
 
--- who passes w passes t or u, and not both
-count-sum : (t u w : ℕ → Bool) (n : ℕ) → ((x : ℕ) → x < n → bit (w x) ≡ bit (t x) + bit (u x)) → count w n ≡ count t n + count u n
-unfolding count
-count-sum t u w zero h = refl
-count-sum t u w (suc n) h = omega (arith, count-sum t u w n (λ x l. h x (omega arith)), h n (omega arith))
+pub other-node : (P : List ℕ) (p x r : ℕ) → x ≢ p → r ≡ lockers P x → r ≡ othersAt P p x
+other-node P p x r n e = omega (arith, e, ap bit (ne-eqb x p n))
 
--- two tests that differ at v alone
-count-at : (t u : ℕ → Bool) (v n : ℕ) → v < n → ((x : ℕ) → x < n → x ≢ v → u x ≡ t x) → count u n + bit (t v) ≡ count t n + bit (u v)
-unfolding count
-count-at t u v zero l h = absurd (omega arith)
-count-at t u v (suc n) l h =
-    elim (ℕ-discrete n v) [
-      | yes e ↦ rw e (omega (arith, count-same t u v (λ x i. h x (omega arith) (λ q. omega arith))))
-      | no m ↦ omega (arith, count-at t u v n (omega arith) (λ x i. h x (omega arith)), ap bit (h n (omega arith) m))
-    ]
-
-count-empty : (t : ℕ → Bool) (n : ℕ) → ((x : ℕ) → x < n → t x ≡ false) → count t n ≡ 0
-count-empty t n h = count-none t n (λ x l e. false≢true (sym (h x l) ∙ e))
-
-and-assoc : (a b c : Bool) → (a && (b && c)) ≡ ((a && b) && c)
-and-assoc true b c = refl
-and-assoc false b c = refl
-
-bit-and : (o a b c : Bool) → bit a ≡ bit b + bit c → bit (o && a) ≡ bit (o && b) + bit (o && c)
-bit-and true a b c e = e
-bit-and false a b c e = refl
-
--- ---- A point other than p, as the code tests it.
-
-pub not-other : (P : List ℕ) (p x : ℕ) → x ≡ p → 0 ≡ bit (isOther P p x)
-not-other P p x e = rw (eq-eqb x p e)
-
-pub not-point : (P : List ℕ) (p x : ℕ) → getD P x 0 ≢ 1 → 0 ≡ bit (isOther P p x)
-not-point P p x n = sym (ap bit (and-right (not (eqb x p)) (marked P x) (ne-eqb (getD P x 0) 1 n)))
-
-pub other-point : (P : List ℕ) (p x : ℕ) → x ≢ p → getD P x 0 ≡ 1 → 1 ≡ bit (isOther P p x)
-other-point P p x n e = rw (ne-eqb x p n, eq-eqb (getD P x 0) 1 e)
+pub own-node : (P : List ℕ) (p x r : ℕ) → x ≡ p → r ≡ lockers P x → r - 1 ≡ othersAt P p x
+own-node P p x r y e = omega (arith, e, ap bit (eq-eqb x p y))
 
 -- ---- The rule's count.
 
-other-nearer : (g : Network) (P : List ℕ) (p e x : ℕ) → isOtherNearer g P p e x ≡ (isOther P p x && ltb (dist g p x) e)
-unfolding isOtherNearer isNearer
-other-nearer g P p e x = and-assoc (not (eqb x p)) (marked P x) (ltb (dist g p x) e)
+-- a node without a locker adds nothing, so the distance alone is tested
+others-are : (g : Network) (P : List ℕ) (p e : ℕ) → othersNearer g P p e ≡ sumOver (λ x. ltb (dist g p x) e) (othersAt P p) (nodeCount g)
+unfolding othersNearer isNearer
+others-are g P p e =
+    total-same (λ x. weighed (ltb (dist g p x) e) (othersAt P p x)) (λ x. weighed (marked P x && ltb (dist g p x) e) (othersAt P p x)) (nodeCount g)
+    (λ x l. elim (decLt 0 (lockers P x)) [
+      | yes h ↦ rw (lt-ltb 0 (lockers P x) h)
+      | no n ↦ none (marked P x && ltb (dist g p x) e) (ltb (dist g p x) e) (othersAt P p x) (omega (arith, bit-most (eqb x p)))
+    ])
+  where
+    none : (a b : Bool) (w : ℕ) → w ≡ 0 → weighed a w ≡ weighed b w
+    none true true w z = refl
+    none true false w z = z
+    none false true w z = sym z
+    none false false w z = refl
 
 pub nearer-mono : (g : Network) (P : List ℕ) (p d e : ℕ) → d ≤ e → othersNearer g P p d ≤ othersNearer g P p e
-unfolding othersNearer
 nearer-mono g P p d e h =
-    count-mono (isOtherNearer g P p d) (isOtherNearer g P p e) (nodeCount g)
-    (λ x i t.
-    let r = and-parts (isOther P p x) (ltb (dist g p x) d) (sym (other-nearer g P p d x) ∙ t) in
-    other-nearer g P p e x ∙ and-intro (isOther P p x) (ltb (dist g p x) e) (r .0) (lt-ltb (dist g p x) e (omega (arith, ltb-true (dist g p x) d (r .1)))))
+    omega (
+      arith,
+      others-are g P p d,
+      others-are g P p e,
+      sum-mono (λ x. ltb (dist g p x) d) (λ x. ltb (dist g p x) e) (othersAt P p) (nodeCount g)
+          (λ x i t. lt-ltb (dist g p x) e (omega (arith, ltb-true (dist g p x) d t))),
+    )
 
-pub nearer-few : (g : Network) (P : List ℕ) (p e : ℕ) → othersNearer g P p e ≤ nodeCount g
-unfolding othersNearer
-nearer-few g P p e = count-few (isOtherNearer g P p e) (nodeCount g)
-
-nearer-none : (g : Network) (P : List ℕ) (p : ℕ) → othersNearer g P p 0 ≡ 0
-unfolding othersNearer
+pub nearer-none : (g : Network) (P : List ℕ) (p : ℕ) → othersNearer g P p 0 ≡ 0
 nearer-none g P p =
-    count-empty (isOtherNearer g P p 0) (nodeCount g)
-    (λ x i. other-nearer g P p 0 x ∙ and-right (isOther P p x) (ltb (dist g p x) 0) (le-ltb (dist g p x) 0 (omega arith)))
+    others-are g P p 0
+    ∙ sum-none (λ x. ltb (dist g p x) 0) (othersAt P p) (nodeCount g) (λ x i t. absurd (omega (arith, ltb-true (dist g p x) 0 t)))
 
 -- the rule: q can't be reached; k other points are nearer; fewer are
 not-reached : (g : Network) (P : List ℕ) (p q k : ℕ) → dist g p q ≡ NONE → false ≡ verified g P p q k
@@ -106,23 +84,25 @@ few-enough g P p q k n h = rw (ne-eqb (dist g p q) NONE n, lt-ltb (othersNearer 
 
 -- ---- The count under way.
 
--- a point other than p that is settled at label l
-abbrev pub atLevel : List ℕ → ℕ → List ℕ → ℕ → ℕ → ℕ → Bool
-atLevel P p xs b l x = isOther P p x && eqb (getD xs (b + x) 0) (suc l)
+-- a node that is settled at label l
+abbrev pub atLevel : List ℕ → ℕ → ℕ → ℕ → Bool
+atLevel xs b l x = eqb (getD xs (b + x) 0) (suc l)
 
 -- The expansion has come to label l. Every node nearer than l is settled, at no more than l; q is not settled.
 pub record Counted (g : Network) (P : List ℕ) (p q : ℕ) (xs : List ℕ) (b l below level : ℕ) : Type 0 where
   pub before : (x : ℕ) → x < nodeCount g → dist g p x < l → getD xs (b + x) 0 ≢ 0
   pub low : (x m : ℕ) → LabelAt (nodeCount g) xs b x m → m ≤ l
   pub nearer : below ≡ othersNearer g P p l
-  pub here : level ≡ count (atLevel P p xs b l) (nodeCount g)
+  pub here : level ≡ sumOver (atLevel xs b l) (othersAt P p) (nodeCount g)
   pub new : getD xs (b + q) 0 ≡ 0
 
--- the counts fit
-pub counted-few : {g : Network} {P : List ℕ} {p q : ℕ} {xs : List ℕ} {b l below level : ℕ} → Accepted g → Counted g P p q xs b l below level
-    → (below ≤ 65535) × (level ≤ 65535)
-counted-few {g} {P} {p} {q} {xs} {b} {l} ok c =
-    (omega (arith, c .nearer, nearer-few g P p l, ok .few), omega (arith, c .here, count-few (atLevel P p xs b l) (nodeCount g), ok .few))
+-- the tally counts as many when the expansion comes to a label
+pub came-sum : {t r : Tally} {l : ℕ} → CameTo t l r → r .below + r .level ≡ t .below + t .level
+came-sum {t} {r} {l} c =
+    elim (decLt (t .label) l) [
+      | yes h ↦ omega (arith, c .below h, c .level h)
+      | no n ↦ rw (c .same (omega arith))
+    ]
 
 -- nothing is settled yet
 pub counted-start : (g : Network) (P : List ℕ) (p q : ℕ) {xs ys : List ℕ} {b : ℕ} → q < nodeCount g → Blank xs b → Started (nodeCount g) xs ys b p
@@ -134,8 +114,8 @@ counted-start g P p q {xs} {ys} {b} inside blank t =
       nearer = sym (nearer-none g P p);
       here =
           sym
-          (count-empty (atLevel P p ys b 0) (nodeCount g)
-          (λ x h. and-right (isOther P p x) (eqb (getD ys (b + x) 0) (suc 0)) (ne-eqb (getD ys (b + x) 0) (suc 0) (λ e. omega (arith, e, blank-word x h)))));
+          (sum-none (atLevel ys b 0) (othersAt P p) (nodeCount g)
+          (λ x h e. absurd (omega (arith, eqb-true (getD ys (b + x) 0) (suc 0) e, blank-word x h))));
       new = blank-word q inside;
     }
   where
@@ -153,8 +133,8 @@ counted-same {g} {P} {p} {q} {xs} {ys} {b} {l} inside same c =
       here =
           c .here
           ∙ sym
-          (count-same (atLevel P p xs b l) (atLevel P p ys b l) (nodeCount g)
-          (λ x h. ap (λ (w : ℕ). isOther P p x && eqb w (suc l)) (label-same b same x h)));
+          (total-same (λ x. weighed (atLevel xs b l x) (othersAt P p x)) (λ x. weighed (atLevel ys b l x) (othersAt P p x)) (nodeCount g)
+          (λ x h. ap (λ (w : ℕ). weighed (eqb w (suc l)) (othersAt P p x)) (label-same b same x h)));
       new = label-same b same q inside ∙ c .new;
     }
 
@@ -190,17 +170,17 @@ module _ {g : Network} (ok : Accepted g) {p : ℕ} {xs ys : List ℕ} {b settled
     same-queue = counted-same inside (t .leaves .frame) c
 
     -- above the present label, a node is nearer than l where it is nearer than the present label, or settled at it
-    split : at < l → (x : ℕ) → x < nodeCount g → bit (ltb (dist g p x) l) ≡ bit (ltb (dist g p x) at) + bit (eqb (getD ys (b + x) 0) (suc at))
-    split h x i =
+    split : at < l → (x w : ℕ) → x < nodeCount g → weighed (ltb (dist g p x) l) w ≡ weighed (ltb (dist g p x) at) w + weighed (eqb (getD ys (b + x) 0) (suc at)) w
+    split h x w i =
         elim (decLt (dist g p x) at) [
           | yes k ↦
-              let w = nearer-settled x (omega arith) in
-              rw (lt-ltb (dist g p x) l (omega arith), lt-ltb (dist g p x) at k, ne-eqb (getD ys (b + x) 0) (suc at) (λ z. omega (arith, w .is)))
+              let u = nearer-settled x (omega arith) in
+              rw (lt-ltb (dist g p x) l (omega arith), lt-ltb (dist g p x) at k, ne-eqb (getD ys (b + x) 0) (suc at) (λ z. omega (arith, u .is))) (omega arith)
           | no k ↦
               elim (ℕ-discrete (getD ys (b + x) 0) (suc at)) [
                 | yes z ↦
                     let d = labels-exact x at (record { inside = i; is = z }) in
-                    rw (lt-ltb (dist g p x) l (omega arith), le-ltb (dist g p x) at (omega arith), eq-eqb (getD ys (b + x) 0) (suc at) z)
+                    rw (lt-ltb (dist g p x) l (omega arith), le-ltb (dist g p x) at (omega arith), eq-eqb (getD ys (b + x) 0) (suc at) z) (omega arith)
                 | no z ↦
                     rw (le-ltb (dist g p x) l (far k z), le-ltb (dist g p x) at (omega arith), ne-eqb (getD ys (b + x) 0) (suc at) z)
               ]
@@ -216,16 +196,15 @@ module _ {g : Network} (ok : Accepted g) {p : ℕ} {xs ys : List ℕ} {b settled
             ]
 
     nearer-risen : at < l → othersNearer g P p l ≡ below + level
-    unfolding othersNearer
     nearer-risen h =
         omega (
           arith,
           same-queue .nearer,
           same-queue .here,
-          count-sum (isOtherNearer g P p at) (atLevel P p ys b at) (isOtherNearer g P p l) (nodeCount g)
-              (λ x i.
-              rw (other-nearer g P p l x, other-nearer g P p at x)
-              (bit-and (isOther P p x) (ltb (dist g p x) l) (ltb (dist g p x) at) (eqb (getD ys (b + x) 0) (suc at)) (split h x i))),
+          others-are g P p l,
+          others-are g P p at,
+          total-split (λ x. weighed (ltb (dist g p x) l) (othersAt P p x)) (λ x. weighed (ltb (dist g p x) at) (othersAt P p x))
+              (λ x. weighed (atLevel ys b at x) (othersAt P p x)) (nodeCount g) (λ x i. split h x (othersAt P p x) i),
         )
 
     risen : at < l → Counted g P p q ys b l (below + level) 0
@@ -236,10 +215,8 @@ module _ {g : Network} (ok : Accepted g) {p : ℕ} {xs ys : List ℕ} {b settled
           nearer = sym (nearer-risen h);
           here =
               sym
-              (count-empty (atLevel P p ys b l) (nodeCount g)
-              (λ x i.
-              and-right (isOther P p x) (eqb (getD ys (b + x) 0) (suc l))
-              (ne-eqb (getD ys (b + x) 0) (suc l) (λ z. omega (arith, same-queue .low x l (record { inside = i; is = z }))))));
+              (sum-none (atLevel ys b l) (othersAt P p) (nodeCount g)
+              (λ x i e. absurd (omega (arith, h, same-queue .low x l (record { inside = i; is = eqb-true (getD ys (b + x) 0) (suc l) e })))));
           new = same-queue .new;
         }
 
@@ -270,18 +247,16 @@ module _ {g : Network} (ok : Accepted g) {p : ℕ} {xs ys : List ℕ} {b settled
     word : (x : ℕ) → x < nodeCount g → x ≢ v → getD ws (b + x) 0 ≡ getD ys (b + x) 0
     word = label-others ok e t (f .frame)
 
-    level-settled : count (atLevel P p ws b l) (nodeCount g) ≡ level + bit (isOther P p v)
+    level-settled : sumOver (atLevel ws b l) (othersAt P p) (nodeCount g) ≡ level + othersAt P p v
     level-settled =
-        let z = count-at (atLevel P p ys b l) (atLevel P p ws b l) v (nodeCount g) (t .inside) (λ x h n. ap (λ (w : ℕ). isOther P p x && eqb w (suc l)) (word x h n)) in
-        let was : atLevel P p ys b l v ≡ false = and-right (isOther P p v) (eqb (getD ys (b + v) 0) (suc l)) (ne-eqb (getD ys (b + v) 0) (suc l) (λ k. omega (arith, took-word ok e t))) in
-        let is : atLevel P p ws b l v ≡ isOther P p v = rw (eq-eqb (getD ws (b + v) 0) (suc l) word-v) (and-yes (isOther P p v)) in
-        omega (arith, z, ap bit was, ap bit is, c .here)
-      where
-        and-yes : (o : Bool) → (o && true) ≡ o
-        and-yes true = refl
-        and-yes false = refl
+        let z =
+        total-at (λ x. weighed (atLevel ys b l x) (othersAt P p x)) (λ x. weighed (atLevel ws b l x) (othersAt P p x)) v (nodeCount g) (t .inside)
+        (λ x h n. ap (λ (w : ℕ). weighed (eqb w (suc l)) (othersAt P p x)) (word x h n)) in
+        let was : weighed (atLevel ys b l v) (othersAt P p v) ≡ 0 = rw (ne-eqb (getD ys (b + v) 0) (suc l) (λ k. omega (arith, took-word ok e t))) in
+        let is : weighed (atLevel ws b l v) (othersAt P p v) ≡ othersAt P p v = rw (eq-eqb (getD ws (b + v) 0) (suc l) word-v) in
+        omega (arith, z, was, is, c .here)
 
-    pub counted-settled : Counted g P p q ws b l below (level + bit (isOther P p v))
+    pub counted-settled : Counted g P p q ws b l below (level + othersAt P p v)
     counted-settled =
         record {
           before =
@@ -302,7 +277,7 @@ module _ {g : Network} (ok : Accepted g) {p : ℕ} {xs ys : List ℕ} {b settled
         }
 
     -- the same, as the tally counts it
-    pub counted-next : {at r : ℕ} → at ≡ l → r ≡ bit (isOther P p v) → Counted g P p q ws b at below (level + r)
+    pub counted-next : {at r : ℕ} → at ≡ l → r ≡ othersAt P p v → Counted g P p q ws b at below (level + r)
     counted-next y z = rw (y, z) counted-settled
 
   -- k other points are nearer than l, and so nearer than q; q is taken, and fewer are

@@ -1,13 +1,12 @@
 -- What the nearest expansion requires and leaves. The lent words are: found ids k | found distances k | the area of the expansion, from word
 -- 2 k on. Document 01, Nearest: 'by distance then node, cut after the first k; ids and distances in two arrays'.
 -- Assumes nothing.
-use Prim.Native.Nat.{ℕ, _+_, _*_, _≤_, _<_}
+use Prim.Native.Nat.{ℕ, _+_, _*_, _≤_, _<_, min}
 use mathlib.Core.Path.{_≡_}
-use mathlib.Core.Bool.{true, false}
 use mathlib.Core.List.{List}
-use lib.ListN.{length, getD, set}
+use lib.ListN.{length, getD}
 use Rattle.network.specs.Network.{Network, nodeCount}
-use Rattle.network.specs.Points.{marked}
+use Rattle.network.specs.Points.{lockers}
 use Rattle.network.specs.Nearest.{nearest}
 use Rattle.expansion.specs.Area.{Area, Blank}
 use Rattle.expansion.specs.Expand.{CanExpand}
@@ -24,10 +23,19 @@ pub record FoundIn (g : Network) (P : List ℕ) (node e k : ℕ) (ys : List ℕ)
   pub entry : (i : ℕ) → i < r → (getD ys i 0, getD ys (k + i) 0) ≡ getD (nearest g P node e k) i (0, 0)
   pub rest : (j : ℕ) → r ≤ j → j < k → (getD ys j 0 ≡ 0) × (getD ys (k + j) 0 ≡ 0)
 
--- ys is xs with (v, l) as found point number `found`, where v is a point; r is how many there are then
+-- ys is xs with (v, l) as the found points from number `found` up to r; the other words are as they were
+pub record Written (xs ys : List ℕ) (k found v l r : ℕ) : Type 0 where
+  pub size : length ys ≡ length xs
+  pub ids : (j : ℕ) → found ≤ j → j < r → getD ys j 0 ≡ v
+  pub distances : (j : ℕ) → found ≤ j → j < r → getD ys (k + j) 0 ≡ l
+  pub before : (j : ℕ) → j < found → getD ys j 0 ≡ getD xs j 0
+  pub between : (j : ℕ) → r ≤ j → j < k + found → getD ys j 0 ≡ getD xs j 0
+  pub behind : (j : ℕ) → k + r ≤ j → getD ys j 0 ≡ getD xs j 0
+
+-- so often as v has lockers, up to k; r is how many there are then
 pub record Noted (P xs ys : List ℕ) (k found v l r : ℕ) : Type 0 where
-  pub point : marked P v ≡ true → (ys ≡ set (set xs found v) (k + found) l) × (r ≡ found + 1)
-  pub other : marked P v ≡ false → (ys ≡ xs) × (r ≡ found)
+  pub count : r ≡ min k (found + lockers P v)
+  pub written : Written xs ys k found v l r
 
 -- the search ends: the answer stands in the first words, and the area holds what the search leaves
 pub record FindLeft (g : Network) (P : List ℕ) (node e k : ℕ) (xs ys : List ℕ) (found settled len : ℕ) : Type 0 where

@@ -2,27 +2,22 @@
 -- Assumes nothing.
 use Prim.Native.Nat.{ℕ, _+_, _≤_, _<_}
 use mathlib.Core.Path.{_≡_}
-use mathlib.Core.Bool.{Bool, not, _&&_}
+use mathlib.Core.Bool.{Bool}
 use mathlib.Core.List.{List}
-use lib.Dec.{eqb}
 use lib.ListN.{length}
 use Rattle.network.specs.Network.{Network, nodeCount}
 use Rattle.network.specs.Distance.{dist}
-use Rattle.network.specs.Points.{marked, verified}
+use Rattle.network.specs.Points.{verified}
 use Rattle.expansion.specs.declared.verify.Verdict.{Verdict}
 use Rattle.expansion.specs.declared.verify.Tally.{Tally}
 use Rattle.expansion.specs.Area.{LabelAt, Area, Kept, Wiped}
 use Rattle.expansion.specs.Expand.{CanExpand}
 
--- an expansion from p can be made, q is a node, and each node has a byte that says whether it is a point
+-- an expansion from p can be made, q is a node, and each node has a byte that says how many lockers it has
 pub record CanVisit (g : Network) (P xs : List ℕ) (b p q : ℕ) : Type 0 where
   pub expand : CanExpand g xs b p
   pub inside : q < nodeCount g
   pub points : length P ≡ nodeCount g
-
--- a point other than p
-abbrev pub isOther : List ℕ → ℕ → ℕ → Bool
-isOther P p x = not (eqb x p) && marked P x
 
 -- the tally when the expansion comes to label l: above the present label, what stood at it stands below
 pub record CameTo (t : Tally) (l : ℕ) (r : Tally) : Type 0 where

@@ -1,11 +1,12 @@
 // The expansion that looks for points: document 01, Nearest. The lent words are: found ids k | found distances k | the area of the expansion.
-ghost use Prim.Native.Nat.{_+_, _<_};
+ghost use Prim.Native.Nat.{_+_, _≤_, _<_};
 ghost use lib.ListN.{length};
 ghost use Rattle.network.specs.Network.{network};
 ghost use Rattle.expansion.specs.Found.{CanFind, Noted, FindLeft, NearestLeft};
 use crate::step;
 use crate::step::Taken;
-use network::arcs::wide;
+use crate::words;
+use network::points::lockers_at;
 
 // Where a search ends: how many points are found, how many nodes are settled, and how many entries wait.
 struct Search {
@@ -14,18 +15,20 @@ struct Search {
     len: usize,
 }
 
-// Adds a settled node to the found points, where it is one. Returns how many there are then.
+// Adds a settled node to the found points, once for each of its lockers, up to k. Returns how many there are then.
 fn note(points: &[u8], s: &mut [u32], k: usize, found: usize, node: u32, label: u32) -> usize
-    requires { ⌜ (node < length (now points)) × (found < k) × (k + found < length (now s)) ⌝ }
+    requires { ⌜ (found < k) × (k + k ≤ length (now s)) ⌝ }
     ensures { λ r. ⌜ Noted (now (points .entry)) (now (s .entry)) (now (s .exit)) k found node label r ⌝ }
 {
-    let mark = points[wide(node)];
-    if mark == 1 {
-        s[found] = node;
-        s[k + found] = label;
-        return found + 1;
+    let all = lockers_at(points, node);
+    let end = words::lesser(k, found + all);
+    let mut at = found;
+    while at < end {
+        s[at] = node;
+        s[k + at] = label;
+        at += 1;
     }
-    found
+    at
 }
 
 // Settles nodes by rising distance while it is below e and fewer than k points are found.

@@ -1,13 +1,12 @@
-// Verify: document 01, 'What a site receives': whether fewer than k other points are strictly nearer to p than q, and q can be reached.
+// Verify: document 01, 'What a site receives': whether fewer than k other lockers are strictly nearer to p than q, and q can be reached.
 ghost use mathlib.Core.Path.{_≡_};
-ghost use Prim.Native.Nat.{_+_, _<_};
-ghost use lib.ListN.{length};
+ghost use Prim.Native.Nat.{_+_, _≤_, _<_};
 ghost use Rattle.network.specs.Network.{network};
-ghost use Rattle.network.specs.Count.{bit};
-ghost use Rattle.expansion.specs.Visited.{CanVisit, CameTo, isOther, Visited, VerifyLeft};
+ghost use Rattle.network.specs.Points.{othersAt};
+ghost use Rattle.expansion.specs.Visited.{CanVisit, CameTo, Visited, VerifyLeft};
 use crate::step;
 use crate::step::Taken;
-use network::arcs::wide;
+use network::points::lockers_at;
 
 // Whether the rule holds, and what stands in the area: how many nodes are settled, and how many entries wait.
 pub struct Verdict {
@@ -16,7 +15,7 @@ pub struct Verdict {
     pub len: usize,
 }
 
-// The label that the expansion has come to, and the other points that it has settled: below that label, and at it.
+// The label that the expansion has come to, and the other lockers that it has settled: below that label, and at it.
 struct Tally {
     label: u32,
     below: usize,
@@ -38,20 +37,18 @@ fn come_to(t: Tally, label: u32) -> Tally
     }
 }
 
-// 1 where the node is a point other than p, else 0.
+// How many lockers a node has besides the one at p.
 fn counts(points: &[u8], p: u32, node: u32) -> usize
-    requires { ⌜ node < length (now points) ⌝ }
-    ensures { λ r. ⌜ r ≡ bit (isOther (now (points .entry)) p node) ⌝ }
+    ensures { λ r. ⌜ (r ≡ othersAt (now (points .entry)) p node) × (r ≤ 255) ⌝ }
 {
-    if node == p {
+    let all = lockers_at(points, node);
+    if node != p {
+        return all;
+    }
+    if all == 0 {
         return 0;
     }
-    let at = wide(node);
-    let mark = points[at];
-    if mark == 1 {
-        return 1;
-    }
-    0
+    all - 1
 }
 
 // Expands from p until it is known whether fewer than k other points are strictly nearer to p than q, and leaves what it settled.

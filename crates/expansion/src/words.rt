@@ -1,4 +1,5 @@
-// Words of scratch.
+// Words of scratch, and numbers.
+ghost use Prim.Native.Nat.{min};
 ghost use mathlib.Core.Path.{_≡_};
 ghost use lib.ListN.{length, replicate};
 
@@ -11,4 +12,14 @@ pub fn zero(s: &mut [u32])
         s[i] = 0;
         i += 1;
     }
+}
+
+// The lesser of two numbers.
+pub fn lesser(a: usize, b: usize) -> usize
+    ensures { λ r. ⌜ r ≡ min a b ⌝ }
+{
+    if a <= b {
+        return a;
+    }
+    b
 }

@@ -9,10 +9,10 @@ use native.Mathlib.Decide.{decLt}
 use native.Mathlib.Omega.{arith}
 use lib.ListN.{length, getD, set, take, drop, length-set, List·getD-eq-default}
 use lib.Seq.{getD-set-same, getD-set-other, getD-take, length-take-le}
-use borrow.Author.Tests.{eq-eqb, ne-eqb, eqb-true, leb-true, ltb-true}
+use borrow.Author.Tests.{eq-eqb, ne-eqb, leb-true, ltb-true, lt-ltb}
 use Rattle.network.specs.Network.{Network, nodeCount}
 use Rattle.network.specs.Distance.{dist}
-use Rattle.network.specs.Points.{marked, isListed}
+use Rattle.network.specs.Points.{lockers, isListed}
 use Rattle.expansion.specs.declared.verify.Verdict.{Verdict}
 use Rattle.expansion.specs.Area.{Stands, Area, Wiped}
 use Rattle.expansion.specs.Visited.{CanVisit, Visited}
@@ -39,7 +39,7 @@ module _ {g : Network} {P : List ℕ} {q k : ℕ} {xs : List ℕ} {b v : ℕ} (c
   part-length = length-take-le b xs fits
 
   -- the node is no point
-  pub discovered-none : {l : ℕ} → getD P v 0 ≢ 1 → Discovered g P q k xs xs b v l
+  pub discovered-none : {l : ℕ} → getD P v 0 ≡ 0 → Discovered g P q k xs xs b v l
   discovered-none n =
       record {
         size = refl;
@@ -47,7 +47,7 @@ module _ {g : Network} {P : List ℕ} {q k : ℕ} {xs : List ℕ} {b v : ℕ} (c
         blank = c .blank;
         others = λ p h m. refl;
         sound = c .sound;
-        told = λ a. absurd (n (eqb-true (getD P v 0) 1 (listed-parts g P q k v .0 a .mark)));
+        told = λ a. absurd (omega (arith, n, ltb-true 0 (getD P v 0) (listed-parts g P q k v .0 a .mark)));
         counts = λ u h. inl refl;
       }
 
@@ -87,19 +87,19 @@ module _ {g : Network} {P : List ℕ} {q k : ℕ} {xs : List ℕ} {b v : ℕ} (c
     pub visit-size : length (zs ++ drop b xs) ≡ length xs
     visit-size = first-size b xs zs fits (w .frame .size)
 
-    pub can-count : CanCount (nodeCount g) (zs ++ drop b xs) b (r .settled)
-    can-count =
+    pub can-count : {more : ℕ} → more ≤ 255 → CanCount (nodeCount g) (zs ++ drop b xs) b (r .settled) more
+    can-count byte =
         record {
           low = omega (arith, c .base);
           fits = omega (arith, c .fits, visit-size);
           few = few;
-          small = λ u h. rw (front u (omega arith)) (c .small u h);
+          small = λ u h. omega (arith, front u (omega arith), c .small u h);
           nodes = λ i h. rw (place i h) (w .area .nodes i h);
           distinct = λ i j h m e. places-distinct (w .area) i j h m (sym (place i h) ∙ e ∙ place j m);
         }
 
     -- ---- The nodes that it settled are counted.
-    module _ {l : ℕ} {us : List ℕ} (t : CountedAll (nodeCount g) (zs ++ drop b xs) us b (r .settled) l) where
+    module _ {l more : ℕ} {us : List ℕ} (t : CountedAll (nodeCount g) (zs ++ drop b xs) us b (r .settled) l more) where
       pub count-size : length us ≡ length xs
       count-size = t .size ∙ visit-size
 
@@ -149,8 +149,12 @@ module _ {g : Network} {P : List ℕ} {q k : ℕ} {xs : List ℕ} {b v : ℕ} (c
         behind : (i : ℕ) → b ≤ i → getD (vs ++ drop b us) i 0 ≡ getD xs i 0
         behind i h = first-after b us vs fits-us (e .frame .size) i h ∙ t .words i (omega (arith, c .base)) ∙ outer i h
 
-        counts : marked P v ≡ true → (u : ℕ) → u < nodeCount g → (getD (vs ++ drop b us) u 0 ≡ getD xs u 0) ⊎ CountedBy g P xs (vs ++ drop b us) b l v u
-        counts mark u h =
+        -- the number added is that of v's lockers
+        abbrev Byte : Type 0
+        Byte = (more ≡ lockers P v) × (more ≤ 255)
+
+        counts : Byte → (u : ℕ) → u < nodeCount g → (getD (vs ++ drop b us) u 0 ≡ getD xs u 0) ⊎ CountedBy g P xs (vs ++ drop b us) b l v u
+        counts byte u h =
             ⊎-elim
             (λ a. inl (low-word u (omega arith) ∙ a ∙ front u (omega arith)))
             (λ a.
@@ -159,19 +163,19 @@ module _ {g : Network} {P : List ℕ} {q k : ℕ} {xs : List ℕ} {b v : ℕ} (c
             let less = rw (near, far) at (a .1 .less) in
             inr
             (record {
-              mark = mark;
-              one = low-word u (omega arith) ∙ a .1 .one ∙ ap suc (front u (omega arith));
+              byte = omega (arith, byte .0, byte .1);
+              more = omega (arith, byte .0, low-word u (omega arith), a .1 .more, front u (omega arith));
               ahead = λ z. less-ahead (suc (dist g v u)) (getD xs (b + u) 0) l z less;
               behind = λ m y. omega (arith, y .is, less-behind (suc (dist g v u)) (getD xs (b + u) 0) l (omega (arith, y .is)) less);
             }))
             (t .counts u h)
 
         -- only v's flag changes then, and is right
-        discovered-by : marked P v ≡ true → {ws : List ℕ} → length ws ≡ length (vs ++ drop b us)
+        discovered-by : Byte → {ws : List ℕ} → length ws ≡ length (vs ++ drop b us)
             → ((i : ℕ) → i ≢ nodeCount g + v → getD ws i 0 ≡ getD (vs ++ drop b us) i 0)
             → (getD ws (nodeCount g + v) 0 ≢ 0 → isListed g P q k v ≡ true) → (isListed g P q k v ≡ true → getD ws (nodeCount g + v) 0 ≢ 0)
             → Discovered g P q k xs ws b v l
-        discovered-by mark {ws} size other sound told =
+        discovered-by byte {ws} size other sound told =
             record {
               size = size ∙ clear-size;
               words = λ i h. other i (omega (arith, c .base, c .inside)) ∙ behind i h;
@@ -184,21 +188,21 @@ module _ {g : Network} {P : List ℕ} {q k : ℕ} {xs : List ℕ} {b v : ℕ} (c
                   let same = other u (omega (arith, h)) in
                   ⊎-elim
                   (λ a. inl (same ∙ a))
-                  (λ a. inr (record { mark = a .mark; one = same ∙ a .one; ahead = a .ahead; behind = a .behind }))
-                  (counts mark u h);
+                  (λ a. inr (record { byte = a .byte; more = same ∙ a .more; ahead = a .ahead; behind = a .behind }))
+                  (counts byte u h);
             }
 
-        pub discovered-yes : getD P v 0 ≡ 1 → r .yes ≡ true → Discovered g P q k xs (set (vs ++ drop b us) (nodeCount g + v) 1) b v l
-        discovered-yes p y =
-            let mark = eq-eqb (getD P v 0) 1 p in
+        pub discovered-yes : Byte → more ≢ 0 → r .yes ≡ true → Discovered g P q k xs (set (vs ++ drop b us) (nodeCount g + v) 1) b v l
+        discovered-yes byte p y =
+            let mark = lt-ltb 0 (getD P v 0) (omega (arith, p, byte .0)) in
             let one = getD-set-same (vs ++ drop b us) (nodeCount g + v) 1 0 (omega (arith, clear-size, c .fits, c .base, c .inside)) in
-            discovered-by mark (length-set (vs ++ drop b us) (nodeCount g + v) 1)
+            discovered-by byte (length-set (vs ++ drop b us) (nodeCount g + v) 1)
             (λ i n. getD-set-other (vs ++ drop b us) (nodeCount g + v) i 1 0 n)
             (λ n. verified-listed g P q k v mark (sym (w .answer) ∙ y))
             (λ a z. omega arith)
 
-        pub discovered-no : getD P v 0 ≡ 1 → r .yes ≡ false → Discovered g P q k xs (vs ++ drop b us) b v l
-        discovered-no p y =
-            discovered-by (eq-eqb (getD P v 0) 1 p) refl (λ i n. refl)
+        pub discovered-no : Byte → r .yes ≡ false → Discovered g P q k xs (vs ++ drop b us) b v l
+        discovered-no byte y =
+            discovered-by byte refl (λ i n. refl)
             (λ n. c .sound (rw (flag v (c .inside)) at n))
             (λ a. absurd (false≢true (sym y ∙ w .answer ∙ listed-verified g P q k v a)))

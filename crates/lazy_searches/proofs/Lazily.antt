@@ -1,9 +1,9 @@
--- Lazy under way: the search, and its counts. The count of a node that the verified points leave unbeaten is at most the number of those that are
--- nearer to it than the site; so a node that was counted k times is beaten.
+-- Lazy under way: the search, and its counts. The count of a node that the verified points leave unbeaten is at most the number of their lockers that
+-- are nearer to it than the site; so a node with a count of k is beaten.
 -- Assumes nothing.
-use Prim.Native.Nat.{ℕ, suc, _+_, _≤_, _<_}
+use Prim.Native.Nat.{ℕ, _+_, _*_, _≤_, _<_}
 use mathlib.Core.Path.{_≡_, sym, ap, _∙_}
-use mathlib.Core.Bool.{true, false, false≢true}
+use mathlib.Core.Bool.{false}
 use mathlib.Core.Logic.{_⊎_, inl, inr, ⊎-elim}
 use mathlib.Core.List.{List}
 use native.Mathlib.Decide.{ℕ-discrete}
@@ -12,9 +12,11 @@ use lib.ListN.{length, getD, replicate, length-replicate}
 use Rattle.network.specs.Network.{Network, nodeCount, neighboursOf}
 use Rattle.network.specs.Accepted.{Accepted}
 use Rattle.network.specs.Distance.{dist}
-use Rattle.network.specs.Count.{select}
-use Rattle.network.specs.Points.{marked, isNearer, countNearer, listed}
-use Rattle.network.proofs.Counts.{count-mono, without, without-other, count-without}
+use borrow.Author.Tests.{ltb-false}
+use Rattle.network.specs.Count.{select, weighed}
+use Rattle.network.specs.Points.{lockers, marked, isNearer, countNearer, listed}
+use Rattle.network.proofs.Tests.{bool-cases}
+use Rattle.network.proofs.Totals.{total-more, weighed-le, weighed-most}
 use Rattle.network.proofs.Distances.{dist-symmetric}
 use Rattle.network.proofs.Rank.{nearer-passes, passes-nearer}
 use Rattle.expansion.specs.Area.{queueBase, Kept, Started, Took, Emptied, Followed, Wiped}
@@ -24,23 +26,29 @@ use Rattle.expansion.proofs.Progress.{took-place}
 use Rattle.expansion.proofs.Settled.{zero-blank}
 use Rattle.searches.specs.Eager.{isFound}
 use Rattle.lazy_searches.specs.Lazy.{visitBase, CanDiscover, CountedBy, Discovered, CanExplore}
-use Rattle.searches.proofs.Beaten.{Unbeaten, Part, beaten-part}
+use Rattle.searches.proofs.Beaten.{Unbeaten, Part, part-marked, beaten-part}
 use Rattle.expansion.proofs.Stopping.{kept-same}
 use Rattle.lazy_searches.proofs.LazySearch.{Discovering, Arrived, discovering-start, took-unverified, label-least, discovering-dropped, Joins, joined, joins-grow, shrinks, tells-joined, arrive, front, discovering-stopped, discovering-opened, discovered-listed}
 
--- one more mark is nearer
-nearer-more : (g : Network) (M M′ : List ℕ) (v u d : ℕ) → Part M M′ → marked M v ≡ false → marked M′ v ≡ true → v < nodeCount g → dist g u v < d → suc (countNearer g M u d) ≤ countNearer g M′ u d
+-- the lockers of v are nearer too
+nearer-more : (g : Network) (M M′ : List ℕ) (v u d : ℕ) → Part M M′ → marked M v ≡ false → v < nodeCount g → dist g u v < d
+    → countNearer g M u d + lockers M′ v ≤ countNearer g M′ u d
 unfolding countNearer
-nearer-more g M M′ v u d sub new mark h less =
-    omega (
-      arith,
-      count-mono (isNearer g M u d) (without (isNearer g M′ u d) v) (nodeCount g)
-          (λ x l a.
-          let r = passes-nearer {P = M} l a in
-          without-other (isNearer g M′ u d) v x (λ e. false≢true (sym new ∙ ap (marked M) (sym e) ∙ r .point))
-          ∙ nearer-passes {P = M′} (record { inside = l; point = sub x (r .point); less = r .less })),
-      count-without (isNearer g M′ u d) v (nodeCount g) h (nearer-passes {P = M′} (record { inside = h; point = mark; less = less })),
-    )
+nearer-more g M M′ v u d sub new h less =
+    total-more (λ x. weighed (isNearer g M u d x) (lockers M x)) (λ x. weighed (isNearer g M′ u d x) (lockers M′ x)) v (lockers M′ v) (nodeCount g) h
+    (λ x l.
+    weighed-le (isNearer g M u d x) (isNearer g M′ u d x) (lockers M x) (lockers M′ x)
+    (λ a.
+    let r = passes-nearer {P = M} l a in
+    (nearer-passes {P = M′} (record { inside = l; point = part-marked M M′ x sub (r .point); less = r .less }), sub x)))
+    (omega (arith, weighed-most (isNearer g M u d v) (lockers M v), ltb-false 0 (lockers M v) new, here))
+  where
+    here : lockers M′ v ≤ weighed (isNearer g M′ u d v) (lockers M′ v)
+    here =
+        ⊎-elim
+        (λ m. omega (arith, ap (λ b. weighed b (lockers M′ v)) (nearer-passes {P = M′} (record { inside = h; point = m; less = less }))))
+        (λ m. omega (arith, ltb-false 0 (lockers M′ v) m))
+        (bool-cases (marked M′ v))
 
 -- the counts, where the points M are verified
 pub record Counts (g : Network) (M : List ℕ) (q k : ℕ) (xs : List ℕ) : Type 0 where
@@ -51,7 +59,7 @@ pub record Lazily (g : Network) (P : List ℕ) (q k : ℕ) (xs : List ℕ) (b se
   pub searched : Discovering g P verified q k xs b (nodeCount g) settled len
   pub blank : (j : ℕ) → visitBase (nodeCount g) ≤ j → j < b → getD xs j 0 ≡ 0
   pub counts : Counts g verified q k xs
-  pub few : (u : ℕ) → u < nodeCount g → getD xs u 0 ≤ settled
+  pub few : (u : ℕ) → u < nodeCount g → getD xs u 0 ≤ 255 * settled
 
 -- the node v is verified, where it is a point, and not yet settled
 pub record Arriving (g : Network) (P : List ℕ) (q k most : ℕ) (ys : List ℕ) (b settled left l v : ℕ) : Type 0 where
@@ -59,9 +67,9 @@ pub record Arriving (g : Network) (P : List ℕ) (q k most : ℕ) (ys : List ℕ
   pub arrived : Arrived g P verified q k most ys b (nodeCount g) settled left l v
   pub blank : (j : ℕ) → visitBase (nodeCount g) ≤ j → j < b → getD ys j 0 ≡ 0
   pub counts : Counts g verified q k ys
-  pub few : (u : ℕ) → u < nodeCount g → getD ys u 0 ≤ settled + 1
+  pub few : (u : ℕ) → u < nodeCount g → getD ys u 0 ≤ 255 * (settled + 1)
 
--- a node that was counted k times is beaten
+-- a node with a count of k is beaten
 pub closed : {g : Network} {M : List ℕ} {q k : ℕ} {xs : List ℕ} → Counts g M q k xs → (u : ℕ) → u < nodeCount g → k ≤ getD xs u 0 → Unbeaten g M q k u → ⊥
 closed c u h full o = o (omega (arith, c .most u h o))
 
@@ -166,13 +174,13 @@ module _ {g : Network} {P : List ℕ} {q b : ℕ} {s₀ : List ℕ} (c : CanExpl
                 (d .sound) (d .told));
             blank = d .blank;
             counts = record { most = counts };
-            few = λ x h. ⊎-elim (λ a. omega (arith, was x h)) (λ a. omega (arith, a .one, was x h)) (d .counts x h);
+            few = λ x h. ⊎-elim (λ a. omega (arith, was x h)) (λ a. omega (arith, a .more, a .byte, was x h)) (d .counts x h);
           }
         where
           j : (M′ : List ℕ) × Joins P (e .verified) M′ v
           j = joined ok low (e .searched) t
 
-          was : (x : ℕ) → x < nodeCount g → getD ys x 0 ≤ settled
+          was : (x : ℕ) → x < nodeCount g → getD ys x 0 ≤ 255 * settled
           was x h = rw (front-taken x (omega (arith, low))) (e .few x h)
 
           counts : (x : ℕ) → x < nodeCount g → Unbeaten g (j .0) q k x → getD zs x 0 ≤ countNearer g (j .0) x (dist g x q)
@@ -189,9 +197,10 @@ module _ {g : Network} {P : List ℕ} {q b : ℕ} {s₀ : List ℕ} (c : CanExpl
               (λ a.
               omega (
                 arith,
-                a .one,
+                a .more,
+                j .1 .own,
                 counts-taken .most x h old,
-                nearer-more g (e .verified) (j .0) v x (dist g x q) sub (took-unverified ok low (e .searched) t) (j .1 .here ∙ a .mark) (t .inside) (nearer x h old a),
+                nearer-more g (e .verified) (j .0) v x (dist g x q) sub (took-unverified ok low (e .searched) t) (t .inside) (nearer x h old a),
               ))
               (d .counts x h)
 

@@ -14,8 +14,8 @@ use lib.Seq.{getD-set-same, getD-set-other, getD-take, length-take-le, ext-getD}
 use Rattle.network.specs.Network.{Network, nodeCount, neighboursOf}
 use Rattle.network.specs.Accepted.{Accepted}
 use Rattle.network.specs.Walk.{here}
-use Rattle.network.specs.Count.{select}
-use Rattle.network.specs.Points.{marked, listed}
+use Rattle.network.specs.Count.{weighed, select}
+use Rattle.network.specs.Points.{lockers, marked, listed}
 use Rattle.expansion.specs.Area.{queueBase, Kept, Started, Took, Emptied, Followed}
 use Rattle.expansion.specs.Visited.{CanVisit, VerifyLeft}
 use Rattle.expansion.proofs.AreaLaws.{room, settledAs, frame-settle, label-same}
@@ -23,15 +23,16 @@ use Rattle.expansion.proofs.AreaSearch.{took-exact, took-held}
 use Rattle.expansion.proofs.Progress.{took-small, room-taken}
 use Rattle.expansion.proofs.Beside.{Beside, beside-first, drop-beside, label-beside, progress-beside, room-beside}
 use Rattle.searches.specs.Eager.{isFound}
-use Rattle.lazy_searches.specs.Second.{wordsBase, secondBase, secondQueue, idAt, wordAt, Second, Sound, CanSpread, Admitted, CanAdvance, Advanced, Closed}
+use Rattle.lazy_searches.specs.Second.{wordsBase, secondBase, secondQueue, idAt, wordAt, Second, Sound, CanSpread, Admitted, CanAdvance, Advanced, isBelow, Closed}
 use Rattle.lazy_searches.specs.LazyEp.{CanSettle, ClosedBehind, TakenBack, CanDiscover, PointVerified, Discovered}
 use Rattle.searches.proofs.Beaten.{Unbeaten, stops}
 use Rattle.searches.proofs.Listed.{listed-parts}
 use Rattle.searches.proofs.FlagLaws.{verified-listed, listed-verified}
 use Rattle.network.proofs.Lends.{row-fits, first-size, first-part, first-after}
+use Rattle.network.proofs.Totals.{total-same}
 use Rattle.expansion.proofs.Stopping.{kept-same}
 use Rattle.lazy_searches.proofs.SecondLaws.{sound-part, second-start, sound-start, closed-nearer}
-use Rattle.lazy_searches.proofs.LazySearch.{Discovering, Arrived, leads, tells-same, discovering-start, label-exact, discovering-dropped, joined, joins-grow, tells-joined, arrive, front, discovering-stopped, discovering-opened, discovered-listed}
+use Rattle.lazy_searches.proofs.LazySearch.{joins-here, Discovering, Arrived, leads, tells-same, discovering-start, label-exact, discovering-dropped, joined, joins-grow, tells-joined, arrive, front, discovering-stopped, discovering-opened, discovered-listed}
 
 -- ---- The first words of a list.
 module _ (e : ℕ) (xs ys : List ℕ) (fits : e ≤ length xs) where
@@ -93,13 +94,24 @@ sound-beside {g} {M} {xs} {ys} {k} {len} same s =
     }
 
 -- a row that is closed in the whole list is closed in its first words, where these hold all rows
-pub closed-part : {n k u l : ℕ} (e : ℕ) {xs : List ℕ} → u < n → secondBase n k ≤ e → Closed n xs k u l → Closed n (take e xs) k u l
-closed-part {n} {k} {u} {l} e {xs} h m c =
+pub closed-part : {P : List ℕ} {n k u l : ℕ} (e : ℕ) {xs : List ℕ} → u < n → secondBase n k ≤ e → Closed P n xs k u l → Closed P n (take e xs) k u l
+closed-part {P} {n} {k} {u} {l} e {xs} h m c =
     record {
-      below =
-          λ j a.
-          rw (getD-take e xs (wordsBase n k + u * k + j) 0 (omega (arith, row-fits u n k h))) (c .below j a);
+      enough =
+          omega (
+            arith,
+            c .enough,
+            total-same (λ j. weighed (isBelow n k xs u l j) (lockers P (idAt n k xs u j)))
+                (λ j. weighed (isBelow n k (take e xs) u l j) (lockers P (idAt n k (take e xs) u j))) k same,
+          );
     }
+  where
+    same : (j : ℕ) → j < k → weighed (isBelow n k (take e xs) u l j) (lockers P (idAt n k (take e xs) u j)) ≡ weighed (isBelow n k xs u l j) (lockers P (idAt n k xs u j))
+    same j a =
+        rw (
+          getD-take e xs (wordsBase n k + u * k + j) 0 (omega (arith, row-fits u n k h)),
+          getD-take e xs (n + u * k + j) 0 (omega (arith, row-fits u n k h)),
+        )
 
 -- ---- Verifying a point.
 module _ {g : Network} {P : List ℕ} {q k v inner : ℕ} {xs : List ℕ} (c : CanVisit g P xs inner v q) (low : nodeCount g ≤ inner) (mark : marked P v ≡ true)
@@ -249,6 +261,7 @@ discovering-beside ok same flags d =
       tells = tells-same flags (d .tells);
       size = d .size;
       part = d .part;
+      whole = d .whole;
       come = λ p h m. rw (label-beside same p) (d .come p h m);
       met = λ p h m n. d .met p h m (rw (label-beside same p) at n);
     }
@@ -339,26 +352,26 @@ module _ {g : Network} {P s₀ : List ℕ} {inner outer q k : ℕ} (c : CanSettl
       blank-on j h m = advanced-beside .words j h ∙ t .leaves .frame .words j (omega arith) ∙ e .blank j h m
 
       -- its entry is taken back: its node is beaten, or the node that put it in is
-      back-node : Closed (nodeCount g) ws k v l → Unbeaten g (e .marks) q k v → ⊥
+      back-node : Closed P (nodeCount g) ws k v l → Unbeaten g (e .marks) q k v → ⊥
       back-node h o =
           o
           (stops ok (e .marks) q k v l (label-exact ok flags-low d t)
-          (closed-nearer ok second-on sound-on (t .inside) (omega (arith, small)) (closed-part inner (t .inside) (c .rows) h)))
+          (closed-nearer ok second-on sound-on (d .whole) (t .inside) (omega (arith, small)) (closed-part inner (t .inside) (c .rows) h)))
 
       pub parent-inside : u < nodeCount g
       parent-inside = took-held ok (d .progress .area) (d .progress .searched) t .parent
 
-      back-parent : ClosedBehind (nodeCount g) ws outer k u → Unbeaten g (e .marks) q k u → ⊥
+      back-parent : ClosedBehind P (nodeCount g) ws outer k u → Unbeaten g (e .marks) q k u → ⊥
       back-parent h o =
           let is = sym (label-same outer (t .leaves .frame) u parent-inside) ∙ sym (label-beside beside-outer u) ∙ h .is in
           let area = d .progress .area in
           o
           (stops ok (e .marks) q k u (h .label) (d .progress .searched .exact u (h .label) (record { inside = parent-inside; is = is }))
-          (closed-nearer ok second-on sound-on parent-inside
+          (closed-nearer ok second-on sound-on (d .whole) parent-inside
           (omega (arith, area .low u parent-inside (omega arith), area .counted, ok .few))
           (closed-part inner parent-inside (c .rows) (h .closed))))
 
-      pub extending-dropped : TakenBack (nodeCount g) ws outer k v l u → Extending g P q k ws inner outer settled left waits
+      pub extending-dropped : TakenBack P (nodeCount g) ws outer k v l u → Extending g P q k ws inner outer settled left waits
       extending-dropped h =
           record {
             marks = e .marks;
@@ -466,7 +479,7 @@ module _ {g : Network} {P s₀ : List ℕ} {inner outer q k : ℕ} (c : CanSettl
               second = rw part-come (w .second);
               sound =
                   rw part-come
-                  (w .sound (j .0) (λ m. j .1 .here ∙ m) (rw inner-part (sound-part (joins-grow ok flags-low d t (j .1)) sound-on)));
+                  (w .sound (j .0) (λ m. joins-here (j .1) ∙ m) (rw inner-part (sound-part (joins-grow ok flags-low d t (j .1)) sound-on)));
             }
 
   -- ---- The node is settled.
@@ -497,15 +510,15 @@ module _ {g : Network} {P s₀ : List ℕ} {inner outer q k : ℕ} (c : CanSettl
     pub can-close : (secondBase (nodeCount g) k ≤ length (settledAs (nodeCount g) xs outer settled v l)) × (v < nodeCount g)
     can-close = (omega (arith, frame-settle (nodeCount g) xs outer settled v l .size, fits-come, inner-low, c .rows), a .took .inside)
 
-    closed-beaten : Closed (nodeCount g) (settledAs (nodeCount g) xs outer settled v l) k v l → Unbeaten g (e .marks) q k v → ⊥
+    closed-beaten : Closed P (nodeCount g) (settledAs (nodeCount g) xs outer settled v l) k v l → Unbeaten g (e .marks) q k v → ⊥
     closed-beaten h o =
         let inside = a .took .inside in
         o
         (stops ok (e .marks) q k v l (λ n. took-exact ok (a .progress .area) (a .progress .searched) (a .took) (leads ok (e .marks) q k) n)
-        (closed-nearer ok (e .second) (e .sound) inside (omega (arith, took-small ok (a .progress) (a .took)))
+        (closed-nearer ok (e .second) (e .sound) (a .whole) inside (omega (arith, took-small ok (a .progress) (a .took)))
         (rw (part-same kept-same) at (closed-part inner inside (c .rows) h))))
 
-    pub extending-stopped : Closed (nodeCount g) (settledAs (nodeCount g) xs outer settled v l) k v l
+    pub extending-stopped : Closed P (nodeCount g) (settledAs (nodeCount g) xs outer settled v l) k v l
         → Extending g P q k (settledAs (nodeCount g) xs outer settled v l) inner outer (settled + 1) left waiting
     extending-stopped h = next kept-same (discovering-stopped ok flags-low a (closed-beaten h))
 

@@ -9,17 +9,17 @@ use mathlib.Core.Logic.{_≢_, _⊎_, inl, inr, ⊎-elim}
 use mathlib.Core.List.{List, _++_}
 use native.Mathlib.Decide.{ℕ-discrete}
 use native.Mathlib.Omega.{arith}
-use lib.Dec.{eqb}
+use lib.Dec.{eqb, ltb}
 use lib.ListN.{length, getD, set, take, drop, replicate, length-set, length-replicate}
 use lib.Seq.{getD-set-same, getD-set-other, getD-take, length-take-le}
-use borrow.Author.Tests.{eq-eqb, eqb-true}
+use borrow.Author.Tests.{ltb-true}
 use Rattle.network.specs.Network.{Network, nodeCount, arcCount, neighboursOf}
 use Rattle.network.specs.Accepted.{Accepted}
 use Rattle.network.specs.Distance.{NONE, dist}
 use Rattle.network.specs.Count.{select}
 use Rattle.network.proofs.Tests.{bool-cases}
 use Rattle.network.proofs.Distances.{dist-symmetric}
-use Rattle.network.specs.Points.{marked, isListed, listed}
+use Rattle.network.specs.Points.{lockers, marked, isListed, listed}
 use Rattle.expansion.specs.Area.{queueBase, LabelAt, HeldAt, Kept, Blank, Started, Took, Emptied, Followed}
 use Rattle.expansion.proofs.Search.{Leads, monotone, closed-leads, frontier}
 use Rattle.expansion.proofs.Steps.{Outcome, waits, not-seen, not-open, requeue}
@@ -41,12 +41,17 @@ pub record Tells (g : Network) (P M : List ℕ) (q k : ℕ) (xs : List ℕ) (f :
   pub sound : (p : ℕ) → p < nodeCount g → getD xs (f + p) 0 ≢ 0 → isListed g P q k p ≡ true
   pub told : (p : ℕ) → p < nodeCount g → marked M p ≡ true → isListed g P q k p ≡ true → getD xs (f + p) 0 ≢ 0
 
+-- a point of M has all the lockers that it has in P
+abbrev pub Whole : List ℕ → List ℕ → Type 0
+Whole P M = (p : ℕ) → marked M p ≡ true → lockers P p ≤ lockers M p
+
 -- the search between two entries: M are the points settled
 pub record Discovering (g : Network) (P M : List ℕ) (q k : ℕ) (xs : List ℕ) (b f settled len : ℕ) : Type 0 where
   pub progress : Progress g q (Unbeaten g M q k) (Unbeaten g M q k) xs b settled len
   pub tells : Tells g P M q k xs f
   pub size : length M ≡ nodeCount g
   pub part : Part M P
+  pub whole : Whole P M
   pub come : (p : ℕ) → p < nodeCount g → marked M p ≡ true → getD xs (b + p) 0 ≢ 0
   pub met : (p : ℕ) → p < nodeCount g → marked P p ≡ true → getD xs (b + p) 0 ≢ 0 → marked M p ≡ true
 
@@ -62,15 +67,22 @@ pub record Arrived (g : Network) (P M : List ℕ) (q k most : ℕ) (ys : List �
   pub tells : Tells g P M q k ys f
   pub size : length M ≡ nodeCount g
   pub part : Part M P
+  pub whole : Whole P M
   pub here : marked P v ≡ true → marked M v ≡ true
   pub come : (p : ℕ) → p < nodeCount g → p ≢ v → marked M p ≡ true → getD ys (b + p) 0 ≢ 0
   pub met : (p : ℕ) → p < nodeCount g → p ≢ v → marked P p ≡ true → getD ys (b + p) 0 ≢ 0 → marked M p ≡ true
 
--- M′ is M, with v where v is a point of P
+-- M′ is M, with the lockers of P at v
 pub record Joins (P M M′ : List ℕ) (v : ℕ) : Type 0 where
   pub size : length M′ ≡ length M
-  pub other : (x : ℕ) → x ≢ v → marked M′ x ≡ marked M x
-  pub here : marked M′ v ≡ marked P v
+  pub others : (x : ℕ) → x ≢ v → lockers M′ x ≡ lockers M x
+  pub own : lockers M′ v ≡ lockers P v
+
+pub joins-other : {P M M′ : List ℕ} {v : ℕ} → Joins P M M′ v → (x : ℕ) → x ≢ v → marked M′ x ≡ marked M x
+joins-other j x n = ap (ltb 0) (j .others x n)
+
+pub joins-here : {P M M′ : List ℕ} {v : ℕ} → Joins P M M′ v → marked M′ v ≡ marked P v
+joins-here j = ap (ltb 0) (j .own)
 
 pub leads : {g : Network} → Accepted g → (M : List ℕ) (q k : ℕ) → Leads g q (Unbeaten g M q k) (Unbeaten g M q k)
 leads ok M q k = closed-leads ok (unbeaten-closed ok M q k)
@@ -96,7 +108,8 @@ module _ {g : Network} (ok : Accepted g) {P : List ℕ} {q k b f : ℕ} (low : f
               told = λ p h m a. absurd (none p m);
             };
         size = length-replicate (nodeCount g) 0;
-        part = λ x m. absurd (none x m);
+        part = λ x. omega (arith, zero-blank {xs = replicate (nodeCount g) 0} (nodeCount g) 0 refl .zero x (omega arith));
+        whole = λ p m. absurd (none p m);
         come = λ p h m. absurd (none p m);
         met = λ p h m n. absurd (n (t .frame .words (b + p) (omega arith) ∙ blank .zero (b + p) (omega arith)));
       }
@@ -105,7 +118,7 @@ module _ {g : Network} (ok : Accepted g) {P : List ℕ} {q k b f : ℕ} (low : f
       none x m =
           omega (
             arith,
-            eqb-true (getD (replicate (nodeCount g) 0) x 0) 1 m,
+            ltb-true 0 (getD (replicate (nodeCount g) 0) x 0) m,
             zero-blank {xs = replicate (nodeCount g) 0} (nodeCount g) 0 refl .zero x (omega arith),
           )
 
@@ -149,6 +162,7 @@ module _ {g : Network} (ok : Accepted g) {P : List ℕ} {q k b f : ℕ} (low : f
           tells = dropped-tells;
           size = d .size;
           part = d .part;
+          whole = d .whole;
           come = λ p h m. rw (label-same b (t .leaves .frame) p h) (d .come p h m);
           met = λ p h m n. d .met p h m (rw (label-same b (t .leaves .frame) p h) at n);
         }
@@ -160,32 +174,35 @@ module _ {g : Network} (ok : Accepted g) {P : List ℕ} {q k b f : ℕ} (low : f
     -- ---- Its node is verified, where it is a point.
     -- the points verified then
     pub joined : (M′ : List ℕ) × Joins P M M′ v
-    joined = by (marked P v) refl
-      where
-        by : (x : Bool) → marked P v ≡ x → (M′ : List ℕ) × Joins P M M′ v
-        by true e = (
-          set M v 1,
-          record {
-            size = length-set M v 1;
-            other = λ x n. ap (λ (w : ℕ). eqb w 1) (getD-set-other M v x 1 0 n);
-            here = eq-eqb (getD (set M v 1) v 0) 1 (getD-set-same M v 1 0 (omega (arith, d .size, t .inside))) ∙ sym e;
-          },
-        )
-        by false e = (M, record { size = refl; other = λ x n. refl; here = took-unverified ∙ sym e })
+    joined = (
+      set M v (lockers P v),
+      record {
+        size = length-set M v (lockers P v);
+        others = λ x n. getD-set-other M v x (lockers P v) 0 n;
+        own = getD-set-same M v (lockers P v) 0 (omega (arith, d .size, t .inside));
+      },
+    )
 
     module _ {M′ : List ℕ} (j : Joins P M M′ v) where
       pub joins-grow : Part M M′
-      joins-grow x m =
+      joins-grow x =
           elim (ℕ-discrete x v) [
-            | yes e ↦ rw e (j .here ∙ d .part v (rw e at m))
-            | no n ↦ j .other x n ∙ m
+            | yes e ↦ rw e (omega (arith, j .own, d .part v))
+            | no n ↦ omega (arith, j .others x n)
           ]
 
       pub joins-part : Part M′ P
-      joins-part x m =
+      joins-part x =
           elim (ℕ-discrete x v) [
-            | yes e ↦ rw e (sym (j .here) ∙ rw e at m)
-            | no n ↦ d .part x (sym (j .other x n) ∙ m)
+            | yes e ↦ rw e (omega (arith, j .own))
+            | no n ↦ omega (arith, j .others x n, d .part x)
+          ]
+
+      joins-whole : Whole P M′
+      joins-whole x m =
+          elim (ℕ-discrete x v) [
+            | yes e ↦ rw e (omega (arith, j .own))
+            | no n ↦ omega (arith, j .others x n, d .whole x (sym (joins-other j x n) ∙ m))
           ]
 
       pub shrinks : (x : ℕ) → Unbeaten g M′ q k x → Unbeaten g M q k x
@@ -206,7 +223,7 @@ module _ {g : Network} (ok : Accepted g) {P : List ℕ} {q k b f : ℕ} (low : f
                 λ p h m a.
                 elim (ℕ-discrete p v) [
                   | yes e ↦ rw e (told (rw e at a))
-                  | no ne ↦ rw (other p h ne) (d .tells .told p h (sym (j .other p ne) ∙ m) a)
+                  | no ne ↦ rw (other p h ne) (d .tells .told p h (sym (joins-other j p ne) ∙ m) a)
                 ];
           }
 
@@ -238,9 +255,10 @@ module _ {g : Network} (ok : Accepted g) {P : List ℕ} {q k b f : ℕ} (low : f
               tells = tells;
               size = j .size ∙ d .size;
               part = joins-part;
-              here = λ m. j .here ∙ m;
-              come = λ p h n m. rw (word p h) (d .come p h (sym (j .other p n) ∙ m));
-              met = λ p h n m w. j .other p n ∙ d .met p h m (rw (word p h) at w);
+              whole = joins-whole;
+              here = λ m. joins-here j ∙ m;
+              come = λ p h n m. rw (word p h) (d .come p h (sym (joins-other j p n) ∙ m));
+              met = λ p h n m w. joins-other j p n ∙ d .met p h m (rw (word p h) at w);
             }
           where
             shrunk : {ws : List ℕ} → Progress g q (Unbeaten g M q k) (Unbeaten g M q k) ws b settled len → Progress g q (Unbeaten g M′ q k) (Unbeaten g M′ q k) ws b settled len
@@ -262,6 +280,7 @@ module _ {g : Network} (ok : Accepted g) {P : List ℕ} {q k b f : ℕ} (low : f
             tells = tells-same (λ i h. front i (omega (arith, low))) (a .tells);
             size = a .size;
             part = a .part;
+            whole = a .whole;
             come = come;
             met = met;
           }

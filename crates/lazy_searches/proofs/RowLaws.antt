@@ -1,21 +1,21 @@
--- Rows of k places: no two places meet; a place that is written; the farthest place; the sum over all places; and k places with different ids that
--- pass a test.
+-- Rows of k places: no two places meet; a place that is written; the farthest place; and the sum over all places.
 -- Assumes nothing.
 use Prim.Native.Nat.{ℕ, zero, suc, _+_, _*_, _≤_, _<_}
-use mathlib.Core.Path.{_≡_, refl, ap, _∙_}
-use mathlib.Core.Bool.{Bool, true}
+use mathlib.Core.Path.{_≡_, refl, ap}
 use mathlib.Core.Logic.{_≢_}
 use mathlib.Core.List.{List}
 use native.Mathlib.Decide.{ℕ-discrete, decLt}
 use native.Mathlib.Omega.{arith}
 use lib.ListN.{getD}
-use borrow.Author.Tests.{ne-eqb}
+use lib.Dec.{ltb}
+use borrow.Author.Tests.{ne-eqb, lt-ltb, le-ltb}
 use Rattle.network.specs.Distance.{NONE}
-use Rattle.network.specs.Count.{count}
+use Rattle.network.specs.Count.{total, weighed, sumOver}
+use Rattle.network.specs.Points.{lockers}
 use Rattle.network.proofs.Lends.{row-fits}
-use Rattle.network.proofs.Counts.{without, without-other, count-without}
+use Rattle.network.proofs.Totals.{total-next, total-upto, total-more}
 use Rattle.expansion.specs.Expand.{wordDistance}
-use Rattle.lazy_searches.specs.Second.{total, PlaceFor}
+use Rattle.lazy_searches.specs.Second.{PlaceFor, Closed}
 
 -- rows do not meet
 pub same-place : (k u i v j : ℕ) → i < k → j < k → u * k + i ≡ v * k + j → (u ≡ v) × (i ≡ j)
@@ -69,33 +69,42 @@ module _ {xs : List ℕ} {ids words k p d : ℕ} where
   pub place-none : PlaceFor xs ids words k p d k
   place-none = record { most = omega arith; farther = λ h. absurd (omega arith); absent = λ h. absurd (omega arith) }
 
--- sums: the same terms; one that is less
-pub total-same : (f h : ℕ → ℕ) (n : ℕ) → ((x : ℕ) → x < n → h x ≡ f x) → total h n ≡ total f n
-unfolding total
-total-same f h zero e = refl
-total-same f h (suc n) e = rw (e n (omega arith), total-same f h n (λ x l. e x (omega arith)))
-
+-- a sum with one term that is less
 pub total-less : (f h : ℕ → ℕ) (v n : ℕ) → v < n → h v < f v → ((x : ℕ) → x < n → x ≢ v → h x ≡ f x) → total h n < total f n
-unfolding total
-total-less f h v zero l a e = absurd (omega arith)
-total-less f h v (suc n) l a e =
-    elim (ℕ-discrete n v) [
-      | yes s ↦ omega (arith, total-same f h n (λ x i. e x (omega arith) (omega arith)), rw (← s) at a)
-      | no m ↦ omega (arith, total-less f h v n (omega arith) a (λ x i. e x (omega arith)), e n (omega arith) m)
-    ]
-
--- k different numbers below n that pass a test
-pub count-different : (t : ℕ → Bool) (f : ℕ → ℕ) (n k : ℕ) → ((j : ℕ) → j < k → (f j < n) × (t (f j) ≡ true))
-    → ((i j : ℕ) → i < k → j < k → f i ≡ f j → i ≡ j) → k ≤ count t n
-count-different t f n zero pass other = omega arith
-count-different t f n (suc k) pass other =
+total-less f h v n l a e =
     omega (
       arith,
-      count-without t (f k) n (pass k (omega arith) .0) (pass k (omega arith) .1),
-      count-different (without t (f k)) f n k
-          (λ j h. (
-            pass j (omega arith) .0,
-            without-other t (f k) (f j) (λ e. omega (arith, other j k (omega arith) (omega arith) e)) ∙ pass j (omega arith) .1,
-          ))
-          (λ i j h l. other i j (omega arith) (omega arith)),
+      total-more h f v 1 n l
+          (λ x i. elim (ℕ-discrete x v) [ yes s ↦ rw s (omega arith) | no m ↦ omega (arith, e x i m) ])
+          (omega arith),
     )
+
+-- the lockers at the first places of a row with distances below l
+abbrev pub tallyOf : List ℕ → List ℕ → ℕ → ℕ → ℕ → ℕ → ℕ
+tallyOf P xs ids words l j = sumOver (λ i. ltb (wordDistance (getD xs (words + i) 0)) l) (λ i. lockers P (getD xs (ids + i) 0)) j
+
+module _ (P xs : List ℕ) (ids words l : ℕ) where
+  pub tally-none : tallyOf P xs ids words l 0 ≡ 0
+  unfolding total
+  tally-none = refl
+
+  abbrev weight : ℕ → ℕ
+  weight i = weighed (ltb (wordDistance (getD xs (words + i) 0)) l) (lockers P (getD xs (ids + i) 0))
+
+  module _ (j far : ℕ) (e : far ≡ wordDistance (getD xs (words + j) 0)) where
+    pub tally-more : far < l → tallyOf P xs ids words l (j + 1) ≡ tallyOf P xs ids words l j + lockers P (getD xs (ids + j) 0)
+    tally-more h =
+        omega (arith, total-next weight j, ap (λ b. weighed b (lockers P (getD xs (ids + j) 0))) (lt-ltb (wordDistance (getD xs (words + j) 0)) l (omega arith)))
+
+    pub tally-same : l ≤ far → tallyOf P xs ids words l (j + 1) ≡ tallyOf P xs ids words l j
+    tally-same h =
+        omega (arith, total-next weight j, ap (λ b. weighed b (lockers P (getD xs (ids + j) 0))) (le-ltb (wordDistance (getD xs (words + j) 0)) l (omega arith)))
+
+  pub tally-upto : (j k : ℕ) → j ≤ k → tallyOf P xs ids words l j ≤ tallyOf P xs ids words l k
+  tally-upto j k h = total-upto weight j k h
+
+-- the tally of node u's row, whose number is w in the code
+pub tally-closed : (P xs : List ℕ) (n k u l w j tally : ℕ) → w ≡ u → j ≤ k → tally ≡ tallyOf P xs (n + w * k) (n + n * k + w * k) l j → k ≤ tally
+    → Closed P n xs k u l
+tally-closed P xs n k u l w j tally e h t full =
+    record { enough = rw e at (let all : k ≤ tallyOf P xs (n + w * k) (n + n * k + w * k) l k = omega (arith, t, full, tally-upto P xs (n + w * k) (n + n * k + w * k) l j k h) in all) }

@@ -1,9 +1,9 @@
 -- The second expansion, step by step: a point is offered to the neighbours of a node, takes a place in a row, and leaves the queue; what stands in
--- the rows and waits in the queue stays sound, and the work falls. A row of k distances below a label tells that its node is beaten.
+-- the rows and waits in the queue stays sound, and the work falls. A row with k lockers below a label tells that its node is beaten.
 -- Assumes nothing.
 use Prim.Native.Nat.{ℕ, zero, suc, _+_, _-_, _*_, _≤_, _<_}
 use mathlib.Core.Path.{_≡_, refl, sym, ap, _∙_}
-use mathlib.Core.Bool.{true}
+use mathlib.Core.Bool.{Bool, true}
 use mathlib.Core.Logic.{_≢_, ⊎-elim}
 use mathlib.Core.List.{List}
 use native.Mathlib.Nat.{add-comm, mul-le-mul-right}
@@ -16,24 +16,26 @@ use Rattle.network.specs.Network.{Network, Arc, nodeCount, arcCount, neighbours
 use Rattle.network.specs.Accepted.{Accepted}
 use Rattle.network.specs.Walk.{step}
 use Rattle.network.specs.Distance.{NONE}
-use Rattle.network.specs.Points.{isNearer, countNearer}
+use borrow.Author.Tests.{ltb-true}
+use Rattle.network.specs.Points.{lockers, marked, isNearer, countNearer}
 use Rattle.network.proofs.Ranges.{neighbours-length, start-most}
 use Rattle.network.proofs.NumberZero.{accepted-ranges}
 use Rattle.network.proofs.Distances.{dist-walk}
 use Rattle.network.proofs.Rank.{nearer-passes}
+use Rattle.network.proofs.Totals.{total-same, sum-le, sum-different}
 use Rattle.expansion.specs.Queue.{PushedAt, PoppedAt, keyOf, keyAt}
 use Rattle.expansion.specs.Tags.{tagOf, tagNode, tagParent}
 use Rattle.expansion.specs.Area.{Kept}
 use Rattle.expansion.specs.Expand.{wordDistance}
-use Rattle.lazy_searches.specs.Second.{pointOf, besideOf, farOf, wordsBase, secondBase, secondQueue, idAt, wordAt, Source, Second, Sound, spread, work, PlaceFor, CanSpread, Offered, Admitted, Advanced, Closed}
-use Rattle.searches.proofs.Beaten.{Part}
+use Rattle.lazy_searches.specs.Second.{pointOf, besideOf, farOf, wordsBase, secondBase, secondQueue, idAt, wordAt, Source, Second, Sound, spread, work, PlaceFor, CanSpread, Offered, Admitted, Advanced, isBelow, Closed}
+use Rattle.searches.proofs.Beaten.{Part, part-marked}
 use Rattle.expansion.proofs.Stopping.{kept-same}
 use Rattle.network.proofs.Lends.{row-fits}
-use Rattle.lazy_searches.proofs.RowLaws.{same-place, word-suc, word-below, total-same, total-less, count-different}
+use Rattle.lazy_searches.proofs.RowLaws.{same-place, word-suc, word-below, total-less}
 
 -- what is sound for some marks is for more
 pub source-part : {g : Network} {M N : List ℕ} {u p d : ℕ} → Part M N → Source g M u p d → Source g N u p d
-source-part {p} sub s = record { inside = s .inside; point = sub p (s .point); walk = s .walk }
+source-part {M} {N} {p} sub s = record { inside = s .inside; point = part-marked M N p sub (s .point); walk = s .walk }
 
 source-same : {g : Network} {M : List ℕ} {u v p q d e : ℕ} → u ≡ v → p ≡ q → d ≡ e → Source g M v q e → Source g M u p d
 source-same a b c s = rw (a, b, c) s
@@ -356,29 +358,41 @@ module _ {g : Network} {xs ys zs : List ℕ} {k len left : ℕ} (far tag : ℕ) 
     pub advanced-less : 0 < left → work g k ws r < work g k ys left
     advanced-less some = omega (arith, b .less, ap (λ (x : ℕ). x * (arcCount g + 2)) (spread-kept (nodeCount g) k popped-frame))
 
--- ---- Pruning: where each place of u's row has a distance below l, k marks are nearer to u than l.
-pub closed-nearer : {g : Network} {M xs : List ℕ} {k len u l : ℕ} → Accepted g → Second g xs k len → Sound g M xs k len → u < nodeCount g → l ≤ NONE
-    → Closed (nodeCount g) xs k u l → k ≤ countNearer g M u l
+-- ---- Pruning: where k lockers stand in u's row at distances below l, k lockers of the marks are nearer to u than l, as each mark has all of P's.
+pub closed-nearer : {g : Network} {P M xs : List ℕ} {k len u l : ℕ} → Accepted g → Second g xs k len → Sound g M xs k len
+    → ((p : ℕ) → marked M p ≡ true → lockers P p ≤ lockers M p) → u < nodeCount g → l ≤ NONE → Closed P (nodeCount g) xs k u l → k ≤ countNearer g M u l
 unfolding countNearer
-closed-nearer {g} {M} {xs} {k} {len} {u} {l} ok second sound h top c =
-    count-different (isNearer g M u l) (idAt (nodeCount g) k xs u) (nodeCount g) k nearer
-    (λ i j a b e. second .distinct u i j h a b (filled i a) (filled j b) e)
+closed-nearer {g} {P} {M} {xs} {k} {len} {u} {l} ok second sound all h top c =
+    omega (
+      arith,
+      c .enough,
+      sum-le below below (λ j. lockers P (id j)) (λ j. lockers M (id j)) k (λ j m a. (a, all (id j) (source j m a .1 .point))),
+      sum-different below (isNearer g M u l) id (lockers M) (nodeCount g) k nearer
+          (λ i j a b e f. second .distinct u i j h a b (filled i e) (filled j f)),
+    )
   where
-    filled : (j : ℕ) → j < k → wordAt (nodeCount g) k xs u j ≢ 0
-    filled j m = word-below (wordAt (nodeCount g) k xs u j) l top (c .below j m)
+    id : ℕ → ℕ
+    id = idAt (nodeCount g) k xs u
 
-    nearer : (j : ℕ) → j < k → (idAt (nodeCount g) k xs u j < nodeCount g) × (isNearer g M u l (idAt (nodeCount g) k xs u j) ≡ true)
-    nearer j m = by (wordAt (nodeCount g) k xs u j) refl
+    below : ℕ → Bool
+    below = isBelow (nodeCount g) k xs u l
+
+    less : (j : ℕ) → below j ≡ true → wordDistance (wordAt (nodeCount g) k xs u j) < l
+    less j a = ltb-true (wordDistance (wordAt (nodeCount g) k xs u j)) l a
+
+    filled : (j : ℕ) → below j ≡ true → wordAt (nodeCount g) k xs u j ≢ 0
+    filled j a = word-below (wordAt (nodeCount g) k xs u j) l top (less j a)
+
+    source : (j : ℕ) → j < k → below j ≡ true → (d : ℕ) × Source g M u (id j) d × (d < l)
+    source j m a = by (wordAt (nodeCount g) k xs u j) refl
       where
-        by : (w : ℕ) → wordAt (nodeCount g) k xs u j ≡ w → (idAt (nodeCount g) k xs u j < nodeCount g) × (isNearer g M u l (idAt (nodeCount g) k xs u j) ≡ true)
-        by zero e = absurd (filled j m e)
-        by (suc d) e =
-            let s = sound .stands u j d h m e in (
-              s .inside,
-              nearer-passes
-                  (record {
-                    inside = s .inside;
-                    point = s .point;
-                    less = omega (arith, dist-walk ok (s .walk) .most, word-suc d, ap wordDistance e, c .below j m);
-                  }),
-            )
+        by : (w : ℕ) → wordAt (nodeCount g) k xs u j ≡ w → (d : ℕ) × Source g M u (id j) d × (d < l)
+        by zero e = absurd (filled j a e)
+        by (suc d) e = (d, sound .stands u j d h m e, omega (arith, word-suc d, ap wordDistance e, less j a))
+
+    nearer : (j : ℕ) → j < k → below j ≡ true → (id j < nodeCount g) × (isNearer g M u l (id j) ≡ true)
+    nearer j m a =
+        let s = source j m a in (
+          s .1 .inside,
+          nearer-passes (record { inside = s .1 .inside; point = s .1 .point; less = omega (arith, dist-walk ok (s .1 .walk) .most, s .2) }),
+        )

@@ -1,7 +1,7 @@
 -- What lazy, and lazy with extended pruning, leave. And of lazy alone, what its functions require and leave: its words are: counts n | found flags n
 -- | the area of the verifications | the area of the search. The count and the found flag of node u are the words u and n + u.
 -- Assumes nothing.
-use Prim.Native.Nat.{ℕ, suc, _+_, _*_, _≤_, _<_}
+use Prim.Native.Nat.{ℕ, _+_, _*_, _≤_, _<_}
 use mathlib.Core.Path.{_≡_}
 use mathlib.Core.Logic.{_≢_, _⊎_}
 use mathlib.Core.Bool.{Bool, true, cond}
@@ -12,7 +12,7 @@ use Rattle.network.specs.Network.{Network, nodeCount, arcCount}
 use Rattle.network.specs.Accepted.{Accepted}
 use Rattle.network.specs.Distance.{dist}
 use Rattle.network.specs.Count.{select}
-use Rattle.network.specs.Points.{marked, isListed, listed}
+use Rattle.network.specs.Points.{lockers, isListed, listed}
 use Rattle.network.specs.Answers.{answered}
 use Rattle.expansion.specs.Area.{queueBase, LabelAt, Stands, Blank, Wiped}
 use Rattle.searches.specs.Eager.{isFound}
@@ -30,12 +30,12 @@ visitBase n = 2 * n
 abbrev pub searchBase : Network → ℕ
 searchBase g = queueBase (nodeCount g) (visitBase (nodeCount g)) + 2 * (arcCount g + 1)
 
--- the nodes that a verification has settled can be counted: they are nodes, and no two are one
-pub record CanCount (n : ℕ) (xs : List ℕ) (b settled : ℕ) : Type 0 where
+-- c lockers can be added to the counts of the nodes that a verification has settled: they are nodes, and no two are one
+pub record CanCount (n : ℕ) (xs : List ℕ) (b settled c : ℕ) : Type 0 where
   pub low : queueBase n (visitBase n) ≤ b
   pub fits : b + n ≤ length xs
   pub few : settled ≤ n
-  pub small : (u : ℕ) → u < n → getD xs u 0 < 4294967295
+  pub small : (u : ℕ) → u < n → getD xs u 0 + c < 4294967296
   pub nodes : (i : ℕ) → i < settled → getD xs (visitBase n + n + i) 0 < n
   pub distinct :
       (i j : ℕ) → i < settled → j < settled
@@ -47,20 +47,20 @@ pub record CanCount (n : ℕ) (xs : List ℕ) (b settled : ℕ) : Type 0 where
 abbrev pub isLess : ℕ → ℕ → ℕ → Bool
 isLess near word l = cond (eqb word 0) (leb near l) (ltb near word)
 
--- the count of u rises
-pub record Rises (n : ℕ) (xs ys : List ℕ) (b l u : ℕ) : Type 0 where
-  pub one : getD ys u 0 ≡ suc (getD xs u 0)
+-- the count of u rises by c
+pub record Rises (n : ℕ) (xs ys : List ℕ) (b l c u : ℕ) : Type 0 where
+  pub more : getD ys u 0 ≡ getD xs u 0 + c
   pub less : isLess (getD xs (visitBase n + u) 0) (getD xs (b + u) 0) l ≡ true
 
-pub record CountedNode (n : ℕ) (xs ys : List ℕ) (b l u : ℕ) : Type 0 where
+pub record CountedNode (n : ℕ) (xs ys : List ℕ) (b l c u : ℕ) : Type 0 where
   pub size : length ys ≡ length xs
   pub words : (i : ℕ) → i ≢ u → getD ys i 0 ≡ getD xs i 0
-  pub count : (getD ys u 0 ≡ getD xs u 0) ⊎ Rises n xs ys b l u
+  pub count : (getD ys u 0 ≡ getD xs u 0) ⊎ Rises n xs ys b l c u
 
-pub record CountedAll (n : ℕ) (xs ys : List ℕ) (b settled l : ℕ) : Type 0 where
+pub record CountedAll (n : ℕ) (xs ys : List ℕ) (b settled l c : ℕ) : Type 0 where
   pub size : length ys ≡ length xs
   pub words : (i : ℕ) → n ≤ i → getD ys i 0 ≡ getD xs i 0
-  pub counts : (u : ℕ) → u < n → (getD ys u 0 ≡ getD xs u 0) ⊎ (Stands n xs (visitBase n) settled u × Rises n xs ys b l u)
+  pub counts : (u : ℕ) → u < n → (getD ys u 0 ≡ getD xs u 0) ⊎ (Stands n xs (visitBase n) settled u × Rises n xs ys b l c u)
 
 -- a node v to which the search comes: it is verified where it is a point
 pub record CanDiscover (g : Network) (P : List ℕ) (q k : ℕ) (xs : List ℕ) (b v : ℕ) : Type 0 where
@@ -70,14 +70,14 @@ pub record CanDiscover (g : Network) (P : List ℕ) (q k : ℕ) (xs : List ℕ) 
   pub base : b ≡ searchBase g
   pub fits : b + nodeCount g ≤ length xs
   pub inside : v < nodeCount g
-  pub small : (u : ℕ) → u < nodeCount g → getD xs u 0 < 4294967295
+  pub small : (u : ℕ) → u < nodeCount g → getD xs u 0 + 255 < 4294967296
   pub blank : (j : ℕ) → visitBase (nodeCount g) ≤ j → j < b → getD xs j 0 ≡ 0
   pub sound : getD xs (nodeCount g + v) 0 ≢ 0 → isListed g P q k v ≡ true
 
--- the count of u rises by the point v: it is nearer to u than u's label, or than l where the search has not settled u
+-- the count of u rises by the lockers of v: v is nearer to u than u's label, or than l where the search has not settled u
 pub record CountedBy (g : Network) (P xs ys : List ℕ) (b l v u : ℕ) : Type 0 where
-  pub mark : marked P v ≡ true
-  pub one : getD ys u 0 ≡ suc (getD xs u 0)
+  pub byte : lockers P v ≤ 255
+  pub more : getD ys u 0 ≡ getD xs u 0 + lockers P v
   pub ahead : getD xs (b + u) 0 ≡ 0 → dist g v u < l
   pub behind : (m : ℕ) → LabelAt (nodeCount g) xs b u m → dist g v u < m
 

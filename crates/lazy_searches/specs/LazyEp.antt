@@ -44,15 +44,15 @@ pub record SettledFound (g : Network) (P : List ℕ) (q k : ℕ) (xs ys : List �
   pub size : length ys ≡ length xs
   pub found : select (isFound 0 ys) (nodeCount g) ≡ listed g P q k
 
--- node u is settled, and k points stand in its row at distances below its label
-pub record ClosedBehind (n : ℕ) (xs : List ℕ) (outer k u : ℕ) : Type 0 where
+-- node u is settled, and k lockers stand in its row at distances below its label
+pub record ClosedBehind (P : List ℕ) (n : ℕ) (xs : List ℕ) (outer k u : ℕ) : Type 0 where
   pub label : ℕ
   pub is : getD xs (outer + u) 0 ≡ suc label
-  pub closed : Closed n xs k u label
+  pub closed : Closed P n xs k u label
 
--- an entry of v at label l, put in by u, is taken back: v's row has k points below l, or u's has k points below its own label
-abbrev pub TakenBack : ℕ → List ℕ → ℕ → ℕ → ℕ → ℕ → ℕ → Type 0
-TakenBack n xs outer k v l u = Closed n xs k v l ⊎ ClosedBehind n xs outer k u
+-- an entry of v at label l, put in by u, is taken back: v's row has k lockers below l, or u's has k below its own label
+abbrev pub TakenBack : List ℕ → ℕ → List ℕ → ℕ → ℕ → ℕ → ℕ → ℕ → Type 0
+TakenBack P n xs outer k v l u = Closed P n xs k v l ⊎ ClosedBehind P n xs outer k u
 
 -- the words before the outer area: node v can be verified, and come into its own row
 pub record CanDiscover (g : Network) (P xs : List ℕ) (inner k len v q : ℕ) : Type 0 where

@@ -3,16 +3,18 @@
 -- Word of a place: 0 while it is empty, else its distance plus one. An entry of the queue: a distance, and as its tag the point and the node.
 -- (No sentence of document 01: rows only hold sums of walks, and nothing is promised of how many there are.)
 -- Assumes nothing.
-use Prim.Native.Nat.{ℕ, zero, suc, _+_, _*_, _/_, _%_, _≤_, _<_}
+use Prim.Native.Nat.{ℕ, suc, _+_, _*_, _/_, _%_, _≤_, _<_}
 use mathlib.Core.Path.{_≡_}
 use mathlib.Core.Logic.{_≢_}
-use mathlib.Core.Bool.{true}
+use mathlib.Core.Bool.{Bool, true}
 use mathlib.Core.List.{List}
+use lib.Dec.{ltb}
 use lib.ListN.{length, getD, drop}
 use Rattle.network.specs.Network.{Network, nodeCount, arcCount}
 use Rattle.network.specs.Accepted.{Accepted}
 use Rattle.network.specs.Walk.{Walk}
-use Rattle.network.specs.Points.{marked}
+use Rattle.network.specs.Count.{total, sumOver}
+use Rattle.network.specs.Points.{lockers, marked}
 use Rattle.expansion.specs.Queue.{Holds, Queue}
 use Rattle.expansion.specs.Tags.{tagNode, tagParent}
 use Rattle.expansion.specs.Area.{Kept}
@@ -68,10 +70,6 @@ pub record Sound (g : Network) (M xs : List ℕ) (k len : ℕ) : Type 0 where
 
 -- what the second expansion has left to do: each put lessens the distances in the rows, where an empty place counts as NONE, and adds at most A
 -- entries
-unfoldable pub total : (ℕ → ℕ) → ℕ → ℕ
-total f zero = 0
-total f (suc n) = total f n + f n
-
 abbrev pub spread : ℕ → ℕ → List ℕ → ℕ
 spread n k xs = total (λ i. wordDistance (getD xs (wordsBase n k + i) 0)) (n * k)
 
@@ -118,6 +116,9 @@ pub record Advanced (g : Network) (xs ys : List ℕ) (k len r : ℕ) : Type 0 wh
   pub second : Second g ys k r
   pub sound : (M : List ℕ) → Sound g M xs k len → Sound g M ys k r
 
--- each place of node u's row has a distance below l
-pub record Closed (n : ℕ) (xs : List ℕ) (k u l : ℕ) : Type 0 where
-  pub below : (j : ℕ) → j < k → wordDistance (wordAt n k xs u j) < l
+-- k of P's lockers stand in node u's row at distances below l
+abbrev pub isBelow : ℕ → ℕ → List ℕ → ℕ → ℕ → ℕ → Bool
+isBelow n k xs u l j = ltb (wordDistance (wordAt n k xs u j)) l
+
+pub record Closed (P : List ℕ) (n : ℕ) (xs : List ℕ) (k u l : ℕ) : Type 0 where
+  pub enough : k ≤ sumOver (isBelow n k xs u l) (λ j. lockers P (idAt n k xs u j)) k

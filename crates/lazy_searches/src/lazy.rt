@@ -1,5 +1,6 @@
-// Lazy: source 000, Fig. 7. An expansion from the site that verifies each point that it comes to. A verification counts the nodes to which its point is
-// strictly nearer than the site; the expansion stops behind a node that was counted k times. Document 01, 'What a site receives'.
+// Lazy: source 000, Fig. 7. An expansion from the site that verifies each point that it comes to. A verification adds its point's lockers to the count
+// of each node to which the point is strictly nearer than the site; the expansion stops behind a node with a count of k. Document 01, 'What a site
+// receives'.
 ghost use mathlib.Core.Path.{_≡_};
 ghost use Prim.Native.Nat.{_+_, _≤_, _<_};
 ghost use lib.Dec.{leb};
@@ -13,9 +14,10 @@ use expansion::step::Taken;
 use expansion::verify;
 use expansion::words;
 use network::arcs::wide;
+use network::points::lockers_at;
 use searches::flags;
 
-// Whether a node was counted k times.
+// Whether a node has a count of k.
 fn is_closed(s: &[u32], node: u32, k: usize) -> bool
     requires { ⌜ node < length (now s) ⌝ }
     ensures { λ r. ⌜ r ≡ leb k (getD (now (s .entry)) node 0) ⌝ }
@@ -36,33 +38,33 @@ fn is_nearer(near: u32, word: u32, label: u32) -> bool
     near < word
 }
 
-// Counts a node that a verification has settled, where its point is strictly nearer to the node than the site.
-fn count_node(s: &mut [u32], n: usize, b: usize, node: u32, label: u32)
-    requires { ⌜ (queueBase n (visitBase n) ≤ b) × (b + n ≤ length (now s)) × (node < n) × (getD (now s) node 0 < 4294967295) ⌝ }
-    ensures { λ _. ⌜ CountedNode n (now (s .entry)) (now (s .exit)) b label node ⌝ }
+// Adds so many lockers to the count of a node that a verification has settled, where its point is strictly nearer to the node than the site.
+fn count_node(s: &mut [u32], n: usize, b: usize, node: u32, label: u32, lockers: u32)
+    requires { ⌜ (queueBase n (visitBase n) ≤ b) × (b + n ≤ length (now s)) × (node < n) × (getD (now s) node 0 + lockers < 4294967296) ⌝ }
+    ensures { λ _. ⌜ CountedNode n (now (s .entry)) (now (s .exit)) b label lockers node ⌝ }
 {
     let at = wide(node);
     let near = s[2 * n + at];
     let word = s[b + at];
     if is_nearer(near, word, label) {
-        s[at] += 1;
+        s[at] += lockers;
     }
 }
 
-// Counts the nodes that a verification has settled.
-fn count_visited(s: &mut [u32], n: usize, b: usize, settled: usize, label: u32)
-    requires { ⌜ CanCount n (now s) b settled ⌝ }
-    ensures { λ _. ⌜ CountedAll n (now (s .entry)) (now (s .exit)) b settled label ⌝ }
+// The same of every node that a verification has settled.
+fn count_visited(s: &mut [u32], n: usize, b: usize, settled: usize, label: u32, lockers: u32)
+    requires { ⌜ CanCount n (now s) b settled lockers ⌝ }
+    ensures { λ _. ⌜ CountedAll n (now (s .entry)) (now (s .exit)) b settled label lockers ⌝ }
 {
     let mut i = 0;
     while i < settled {
         let node = s[3 * n + i];
-        count_node(s, n, b, node, label);
+        count_node(s, n, b, node, label, lockers);
         i += 1;
     }
 }
 
-// Verifies a node that is a point: flags it where it is listed, and counts the nodes that the verification has settled.
+// Verifies a node that is a point: flags it where it is listed, and adds its lockers to the counts of the nodes that the verification has settled.
 fn discover(
     starts: &[u32],
     neighbours: &[u32],
@@ -80,8 +82,8 @@ fn discover(
 {
     let n = starts.len() - 1;
     let at = wide(node);
-    let mark = points[at];
-    if mark != 1 {
+    let lockers = lockers_at(points, node);
+    if lockers == 0 {
         return;
     }
     let a = 2 * n;
@@ -98,7 +100,7 @@ fn discover(
     );
     let settled = v.settled;
     let len = v.len;
-    count_visited(s, n, b, settled, label);
+    count_visited(s, n, b, settled, label, lockers as u32);
     step::clear(&mut s[..b], a, n, settled, len);
     if v.yes {
         s[n + at] = 1;

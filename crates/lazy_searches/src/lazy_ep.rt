@@ -1,5 +1,6 @@
 // Lazy with extended pruning: source 000, Fig. 13. An expansion from the site that verifies each point that it comes to, beside a second expansion
-// from the points verified so far. It stops behind a node with k of them strictly nearer to it than the site. Document 01, 'What a site receives'.
+// from the points verified so far. It stops behind a node with k of their lockers strictly nearer to it than the site. Document 01, 'What a site
+// receives'.
 ghost use mathlib.Core.Path.{_≡_};
 ghost use mathlib.Core.Bool.{true};
 ghost use Prim.Native.Nat.{_+_, _≤_, _<_};
@@ -19,20 +20,29 @@ use network::arcs::wide;
 use network::distance::Distance;
 use searches::flags;
 
-// Whether an entry of node v at label l is taken back: k points are nearer to v than l, or nearer to the settled node u that put it in than u's own
+// Whether an entry of node v at label l is taken back: k lockers are nearer to v than l, or nearer to the settled node u that put it in than u's own
 // label.
-fn taken_back(s: &[u32], outer: usize, n: usize, k: usize, v: u32, l: u32, u: u32) -> bool
+fn taken_back(
+    points: &[u8],
+    s: &[u32],
+    outer: usize,
+    n: usize,
+    k: usize,
+    v: u32,
+    l: u32,
+    u: u32,
+) -> bool
     requires { ⌜ (secondBase n k ≤ length (now s)) × (outer + n ≤ length (now s)) × (v < n) × (u < n) ⌝ }
-    ensures { λ r. ⌜ (r ≡ true → TakenBack n (now (s .entry)) outer k v l u) ⌝ }
+    ensures { λ r. ⌜ (r ≡ true → TakenBack (now (points .entry)) n (now (s .entry)) outer k v l u) ⌝ }
 {
-    if second::closed(s, n, k, v, l) {
+    if second::closed(points, s, n, k, v, l) {
         return true;
     }
     let label = second::distance_at(s, outer + wide(u));
     if label == Distance::NONE {
         return false;
     }
-    second::closed(s, n, k, u, label)
+    second::closed(points, s, n, k, u, label)
 }
 
 // Verifies point v, and flags it where it is listed.
@@ -76,7 +86,7 @@ fn discover(
 {
     let at = wide(v);
     let mark = points[at];
-    if mark != 1 {
+    if mark == 0 {
         return len;
     }
     verify_point(starts, neighbours, weights, points, f, inner, k, v, q);
@@ -122,7 +132,7 @@ fn settle_found(
         len = left;
         let rows = &mut s[..inner];
         waiting = second::advance(starts, neighbours, weights, rows, k, waiting, label);
-        if taken_back(s, outer, n, k, node, label, parent) {
+        if taken_back(points, s, outer, n, k, node, label, parent) {
             continue;
         }
         waiting = discover(
@@ -139,7 +149,7 @@ fn settle_found(
         );
         step::settle(s, outer, n, settled, node, label);
         settled += 1;
-        if second::closed(s, n, k, node, label) {
+        if second::closed(points, s, n, k, node, label) {
             continue;
         }
         len = step::open(starts, neighbours, weights, s, outer, left, node, label);

@@ -12,6 +12,8 @@ use expansion::queue;
 use expansion::tags;
 use network::arcs;
 use network::arcs::wide;
+use network::distance::Distance;
+use network::points::lockers_at;
 
 // The distance that a word stands for, at a place of a row or as a label: NONE where the place is empty, or the node not settled.
 pub fn distance_at(s: &[u32], at: usize) -> u32
@@ -150,19 +152,25 @@ pub fn advance(
     left
 }
 
-// Whether k points stand in node u's row at distances below l.
-pub fn closed(s: &[u32], n: usize, k: usize, u: u32, l: u32) -> bool
+// Whether k lockers stand in node u's row at distances below l. A place is taken before those behind it, so an empty one ends the row.
+pub fn closed(points: &[u8], s: &[u32], n: usize, k: usize, u: u32, l: u32) -> bool
     requires { ⌜ (secondBase n k ≤ length (now s)) × (u < n) ⌝ }
-    ensures { λ r. ⌜ (r ≡ true → Closed n (now (s .entry)) k u l) ⌝ }
+    ensures { λ r. ⌜ (r ≡ true → Closed (now (points .entry)) n (now (s .entry)) k u l) ⌝ }
 {
-    let words = n + n * k + wide(u) * k;
+    let row = wide(u) * k;
+    let ids = n + row;
+    let words = n + n * k + row;
+    let mut tally = 0;
     let mut j = 0;
-    while j < k {
+    while j < k && tally < k {
         let far = distance_at(s, words + j);
-        if l <= far {
+        if far == Distance::NONE {
             return false;
+        }
+        if far < l {
+            tally += lockers_at(points, s[ids + j]);
         }
         j += 1;
     }
-    true
+    k <= tally
 }

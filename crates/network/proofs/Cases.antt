@@ -1,18 +1,18 @@
--- P1 to P10 of document 01, by computation.
+-- P1 to P10 of document 01, and the cases of document 02, by computation.
 -- Assumes nothing.
 use mathlib.Core.Path.{refl}
-use Rattle.network.specs.Count.{any, count, select}
+use Rattle.network.specs.Count.{any, count, total, select}
 use Rattle.network.specs.Network.{arcsFrom, arcsOf, partOf}
 use Rattle.network.specs.Check.{badSize, fallsAt, badStarts, badNeighbourAt, badPart, badNeighboursOf, badNeighbours, badWeightAt, badWeights, isArcAt, hasArc, lacksReturnAt, lacksReturnOf, lacksReturn, networkNumber}
 use Rattle.network.specs.Distance.{plus, least, within, dist}
-use Rattle.network.specs.Points.{isNearer, countNearer, isOtherNearer, othersNearer, verified, isListed, listed, isExpanded, expanded, exceedsLimit}
-use Rattle.network.specs.Nearest.{insert, byDistance, nearest}
+use Rattle.network.specs.Points.{isNearer, countNearer, othersNearer, verified, isListed, listed, isExpanded, expanded, exceedsLimit}
+use Rattle.network.specs.Nearest.{insert, insertTimes, byDistance, nearest}
 use Rattle.network.specs.Rows.{row, sameRow, rowsChanged}
 use Rattle.network.specs.Cases.{Cases, roads}
 use Rattle.network.proofs.NumberZero.{number-zero}
 
 pub cases : Cases
-unfolding any count select arcsFrom arcsOf partOf badSize fallsAt badStarts badNeighbourAt badPart badNeighboursOf badNeighbours badWeightAt badWeights isArcAt hasArc lacksReturnAt lacksReturnOf lacksReturn networkNumber plus least within dist isNearer countNearer isOtherNearer othersNearer verified isListed listed isExpanded expanded exceedsLimit insert byDistance nearest row sameRow rowsChanged
+unfolding any count total select arcsFrom arcsOf partOf badSize fallsAt badStarts badNeighbourAt badPart badNeighboursOf badNeighbours badWeightAt badWeights isArcAt hasArc lacksReturnAt lacksReturnOf lacksReturn networkNumber plus least within dist isNearer countNearer othersNearer verified isListed listed isExpanded expanded exceedsLimit insert insertTimes byDistance nearest row sameRow rowsChanged
 cases =
     record {
       accepted-N = number-zero (roads 7) .0 refl;
@@ -36,4 +36,33 @@ cases =
       P9 = refl;
       P10 = refl;
       P10-changed = refl;
+      two-k1 = refl;
+      two-k2 = refl;
+      two-k3 = refl;
+      two-expanded-k2 = refl;
+      two-expanded-k3 = refl;
+      two-row0-K2 = refl;
+      two-row0-K3 = refl;
+      two-row2-K3 = refl;
+      two-changed = refl;
+      two-removed = refl;
+      three-k2 = refl;
+      three-k3 = refl;
+      three-k4 = refl;
+      three-k5 = refl;
+      three-expanded-k3 = refl;
+      three-expanded-k4 = refl;
+      three-expanded-k5 = refl;
+      three-row4-K4 = refl;
+      three-row4-K6 = refl;
+      three-changed = refl;
+      three-removed = refl;
+      fifteen-k14 = refl;
+      fifteen-k15 = refl;
+      fifteen-k16 = refl;
+      fifteen-own = refl;
+      fifteen-nearest = refl;
+      fifteen-cut = refl;
+      fifteen-row4 = refl;
+      fifteen-row0 = refl;
     }

@@ -1,8 +1,8 @@
--- One more entry in a rising list: its members, its order, how many are below k.
+-- One more entry in an ordered list, and so many more: its members, its order, how many are below k.
 -- Assumes nothing.
 use Prim.Native.Nat.{ℕ, zero, suc, _+_, _≤_, _<_}
-use mathlib.Core.Path.{_≡_, refl, ap}
-use mathlib.Core.Bool.{Bool, true, false, _&&_}
+use mathlib.Core.Path.{_≡_, refl, sym, ap, _∙_}
+use mathlib.Core.Bool.{Bool, true, false}
 use mathlib.Core.Logic.{_≢_, _⊎_, inl, inr, ⊎-elim}
 use mathlib.Core.List.{List, [], _∷_, List·Memᴰ, List·Memᴰ·head, List·Memᴰ·tail, List·Memᴰ·cases-cons, List·Memᴰ·not-nil, List·Memᴰ·eq-of-singleton}
 use native.Mathlib.Decide.{decLe, decLt}
@@ -11,10 +11,10 @@ use lib.Dec.{ltb}
 use lib.ListN.{length, take}
 use lib.Seq.{take-nil, take-take}
 use borrow.Author.Tests.{le-leb, lt-leb}
-use Rattle.network.specs.Count.{bit}
-use Rattle.network.specs.Nearest.{key, insert, insertIf, Rising}
+use Rattle.network.specs.Count.{bit, weighed}
+use Rattle.network.specs.Nearest.{key, insert, insertTimes, Ordered}
 use Rattle.network.proofs.Counts.{bit-lt}
-use Rattle.network.proofs.Rising.{AllIn, first-least, below}
+use Rattle.network.proofs.Ordered.{AllIn, first-least, below, none-below}
 
 -- the clauses of `insert`
 pub insert-behind : (x y : ℕ × ℕ) (ys : List (ℕ × ℕ)) → key y ≤ key x → insert x (y ∷ ys) ≡ y ∷ insert x ys
@@ -60,19 +60,13 @@ insert-old x (y ∷ ys) z m =
       | no n ↦ rw (insert-before x y ys (omega arith)) (List·Memᴰ·tail m)
     ]
 
-pub insert-rising : (x : ℕ × ℕ) (ys : List (ℕ × ℕ)) → Rising ys → ((y : ℕ × ℕ) → List·Memᴰ y ys → key y ≢ key x) → Rising (insert x ys)
-insert-rising x [] r h = rw insert-nil (λ y m. absurd (List·Memᴰ·not-nil m), tt)
-insert-rising x (y ∷ ys) r h =
+pub insert-ordered : (x : ℕ × ℕ) (ys : List (ℕ × ℕ)) → Ordered ys → Ordered (insert x ys)
+insert-ordered x [] r = rw insert-nil (λ y m. absurd (List·Memᴰ·not-nil m), tt)
+insert-ordered x (y ∷ ys) r =
     elim (decLe (key y) (key x)) [
       | yes l ↦
-          rw (insert-behind x y ys l) (
-            λ z m.
-                ⊎-elim
-                (λ e. omega (arith, ap key e, h y (List·Memᴰ·head refl)))
-                (λ t. r .0 z t)
-                (insert-cases x ys z m),
-            insert-rising x ys (r .1) (λ z m. h z (List·Memᴰ·tail m)),
-          )
+          rw (insert-behind x y ys l)
+          (λ z m. ⊎-elim (λ e. omega (arith, ap key e)) (λ t. r .0 z t) (insert-cases x ys z m), insert-ordered x ys (r .1))
       | no n ↦ rw (insert-before x y ys (omega arith)) (λ z m. omega (arith, first-least {x = y} {xs = ys} r m), r)
     ]
 
@@ -108,51 +102,116 @@ take-insert (suc K) x (y ∷ ys) =
           rw (insert-before x y ys h, insert-before x y (take K ys) h) (ap (λ l. x ∷ l) (take-cons K y ys))
     ]
 
-first-above : (x y : ℕ × ℕ) (ys : List (ℕ × ℕ)) → ((z : ℕ × ℕ) → List·Memᴰ z (y ∷ ys) → key z ≢ key x) → below (key x) (y ∷ ys) ≤ 0 → key x < key y
-first-above x y ys h l =
-    elim (decLt (key y) (key x)) [
-      | yes b ↦ absurd (omega (arith, bit-lt (key y) (key x) b))
-      | no n ↦ omega (arith, h y (List·Memᴰ·head refl))
+-- what has at most K at or before it is put in front of no more than K
+pub take-insert-near : (K : ℕ) (x : ℕ × ℕ) (ys : List (ℕ × ℕ)) → below (suc (key x)) ys ≤ K → take (suc K) (insert x ys) ≡ insert x (take K ys)
+take-insert-near K x [] l = rw (insert-nil, take-nil K, insert-nil)
+take-insert-near zero x (y ∷ ys) l =
+    elim (decLe (key y) (key x)) [
+      | yes b ↦ absurd (omega (arith, bit-lt (key y) (suc (key x)) (omega arith)))
+      | no n ↦ rw (insert-before x y ys (omega arith), insert-nil)
     ]
-
--- what has at most K before it is put in front of no more than K
-pub take-insert-near : (K : ℕ) (x : ℕ × ℕ) (ys : List (ℕ × ℕ)) → ((y : ℕ × ℕ) → List·Memᴰ y ys → key y ≢ key x) → below (key x) ys ≤ K
-    → take (suc K) (insert x ys) ≡ insert x (take K ys)
-take-insert-near K x [] h l = rw (insert-nil, take-nil K, insert-nil)
-take-insert-near zero x (y ∷ ys) h l =
-    let b : key x < key y = first-above x y ys h l in
-    rw (insert-before x y ys b, insert-nil)
-take-insert-near (suc K) x (y ∷ ys) h l =
+take-insert-near (suc K) x (y ∷ ys) l =
     elim (decLe (key y) (key x)) [
       | yes b ↦
-          let c : key y < key x = omega (arith, h y (List·Memᴰ·head refl)) in
           rw (insert-behind x y ys b, insert-behind x y (take K ys) b)
-          (ap (λ r. y ∷ r) (take-insert-near K x ys (λ z m. h z (List·Memᴰ·tail m)) (omega (arith, bit-lt (key y) (key x) c))))
+          (ap (λ r. y ∷ r) (take-insert-near K x ys (omega (arith, bit-lt (key y) (suc (key x)) (omega arith)))))
       | no n ↦
           let c : key x < key y = omega arith in
           rw (insert-before x y ys c, insert-before x y (take K ys) c)
     ]
 
--- the same, where a test says whether there is one more
-pub insertIf-cases : (b : Bool) (x : ℕ × ℕ) (ys : List (ℕ × ℕ)) (z : ℕ × ℕ) → List·Memᴰ z (insertIf b x ys) → ((z ≡ x) × (b ≡ true)) ⊎ List·Memᴰ z ys
-insertIf-cases true x ys z m = ⊎-elim (λ e. inl (e, refl)) (λ t. inr t) (insert-cases x ys z m)
-insertIf-cases false x ys z m = inr m
+-- what has K at or before it falls out
+pub take-insert-far : (K : ℕ) (x : ℕ × ℕ) (ys : List (ℕ × ℕ)) → Ordered ys → K ≤ below (suc (key x)) ys → take K (insert x ys) ≡ take K ys
+take-insert-far zero x ys r l = refl
+take-insert-far (suc K) x [] r l = absurd (omega arith)
+take-insert-far (suc K) x (y ∷ ys) r l =
+    elim (decLe (key y) (key x)) [
+      | yes b ↦
+          rw (insert-behind x y ys b) (ap (λ r. y ∷ r) (take-insert-far K x ys (r .1) (omega (arith, bit-lt (key y) (suc (key x)) (omega arith)))))
+      | no n ↦
+          absurd
+          (omega (
+            arith,
+            none-below (suc (key x)) (y ∷ ys) (λ z m. omega (arith, first-least {x = y} {xs = ys} r m)),
+          ))
+    ]
 
-pub insertIf-new : (b : Bool) (x : ℕ × ℕ) (ys : List (ℕ × ℕ)) → b ≡ true → List·Memᴰ x (insertIf b x ys)
-insertIf-new b x ys e = rw e (insert-new x ys)
+-- the order of putting in does not matter
+lesser-first : (x y : ℕ × ℕ) (ys : List (ℕ × ℕ)) → key x < key y → insert x (insert y ys) ≡ insert y (insert x ys)
+lesser-first x y [] l = rw (insert-nil, insert-nil, insert-before x y [] l, insert-behind y x [] (omega arith), insert-nil)
+lesser-first x y (z ∷ zs) l =
+    elim (decLe (key z) (key x)) [
+      | yes a ↦
+          rw (insert-behind y z zs (omega arith), insert-behind x z (insert y zs) a, insert-behind x z zs a, insert-behind y z (insert x zs) (omega arith))
+          (ap (λ r. z ∷ r) (lesser-first x y zs l))
+      | no a ↦
+          elim (decLe (key z) (key y)) [
+            | yes b ↦
+                rw (insert-behind y z zs b, insert-before x z (insert y zs) (omega arith), insert-before x z zs (omega arith), insert-behind y x (z ∷ zs) (omega arith), insert-behind y z zs b)
+            | no b ↦
+                rw (insert-before y z zs (omega arith), insert-before x y (z ∷ zs) l, insert-before x z zs (omega arith), insert-behind y x (z ∷ zs) (omega arith), insert-before y z zs (omega arith))
+          ]
+    ]
 
-pub insertIf-old : (b : Bool) (x : ℕ × ℕ) (ys : List (ℕ × ℕ)) → AllIn ys (insertIf b x ys)
-insertIf-old true x ys z m = insert-old x ys z m
-insertIf-old false x ys z m = m
+pub insert-swap : (x y : ℕ × ℕ) (ys : List (ℕ × ℕ)) → key x ≢ key y → insert x (insert y ys) ≡ insert y (insert x ys)
+insert-swap x y ys n =
+    elim (decLt (key x) (key y)) [
+      | yes l ↦ lesser-first x y ys l
+      | no m ↦ sym (lesser-first y x ys (omega (arith, n)))
+    ]
 
-pub insertIf-rising : (b : Bool) (x : ℕ × ℕ) (ys : List (ℕ × ℕ)) → Rising ys → ((y : ℕ × ℕ) → List·Memᴰ y ys → key y ≢ key x) → Rising (insertIf b x ys)
-insertIf-rising true x ys r h = insert-rising x ys r h
-insertIf-rising false x ys r h = r
+-- the same for so many
+pub times-none : (x : ℕ × ℕ) (ys : List (ℕ × ℕ)) → insertTimes 0 x ys ≡ ys
+unfolding insertTimes
+times-none x ys = refl
 
-pub insertIf-below : (b : Bool) (k : ℕ) (x : ℕ × ℕ) (ys : List (ℕ × ℕ)) → below k (insertIf b x ys) ≡ below k ys + bit (b && ltb (key x) k)
-insertIf-below true k x ys = insert-below k x ys
-insertIf-below false k x ys = omega arith
+pub times-more : (c : ℕ) (x : ℕ × ℕ) (ys : List (ℕ × ℕ)) → insertTimes (suc c) x ys ≡ insert x (insertTimes c x ys)
+unfolding insertTimes
+times-more c x ys = refl
 
-pub insertIf-length : (b : Bool) (x : ℕ × ℕ) (ys : List (ℕ × ℕ)) → length (insertIf b x ys) ≡ length ys + bit b
-insertIf-length true x ys = omega (arith, insert-length x ys)
-insertIf-length false x ys = omega arith
+pub times-cases : (c : ℕ) (x : ℕ × ℕ) (ys : List (ℕ × ℕ)) (z : ℕ × ℕ) → List·Memᴰ z (insertTimes c x ys) → ((z ≡ x) × (1 ≤ c)) ⊎ List·Memᴰ z ys
+unfolding insertTimes
+times-cases zero x ys z m = inr m
+times-cases (suc c) x ys z m =
+    ⊎-elim
+    (λ e. inl (e, omega arith))
+    (λ t. ⊎-elim (λ e. inl (e .0, omega arith)) (λ l. inr l) (times-cases c x ys z t))
+    (insert-cases x (insertTimes c x ys) z m)
+
+pub times-new : (c : ℕ) (x : ℕ × ℕ) (ys : List (ℕ × ℕ)) → 1 ≤ c → List·Memᴰ x (insertTimes c x ys)
+unfolding insertTimes
+times-new zero x ys h = absurd (omega arith)
+times-new (suc c) x ys h = insert-new x (insertTimes c x ys)
+
+pub times-old : (c : ℕ) (x : ℕ × ℕ) (ys : List (ℕ × ℕ)) → AllIn ys (insertTimes c x ys)
+unfolding insertTimes
+times-old zero x ys z m = m
+times-old (suc c) x ys z m = insert-old x (insertTimes c x ys) z (times-old c x ys z m)
+
+pub times-ordered : (c : ℕ) (x : ℕ × ℕ) (ys : List (ℕ × ℕ)) → Ordered ys → Ordered (insertTimes c x ys)
+unfolding insertTimes
+times-ordered zero x ys r = r
+times-ordered (suc c) x ys r = insert-ordered x (insertTimes c x ys) (times-ordered c x ys r)
+
+pub times-below : (c k : ℕ) (x : ℕ × ℕ) (ys : List (ℕ × ℕ)) → below k (insertTimes c x ys) ≡ below k ys + weighed (ltb (key x) k) c
+unfolding insertTimes
+times-below zero k x ys = by (ltb (key x) k)
+  where
+    by : (b : Bool) → below k ys ≡ below k ys + weighed b 0
+    by true = omega arith
+    by false = omega arith
+times-below (suc c) k x ys = insert-below k x (insertTimes c x ys) ∙ ap (λ n. n + bit (ltb (key x) k)) (times-below c k x ys) ∙ by (ltb (key x) k)
+  where
+    by : (b : Bool) → below k ys + weighed b c + bit b ≡ below k ys + weighed b (suc c)
+    by true = omega arith
+    by false = omega arith
+
+pub times-length : (c : ℕ) (x : ℕ × ℕ) (ys : List (ℕ × ℕ)) → length (insertTimes c x ys) ≡ length ys + c
+unfolding insertTimes
+times-length zero x ys = omega arith
+times-length (suc c) x ys = omega (arith, insert-length x (insertTimes c x ys), times-length c x ys)
+
+pub times-swap : (c : ℕ) (x y : ℕ × ℕ) (ys : List (ℕ × ℕ)) → key x ≢ key y → insertTimes c y (insert x ys) ≡ insert x (insertTimes c y ys)
+unfolding insertTimes
+times-swap zero x y ys n = refl
+times-swap (suc c) x y ys n = ap (insert y) (times-swap c x y ys n) ∙ sym (insert-swap x y (insertTimes c y ys) n)

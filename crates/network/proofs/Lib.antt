@@ -14,7 +14,9 @@ pub mod Within
 pub mod Trail
 pub mod Least
 pub mod Distances
-pub mod Rising
+pub mod Totals
+pub mod Single
+pub mod Ordered
 pub mod Insert
 pub mod Rank
 pub mod Rows

@@ -11,10 +11,10 @@ use borrow.Author.Tests.{ltb-true, lt-ltb, ne-eqb}
 use Rattle.network.specs.Network.{Network, Arc, nodeCount}
 use Rattle.network.specs.Accepted.{Accepted}
 use Rattle.network.specs.Distance.{NONE, dist}
-use Rattle.network.specs.Points.{isNearer, countNearer, isExpanded}
+use Rattle.network.specs.Points.{lockers, isNearer, countNearer, isExpanded}
 use Rattle.network.specs.Nearest.{key, Nearer}
 use Rattle.network.proofs.Tests.{and-parts, and-intro}
-use Rattle.network.proofs.Counts.{count-mono}
+use Rattle.network.proofs.Totals.{sum-mono}
 use Rattle.network.proofs.Distances.{Next, dist-at-most, dist-arc}
 use Rattle.network.proofs.Rank.{Before, Near, before-mono, nearer-passes, passes-nearer}
 
@@ -29,7 +29,7 @@ module _ {g : Network} (ok : Accepted g) (P : List ℕ) {i c w : ℕ} (arc : Arc
   near-next K p e r =
       record {
         nearer = record { inside = r .nearer .inside; point = r .nearer .point; less = omega (arith, r .nearer .less) };
-        few = omega (arith, r .few, before-mono g P P c i NONE NONE (key (p, dist g c p)) (key (p, dist g i p)) earlier);
+        few = omega (arith, r .few, before-mono g P c i NONE NONE (key (p, dist g c p)) (key (p, dist g i p)) earlier);
       }
     where
       earlier : (x : ℕ) → Before g P c NONE (key (p, dist g c p)) x → Before g P i NONE (key (p, dist g i p)) x
@@ -47,7 +47,7 @@ module _ {g : Network} (ok : Accepted g) (P : List ℕ) (q k m : ℕ) (n : Next 
   pub count-next : countNearer g P (n .to) (dist g (n .to) q) ≤ countNearer g P m (dist g m q)
   unfolding countNearer
   count-next =
-      count-mono (isNearer g P (n .to) (dist g (n .to) q)) (isNearer g P m (dist g m q)) (nodeCount g)
+      sum-mono (isNearer g P (n .to) (dist g (n .to) q)) (isNearer g P m (dist g m q)) (lockers P) (nodeCount g)
       (λ x h a. nearer-passes (nearer-too x (passes-nearer h a)))
 
   pub expanded-next : isExpanded g P q k m ≡ true → isExpanded g P q k (n .to) ≡ true

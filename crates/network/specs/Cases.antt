@@ -1,14 +1,16 @@
--- Document 01, 'The network N': P1 to P10 as one statement about the definitions. Its proof, by computation, is `cases` of proofs/Cases.antt.
+-- Document 01, 'The network N': P1 to P10, and cases of document 02, as one statement about the definitions. Its proof, by computation, is `cases`
+-- of proofs/Cases.antt.
 -- Assumes nothing.
 use Prim.Native.Nat.{ℕ}
 use mathlib.Core.Bool.{true, false}
 use mathlib.Core.Path.{_≡_}
-use mathlib.Core.List.{List, [], _∷_}
-use lib.ListN.{set}
+use mathlib.Core.List.{List, [], _∷_, _++_}
+use lib.ListN.{set, replicate}
 use Rattle.network.specs.Network.{Network, network}
 use Rattle.network.specs.Accepted.{Accepted}
 use Rattle.network.specs.Distance.{NONE}
 use Rattle.network.specs.Points.{listed, expanded, exceedsLimit}
+use Rattle.network.specs.Nearest.{nearest}
 use Rattle.network.specs.Rows.{row, rowsChanged}
 
 -- 'Six nodes, roads 0-1 of 4, 0-3 of 5, 1-2 of 3, 2-4 of 7, 3-4 of 3; node 5 alone': N is `roads 7`
@@ -25,6 +27,19 @@ points = 0 ∷ 0 ∷ 1 ∷ 0 ∷ 1 ∷ 1 ∷ []
 
 abbrev pub noPoints : List ℕ
 noPoints = 0 ∷ 0 ∷ 0 ∷ 0 ∷ 0 ∷ 0 ∷ []
+
+-- Ask 8, marks of several lockers: two at 2; three at 0, and two there; fifteen at 4
+abbrev pub twoAt2 : List ℕ
+twoAt2 = 0 ∷ 0 ∷ 2 ∷ 0 ∷ 1 ∷ 1 ∷ []
+
+abbrev pub threeAt0 : List ℕ
+threeAt0 = 3 ∷ 0 ∷ 1 ∷ 0 ∷ 1 ∷ 1 ∷ []
+
+abbrev pub twoAt0 : List ℕ
+twoAt0 = 2 ∷ 0 ∷ 1 ∷ 0 ∷ 1 ∷ 1 ∷ []
+
+abbrev pub fifteenAt4 : List ℕ
+fifteenAt4 = 0 ∷ 0 ∷ 1 ∷ 0 ∷ 15 ∷ 1 ∷ []
 
 pub record Cases : Type 0 where
   -- the networks of the cases are accepted
@@ -59,3 +74,42 @@ pub record Cases : Type 0 where
   -- P10: row 2 after insert 0, K 2
   pub P10 : row (roads 7) (set points 0 1) 2 2 ≡ (2, 0) ∷ (0, 7) ∷ []
   pub P10-changed : rowsChanged (roads 7) points (set points 0 1) 2 ≡ 4
+  -- Ask 8 on N, worked out by hand from the distances of N. Two lockers at 2: 'a locker has its companions on the node as others at distance 0'; both
+  -- are nearer to 4 than 0 is
+  pub two-k1 : listed (roads 7) twoAt2 0 1 ≡ []
+  pub two-k2 : listed (roads 7) twoAt2 0 2 ≡ 2 ∷ []
+  pub two-k3 : listed (roads 7) twoAt2 0 3 ≡ 2 ∷ 4 ∷ []
+  -- node 1 has both at 3 < 4
+  pub two-expanded-k2 : expanded (roads 7) twoAt2 0 2 ≡ 2
+  pub two-expanded-k3 : expanded (roads 7) twoAt2 0 3 ≡ 4
+  -- a row repeats the node, and is cut after K
+  pub two-row0-K2 : row (roads 7) twoAt2 2 0 ≡ (2, 7) ∷ (2, 7) ∷ []
+  pub two-row0-K3 : row (roads 7) twoAt2 3 0 ≡ (2, 7) ∷ (2, 7) ∷ (4, 8) ∷ []
+  pub two-row2-K3 : row (roads 7) twoAt2 3 2 ≡ (2, 0) ∷ (2, 0) ∷ (4, 7) ∷ []
+  -- insert 2 on N: rows 0, 1 and 2 take one more of 2; in rows 3 and 4 it falls behind the second place; remove it again
+  pub two-changed : rowsChanged (roads 7) points twoAt2 2 ≡ 3
+  pub two-removed : rowsChanged (roads 7) twoAt2 points 2 ≡ 3
+  -- three lockers at 0: a locker there has two companions nearer than 1; from 4, which 1 is 10 from, 2 is nearer at 7 and the three at 8
+  pub three-k2 : listed (roads 7) threeAt0 1 2 ≡ 2 ∷ []
+  pub three-k3 : listed (roads 7) threeAt0 1 3 ≡ 0 ∷ 2 ∷ []
+  pub three-k4 : listed (roads 7) threeAt0 1 4 ≡ 0 ∷ 2 ∷ []
+  pub three-k5 : listed (roads 7) threeAt0 1 5 ≡ 0 ∷ 2 ∷ 4 ∷ []
+  -- three are nearer to 0 than 1 is, four to 3 and five to 4
+  pub three-expanded-k3 : expanded (roads 7) threeAt0 1 3 ≡ 2
+  pub three-expanded-k4 : expanded (roads 7) threeAt0 1 4 ≡ 3
+  pub three-expanded-k5 : expanded (roads 7) threeAt0 1 5 ≡ 4
+  -- a row is cut between the copies of a node; there one more or one fewer changes nothing: of rows 0 to 4 row 4 stays
+  pub three-row4-K4 : row (roads 7) threeAt0 4 4 ≡ (4, 0) ∷ (2, 7) ∷ (0, 8) ∷ (0, 8) ∷ []
+  pub three-row4-K6 : row (roads 7) threeAt0 6 4 ≡ (4, 0) ∷ (2, 7) ∷ (0, 8) ∷ (0, 8) ∷ (0, 8) ∷ (NONE, NONE) ∷ []
+  pub three-changed : rowsChanged (roads 7) twoAt0 threeAt0 4 ≡ 4
+  pub three-removed : rowsChanged (roads 7) threeAt0 twoAt0 4 ≡ 4
+  -- fifteen lockers at 4: fourteen companions; from 2, all fifteen are nearer than 3
+  pub fifteen-k14 : listed (roads 7) fifteenAt4 3 14 ≡ []
+  pub fifteen-k15 : listed (roads 7) fifteenAt4 3 15 ≡ 4 ∷ []
+  pub fifteen-k16 : listed (roads 7) fifteenAt4 3 16 ≡ 2 ∷ 4 ∷ []
+  -- a point on q is listed, whatever its companions (before Ask 6)
+  pub fifteen-own : listed (roads 7) fifteenAt4 4 1 ≡ 2 ∷ 4 ∷ []
+  pub fifteen-nearest : nearest (roads 7) fifteenAt4 3 10 16 ≡ replicate 15 (4, 3)
+  pub fifteen-cut : nearest (roads 7) fifteenAt4 3 10 4 ≡ replicate 4 (4, 3)
+  pub fifteen-row4 : row (roads 7) fifteenAt4 17 4 ≡ replicate 15 (4, 0) ++ (2, 7) ∷ (NONE, NONE) ∷ []
+  pub fifteen-row0 : row (roads 7) fifteenAt4 3 0 ≡ (2, 7) ∷ (4, 8) ∷ (4, 8) ∷ []

@@ -10,5 +10,6 @@ pub mod Distance
 pub mod Points
 pub mod Nearest
 pub mod Rows
+pub mod Single
 pub mod Answers
 pub mod Cases

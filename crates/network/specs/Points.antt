@@ -1,31 +1,34 @@
 -- Document 01, 'What a site receives': the points, who is listed for a site, and how many nodes eager expands.
 -- Assumes nothing.
-use Prim.Native.Nat.{ℕ}
+use Prim.Native.Nat.{ℕ, _-_}
 use mathlib.Core.Bool.{Bool, not, _&&_}
 use mathlib.Core.List.{List}
 use lib.Dec.{eqb, ltb}
 use lib.ListN.{getD}
 use Rattle.network.specs.Network.{Network, nodeCount}
 use Rattle.network.specs.Distance.{NONE, dist}
-use Rattle.network.specs.Count.{count, select}
+use Rattle.network.specs.Count.{count, bit, sumOver, select}
 
--- 'Points (lockers) are a lent byte array of n entries: 1 is a point, 0 none.'
+-- 'A point byte becomes the number of lockers there, 0 to 15' (Ask 8): how many stand at a node, and whether any does
+abbrev pub lockers : List ℕ → ℕ → ℕ
+lockers P p = getD P p 0
+
 abbrev pub marked : List ℕ → ℕ → Bool
-marked P p = eqb (getD P p 0) 1
+marked P p = ltb 0 (lockers P p)
 
--- the points p with d(m, p) < e, and how many they are; 'strictly nearer': an equal distance never counts
+-- the nodes p with a locker and d(m, p) < e, and how many lockers they have: 'Each counts'; 'strictly nearer': an equal distance never counts
 unfoldable pub isNearer : Network → List ℕ → ℕ → ℕ → ℕ → Bool
 isNearer g P m e p = marked P p && ltb (dist g m p) e
 
 unfoldable pub countNearer : Network → List ℕ → ℕ → ℕ → ℕ
-countNearer g P m e = count (isNearer g P m e) (nodeCount g)
+countNearer g P m e = sumOver (isNearer g P m e) (lockers P) (nodeCount g)
 
--- how many 'other points p' have d(p, p') < e. The point p itself doesn't count.'
-unfoldable pub isOtherNearer : Network → List ℕ → ℕ → ℕ → ℕ → Bool
-isOtherNearer g P p e x = not (eqb x p) && isNearer g P p e x
+-- how many other lockers p' have d(p, p') < e: 'a locker has its companions on the node as others at distance 0', and itself 'doesn't count'
+abbrev pub othersAt : List ℕ → ℕ → ℕ → ℕ
+othersAt P p x = lockers P x - bit (eqb x p)
 
 unfoldable pub othersNearer : Network → List ℕ → ℕ → ℕ → ℕ
-othersNearer g P p e = count (isOtherNearer g P p e) (nodeCount g)
+othersNearer g P p e = sumOver (isNearer g P p e) (othersAt P p) (nodeCount g)
 
 -- Verify: 'it can be reached from q and fewer than k other points p' have d(p, p') < d(p, q)'. Roads run both ways, so p can be reached from q
 -- exactly if q can be from p (`dist-symmetric`).
@@ -34,14 +37,15 @@ verified g P p q k =
     let d = dist g p q in
     not (eqb d NONE) && ltb (othersNearer g P p d) k
 
--- 'For query node q and k, point p is listed if' so. 'Lists are ascending by node.'
+-- 'For query node q and k, point p is listed if' so. 'Lists are ascending by node'; 'a node is listed once, as its lockers fare alike'.
 unfoldable pub isListed : Network → List ℕ → ℕ → ℕ → ℕ → Bool
 isListed g P q k p = marked P p && verified g P p q k
 
 unfoldable pub listed : Network → List ℕ → ℕ → ℕ → List ℕ
 listed g P q k = select (isListed g P q k) (nodeCount g)
 
--- Eager's count: 'the number of nodes m that can be reached from q and have fewer than k points p (one on m included) with d(m, p) < d(m, q)'
+-- Eager's count: 'the number of nodes m that can be reached from q and have fewer than k points p (one on m included) with d(m, p) < d(m, q)': it
+-- counts lockers
 unfoldable pub isExpanded : Network → List ℕ → ℕ → ℕ → ℕ → Bool
 isExpanded g P q k m =
     let d = dist g m q in

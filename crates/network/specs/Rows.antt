@@ -10,8 +10,8 @@ use Rattle.network.specs.Distance.{NONE}
 use Rattle.network.specs.Count.{count}
 use Rattle.network.specs.Nearest.{nearest}
 
--- Row i: 'the K nearest points of node i that can be reached, by distance then node [..]; the rest is NONE in both arrays.' A distance is below
--- NONE exactly if there is a walk.
+-- Row i: 'the K nearest points of node i that can be reached, by distance then node [..]; the rest is NONE in both arrays', a node for each of
+-- its lockers, 'still cut after K places'. A distance is below NONE exactly if there is a walk.
 abbrev pub pad : ℕ → List (ℕ × ℕ) → List (ℕ × ℕ)
 pad K xs = xs ++ replicate (K - length xs) (NONE, NONE)
 

@@ -1,7 +1,7 @@
 -- Demand 3, by induction on the list of calls: the marks are the book's, and both arrays are the table of those marks; so every call's number and
 -- changed count are the book's, and the searches that are lent this give one list.
 -- Assumes nothing.
-use Prim.Native.Nat.{ℕ, _*_, _≤_, _<_}
+use Prim.Native.Nat.{ℕ, _+_, _-_, _*_, _≤_, _<_}
 use mathlib.Core.Path.{_≡_, refl, sym, ap, _∙_}
 use mathlib.Core.Bool.{false, not, _||_}
 use mathlib.Core.Logic.{_≢_, _⊎_, ⊎-elim}
@@ -17,6 +17,7 @@ use Rattle.network.specs.Count.{any}
 use Rattle.network.specs.Network.{Network, nodeCount}
 use Rattle.network.specs.Accepted.{Accepted}
 use Rattle.network.specs.Check.{networkNumber}
+use Rattle.network.specs.Points.{lockers}
 use Rattle.network.specs.Rows.{rowsChanged}
 use Rattle.network.proofs.Tests.{or-parts, any-none, none-any}
 use Rattle.network.proofs.NumberZero.{number-zero}
@@ -33,7 +34,7 @@ use Rattle.overlap.specs.Build.{BuildOutcome, buildOutcome}
 use Rattle.overlap.specs.Updated.{kindMarks, kindNumber, changeNumber, Arrays, ChangeLeft}
 use Rattle.overlap.specs.Book.{Call, bookNumber, bookCall, bookAnswers, bookMarks}
 use Rattle.overlap.specs.Demand.{OursAfter, Run, ends, call, foreign, Agree, demand-3}
-use Rattle.overlap.proofs.Ready.{first-is, first-later, first-none, first-zero, number-none, points-ready, node-ready, table-ready}
+use Rattle.overlap.proofs.Ready.{first-is, first-later, first-none, first-zero, number-none, points-ready, node-ready, table-ready, kind-ready}
 use Rattle.overlap.proofs.Outcomes.{eager-done, lazy-done, build-done}
 
 -- a number of 0 is passed over; the first number of several stands for them
@@ -50,13 +51,13 @@ first-first (x ∷ xs) ys =
     ]
 
 -- 6 is not met of marks, nor of marks with one more or one fewer
-bytes : (n : ℕ) (P : List ℕ) → pointsNumber n P ≡ 0 → (i : ℕ) → i < length P → getD P i 0 ≤ 1
+bytes : (n : ℕ) (P : List ℕ) → pointsNumber n P ≡ 0 → (i : ℕ) → i < length P → getD P i 0 ≤ 15
 unfolding pointsNumber badByteAt
 bytes n P e i h =
     let r = or-parts (not (eqb (length P) n)) _ (number-none (not (eqb (length P) n) || any (badByteAt P) (length P)) 6 (omega arith) e) in
-    ltb-false 1 (getD P i 0) (any-none (badByteAt P) (length P) i (r .1) h)
+    ltb-false 15 (getD P i 0) (any-none (badByteAt P) (length P) i (r .1) h)
 
-marks-kept : (n : ℕ) (P : List ℕ) (x v : ℕ) → v ≤ 1 → x < n → pointsNumber n P ≡ 0 → pointsNumber n (set P x v) ≡ 0
+marks-kept : (n : ℕ) (P : List ℕ) (x v : ℕ) → v ≤ 15 → x < n → pointsNumber n P ≡ 0 → pointsNumber n (set P x v) ≡ 0
 unfolding pointsNumber badByteAt
 marks-kept n P x v low h e =
     rw (eq-eqb (length (set P x v)) n (simp length-set (points-ready n P e)), none-any (badByteAt (set P x v)) (length (set P x v)) fine)
@@ -65,13 +66,13 @@ marks-kept n P x v low h e =
     fine i l =
         let m : i < length P = simp length-set at l in
         elim (ℕ-discrete i x) [
-          | yes q ↦ le-ltb 1 (getD (set P x v) i 0) (rw q (omega (arith, getD-set-same P x v 0 (omega (arith, points-ready n P e)))))
-          | no q ↦ le-ltb 1 (getD (set P x v) i 0) (omega (arith, getD-set-other P x i v 0 q, bytes n P e i m))
+          | yes q ↦ le-ltb 15 (getD (set P x v) i 0) (rw q (omega (arith, getD-set-same P x v 0 (omega (arith, points-ready n P e)))))
+          | no q ↦ le-ltb 15 (getD (set P x v) i 0) (omega (arith, getD-set-other P x i v 0 q, bytes n P e i m))
         ]
 
-kind-kept : (kind : Kind) (n : ℕ) (P : List ℕ) (x : ℕ) → x < n → pointsNumber n P ≡ 0 → pointsNumber n (kindMarks kind P x) ≡ 0
-kind-kept Insert n P x h e = marks-kept n P x 1 (omega arith) h e
-kind-kept Remove n P x h e = marks-kept n P x 0 (omega arith) h e
+kind-kept : (kind : Kind) (n : ℕ) (P : List ℕ) (x : ℕ) → x < n → kindNumber kind P x ≡ 0 → pointsNumber n P ≡ 0 → pointsNumber n (kindMarks kind P x) ≡ 0
+kind-kept Insert n P x h m e = marks-kept n P x (lockers P x + 1) (omega (arith, kind-ready Insert P x m)) h e
+kind-kept Remove n P x h m e = marks-kept n P x (lockers P x - 1) (omega (arith, bytes n P e x (omega (arith, points-ready n P e)))) h e
 
 -- between two calls: 6 is not met of the marks, and the arrays are their table
 record Standing (g : Network) (K : ℕ) (P ids distances : List ℕ) : Type 0 where
@@ -156,6 +157,8 @@ module _ (g : Network) (net : networkNumber g ≡ 0) (K : ℕ) where
         | yes z ↦
             let a = first-zero (nodeNumber (nodeCount g) (c .node)) _ z in
             let b = first-zero (tableNumber (nodeCount g) (c .places) (nodeCount g * K) (nodeCount g * K)) _ (a .1) in
+            let m = first-zero (shortNumber (c .scratch) (scratchWords g (c .places))) _ (b .1) in
+            let y = first-zero (kindNumber (c .kind) P (c .node)) [] (m .1) in
             let t = table-ready (nodeCount g) (c .places) (nodeCount g * K) (nodeCount g * K) (b .0) in
             let q = same-places (nodeCount g) K (c .places) (ok .some) (t .2) in
             let x = node-ready (nodeCount g) (c .node) (a .0) in
@@ -163,7 +166,7 @@ module _ (g : Network) (net : networkNumber g ≡ 0) (K : ℕ) where
             let u = rw q at (d .1) in
             record {
               page = book-done g K P c r (new .points) z (d .0) (u .counted (s .table)) (u .marks);
-              standing = rw (u .marks) (record { points = kind-kept (c .kind) (nodeCount g) P (c .node) x (s .points); table = u .table (s .table) });
+              standing = rw (u .marks) (record { points = kind-kept (c .kind) (nodeCount g) P (c .node) x (y .0) (s .points); table = u .table (s .table) });
             }
         | no n ↦
             let d = h .refused (λ z. n (sym e ∙ z)) in

@@ -1,16 +1,16 @@
 -- The examples of document 01's numbers of refusal, by computation.
 -- Assumes nothing.
 use mathlib.Core.Path.{refl}
-use Rattle.network.specs.Count.{any, count, select, tabulate}
+use Rattle.network.specs.Count.{any, count, total, select, tabulate}
 use Rattle.network.specs.Network.{arcsFrom, arcsOf, partOf}
 use Rattle.network.specs.Check.{badSize, fallsAt, badStarts, badNeighbourAt, badPart, badNeighboursOf, badNeighbours, badWeightAt, badWeights, isArcAt, hasArc, lacksReturnAt, lacksReturnOf, lacksReturn, networkNumber}
 use Rattle.network.specs.Distance.{plus, least, within, dist, distancesFrom}
-use Rattle.network.specs.Points.{isNearer, countNearer, isOtherNearer, othersNearer, verified, isListed, listed, isExpanded, expanded, exceedsLimit}
-use Rattle.network.specs.Nearest.{insert, byDistance, nearest}
+use Rattle.network.specs.Points.{isNearer, countNearer, othersNearer, verified, isListed, listed, isExpanded, expanded, exceedsLimit}
+use Rattle.network.specs.Nearest.{insert, insertTimes, byDistance, nearest}
 use Rattle.network.specs.Rows.{row, rowsBelow, tableIds, tableDistances}
 use Rattle.network.specs.Answers.{answered}
 use Rattle.rows.specs.Check.{sameList, isTable}
-use Rattle.overlap.specs.Numbers.{firstNumber, badByteAt, pointsNumber, nodeNumber, kNumber, tableKNumber, tableNumber, shortNumber, markedNumber, unmarkedNumber, queryNumber, tableCheckNumber, buildNumber, tableNodeNumber, networkPointsNumber, siteNumber, tableQueryNumber}
+use Rattle.overlap.specs.Numbers.{firstNumber, badByteAt, pointsNumber, nodeNumber, kNumber, tableKNumber, tableNumber, shortNumber, fullNumber, unmarkedNumber, queryNumber, tableCheckNumber, buildNumber, tableNodeNumber, networkPointsNumber, siteNumber, tableQueryNumber}
 use Rattle.overlap.specs.Distances.{distancesNumber, distancesOutcome}
 use Rattle.overlap.specs.Nearest.{nearestNumber, nearestIds, nearestDistances, nearestOutcome}
 use Rattle.overlap.specs.Verify.{verifyNumber, verifyOutcome}
@@ -22,7 +22,7 @@ use Rattle.overlap.specs.TableCheck.{tableCheckAnswer}
 use Rattle.overlap.specs.Examples.{Examples}
 
 pub examples : Examples
-unfolding any count select tabulate arcsFrom arcsOf partOf badSize fallsAt badStarts badNeighbourAt badPart badNeighboursOf badNeighbours badWeightAt badWeights isArcAt hasArc lacksReturnAt lacksReturnOf lacksReturn networkNumber plus least within dist distancesFrom isNearer countNearer isOtherNearer othersNearer verified isListed listed isExpanded expanded exceedsLimit insert byDistance nearest row rowsBelow tableIds tableDistances answered sameList isTable firstNumber badByteAt pointsNumber nodeNumber kNumber tableKNumber tableNumber shortNumber markedNumber unmarkedNumber queryNumber tableCheckNumber buildNumber tableNodeNumber networkPointsNumber siteNumber tableQueryNumber distancesNumber distancesOutcome nearestNumber nearestIds nearestDistances nearestOutcome verifyNumber verifyOutcome searchNumber eagerOutcome lazyOutcome changeNumber tableCheckAnswer
+unfolding any count total select tabulate arcsFrom arcsOf partOf badSize fallsAt badStarts badNeighbourAt badPart badNeighboursOf badNeighbours badWeightAt badWeights isArcAt hasArc lacksReturnAt lacksReturnOf lacksReturn networkNumber plus least within dist distancesFrom isNearer countNearer othersNearer verified isListed listed isExpanded expanded exceedsLimit insert insertTimes byDistance nearest row rowsBelow tableIds tableDistances answered sameList isTable firstNumber badByteAt pointsNumber nodeNumber kNumber tableKNumber tableNumber shortNumber fullNumber unmarkedNumber queryNumber tableCheckNumber buildNumber tableNodeNumber networkPointsNumber siteNumber tableQueryNumber distancesNumber distancesOutcome nearestNumber nearestIds nearestDistances nearestOutcome verifyNumber verifyOutcome searchNumber eagerOutcome lazyOutcome changeNumber tableCheckAnswer
 examples =
     record {
       no-1 = refl;
@@ -36,6 +36,9 @@ examples =
       no-9 = refl;
       no-10 = refl;
       no-11 = refl;
+      at-15 = refl;
+      at-0 = refl;
+      second = refl;
       no-12 = refl;
       limit-4 = refl;
       short = refl;
@@ -43,9 +46,14 @@ examples =
       from-0 = refl;
       none-nearer = refl;
       by-node = refl;
+      repeats = refl;
+      companion = refl;
+      on-site = refl;
       equal = refl;
       nearer = refl;
       yes = refl;
       another = refl;
       half = refl;
+      missing = refl;
+      copies = refl;
     }

@@ -10,12 +10,12 @@ use native.Mathlib.Decide.{ℕ-discrete}
 use native.Mathlib.Omega.{arith}
 use lib.ListN.{length, replicate, length-replicate}
 use Rattle.network.specs.Network.{Network, nodeCount}
-use Rattle.network.specs.Count.{any, count}
+use Rattle.network.specs.Count.{any, count, total}
 use Rattle.network.specs.Network.{arcsFrom, arcsOf, partOf}
 use Rattle.network.specs.Check.{badSize, fallsAt, badStarts, badNeighbourAt, badPart, badNeighboursOf, badNeighbours, badWeightAt, badWeights, isArcAt, hasArc, lacksReturnAt, lacksReturnOf, lacksReturn, networkNumber}
 use Rattle.network.specs.Distance.{plus, least, within, dist}
 use Rattle.network.specs.Points.{isNearer}
-use Rattle.network.specs.Nearest.{insert, byDistance, nearest}
+use Rattle.network.specs.Nearest.{insert, insertTimes, byDistance, nearest}
 use Rattle.network.specs.Rows.{row, sameRow, tableIds, tableDistances, rowsChanged}
 use Rattle.network.specs.Cases.{roads, points}
 use Rattle.network.proofs.Counts.{count-few}
@@ -23,7 +23,7 @@ use Rattle.rows.proofs.Laid.{table-sized}
 use Rattle.overlap.specs.declared.updated.Kind.{Kind}
 use Rattle.overlap.specs.declared.updated.Kind.the-variants.{Insert, Remove}
 use Rattle.overlap.specs.declared.Update.{Update}
-use Rattle.overlap.specs.Numbers.{firstNumber, badByteAt, pointsNumber, nodeNumber, tableNumber, shortNumber, markedNumber, unmarkedNumber, networkPointsNumber, siteNumber, tableCheckNumber, tableNodeNumber, buildNumber}
+use Rattle.overlap.specs.Numbers.{firstNumber, badByteAt, pointsNumber, nodeNumber, tableNumber, shortNumber, fullNumber, unmarkedNumber, networkPointsNumber, siteNumber, tableCheckNumber, tableNodeNumber, buildNumber}
 use Rattle.overlap.specs.Build.{buildOutcome}
 use Rattle.overlap.specs.Updated.{kindMarks, changeNumber, Arrays, ChangeLeft}
 use Rattle.overlap.specs.Book.{Call, bookNumber, bookCall, bookAnswers, bookMarks}
@@ -105,12 +105,14 @@ runs g P ids distances (c ∷ cs) =
       run = call scratch (l .new) (length-replicate (c .scratch) 0) (l .left) (rest .run);
     }
 
--- N built with K = 2; then node 0 is inserted (P10), node 2 removed, and node 4 inserted, which is refused
+-- N built with K = 2; then node 0 gets a locker (P10), node 2 loses its only one, node 4 gets a second, and node 2 is to lose one more, which is
+-- refused
 abbrev pub calls : List Call
 calls =
     record { kind = Insert; node = 0; places = 2; scratch = 352 }
     ∷ record { kind = Remove; node = 2; places = 2; scratch = 352 }
     ∷ record { kind = Insert; node = 4; places = 2; scratch = 352 }
+    ∷ record { kind = Remove; node = 2; places = 2; scratch = 352 }
     ∷ []
 
 pub built : buildNumber (roads 7) points 2 (replicate 352 0) (replicate 12 0) (replicate 12 0) ≡ 0
@@ -118,12 +120,16 @@ unfolding any arcsFrom arcsOf partOf badSize fallsAt badStarts badNeighbourAt ba
 built = refl
 
 pub answers : bookAnswers (roads 7) 2 points calls
-    ≡ record { number = 0; changed = 4 } ∷ record { number = 0; changed = 4 } ∷ record { number = 11; changed = 0 } ∷ []
-unfolding any count arcsFrom arcsOf partOf plus least within dist isNearer insert byDistance nearest row sameRow rowsChanged bookAnswers bookCall bookNumber firstNumber nodeNumber tableNumber shortNumber markedNumber unmarkedNumber
+    ≡ record { number = 0; changed = 4 }
+    ∷ record { number = 0; changed = 4 }
+    ∷ record { number = 0; changed = 2 }
+    ∷ record { number = 11; changed = 0 }
+    ∷ []
+unfolding any count total arcsFrom arcsOf partOf plus least within dist isNearer insert insertTimes byDistance nearest row sameRow rowsChanged bookAnswers bookCall bookNumber firstNumber nodeNumber tableNumber shortNumber fullNumber unmarkedNumber
 answers = refl
 
-pub marks : bookMarks (roads 7) 2 points calls ≡ 1 ∷ 0 ∷ 0 ∷ 0 ∷ 1 ∷ 1 ∷ []
-unfolding bookMarks bookCall bookNumber firstNumber nodeNumber tableNumber shortNumber markedNumber unmarkedNumber
+pub marks : bookMarks (roads 7) 2 points calls ≡ 1 ∷ 0 ∷ 0 ∷ 0 ∷ 2 ∷ 1 ∷ []
+unfolding bookMarks bookCall bookNumber firstNumber nodeNumber tableNumber shortNumber fullNumber unmarkedNumber
 marks = refl
 
 abbrev pub table : List ℕ × List ℕ
@@ -134,21 +140,21 @@ table =
 pub all : Runs (roads 7) points (table .0) (table .1) calls
 all = runs (roads 7) points (table .0) (table .1) calls
 
--- between build and list, node 2 is to be inserted on P7's network, with our marks and a table of zeros: 11
+-- between build and list, node 0 is to lose a locker on P7's network, with our marks and a table of zeros: 11
 abbrev lent : Arrays
 lent = record { points = points; scratch = replicate 352 0; ids = replicate 12 0; distances = replicate 12 0 }
 
-met : changeNumber Insert (roads 6) points 2 2 (replicate 352 0) (replicate 12 0) (replicate 12 0) ≡ 11
-unfolding any arcsFrom arcsOf partOf badSize fallsAt badStarts badNeighbourAt badPart badNeighboursOf badNeighbours badWeightAt badWeights isArcAt hasArc lacksReturnAt lacksReturnOf lacksReturn networkNumber changeNumber tableNodeNumber siteNumber networkPointsNumber firstNumber badByteAt pointsNumber nodeNumber tableNumber shortNumber markedNumber
+met : changeNumber Remove (roads 6) points 0 2 (replicate 352 0) (replicate 12 0) (replicate 12 0) ≡ 11
+unfolding any arcsFrom arcsOf partOf badSize fallsAt badStarts badNeighbourAt badPart badNeighboursOf badNeighbours badWeightAt badWeights isArcAt hasArc lacksReturnAt lacksReturnOf lacksReturn networkNumber changeNumber tableNodeNumber siteNumber networkPointsNumber firstNumber badByteAt pointsNumber nodeNumber tableNumber shortNumber unmarkedNumber
 met = refl
 
-refused : changeNumber Insert (roads 6) points 2 2 (replicate 352 0) (replicate 12 0) (replicate 12 0) ≢ 0
+refused : changeNumber Remove (roads 6) points 0 2 (replicate 352 0) (replicate 12 0) (replicate 12 0) ≢ 0
 refused z = omega (arith, met)
 
 pub run : Run (roads 7) points (table .0) (table .1) calls (all .answers) (all .marks) (all .last-ids) (all .last-distances)
 run =
-    foreign Insert (roads 6) 2 2 lent lent
-    (record { number = changeNumber Insert (roads 6) points 2 2 (replicate 352 0) (replicate 12 0) (replicate 12 0); changed = 0 })
+    foreign Remove (roads 6) 0 2 lent lent
+    (record { number = changeNumber Remove (roads 6) points 0 2 (replicate 352 0) (replicate 12 0) (replicate 12 0); changed = 0 })
     (record { refused = λ _. (refl, refl); accepted = λ z. absurd (refused z) })
     refused (inl (refl, refl)) (inr refl) (inr refl) (all .run)
 

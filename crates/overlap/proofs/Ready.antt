@@ -14,17 +14,17 @@ use Rattle.network.specs.Count.{any}
 use Rattle.network.specs.Network.{Network, nodeCount}
 use Rattle.network.specs.Accepted.{Accepted}
 use Rattle.network.specs.Check.{networkNumber}
-use Rattle.network.specs.Points.{marked}
+use Rattle.network.specs.Points.{lockers, marked}
 use Rattle.network.proofs.Tests.{or-parts}
 use Rattle.network.proofs.NumberZero.{number-zero}
 use Rattle.overlap.specs.declared.updated.Kind.{Kind}
 use Rattle.overlap.specs.declared.updated.Kind.the-variants.{Insert, Remove}
-use Rattle.overlap.specs.Numbers.{firstNumber, badByteAt, pointsNumber, nodeNumber, tableNumber, kNumber, scratchWords, shortNumber, markedNumber, unmarkedNumber, networkPointsNumber, siteNumber, queryNumber, tableCheckNumber, tableNodeNumber, tableKNumber, tableQueryNumber, buildNumber, QueryReady}
+use Rattle.overlap.specs.Numbers.{firstNumber, badByteAt, pointsNumber, nodeNumber, tableNumber, kNumber, scratchWords, shortNumber, fullNumber, unmarkedNumber, networkPointsNumber, siteNumber, queryNumber, tableCheckNumber, tableNodeNumber, tableKNumber, tableQueryNumber, buildNumber, QueryReady}
 use Rattle.overlap.specs.Distances.{distancesNumber}
 use Rattle.overlap.specs.Nearest.{nearestNumber, NearestReady}
 use Rattle.overlap.specs.Verify.{verifyNumber}
 use Rattle.overlap.specs.Build.{TableReady, BuildReady}
-use Rattle.overlap.specs.Updated.{kindNumber, kindMark, changeNumber, ChangeReady}
+use Rattle.overlap.specs.Updated.{kindNumber, KindReady, changeNumber, ChangeReady}
 use Rattle.overlap.specs.TableQuery.{TableQueryReady}
 use Rattle.overlap.specs.Listed.{searchNumber, SearchReady}
 
@@ -240,11 +240,11 @@ table-node-ready g P node K ids distances e =
     let r = site-ready g P node (a .0) in
     (r .2, sized-ready g P K ids distances (r .0) (r .1) (b .0))
 
--- 11 is not met: the mark is what the kind asks
-mark-ready : (kind : Kind) (P : List ℕ) (node : ℕ) → kindNumber kind P node ≡ 0 → marked P node ≡ kindMark kind
-unfolding markedNumber unmarkedNumber
-mark-ready Insert P node e = number-none (marked P node) 11 (omega arith) e
-mark-ready Remove P node e = by (marked P node) e
+-- 11 is not met: the byte is what the kind asks
+pub kind-ready : (kind : Kind) (P : List ℕ) (node : ℕ) → kindNumber kind P node ≡ 0 → KindReady kind P node
+unfolding fullNumber unmarkedNumber
+kind-ready Insert P node e = leb-false 15 (lockers P node) (number-none (leb 15 (lockers P node)) 11 (omega arith) e)
+kind-ready Remove P node e = by (marked P node) e
   where
     by : (b : Bool) → _≡_ {A = ℕ} (cond b 0 11) 0 → b ≡ true
     by true e = refl
@@ -262,7 +262,7 @@ change-ready kind g P node K scratch ids distances e =
       inside = t .0;
       ready = t .1;
       room = short-ready (length scratch) (scratchWords g K) (b .0);
-      mark = mark-ready kind P node (c .0);
+      byte = kind-ready kind P node (c .0);
     }
 
 pub table-query-ready : (g : Network) (P : List ℕ) (q k K : ℕ) (ids distances scratch answers : List ℕ)

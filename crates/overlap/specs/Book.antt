@@ -16,7 +16,8 @@ pub record Call : Type 0 where
   pub places : ℕ
   pub scratch : ℕ
 
--- 'For each call it tries 7, 8, 10 and 11 in this order, 8 on the call's K with table arrays as long as the build's, 11 on its own marks.'
+-- 'For each call it tries 7, 8, 10 and 11 in this order, 8 on the call's K with table arrays as long as the build's, 11 on its own marks', which
+-- are bytes now: 'Insert adds one, remove takes one, in the plain book of document 01 too' (Ask 8).
 unfoldable pub bookNumber : Network → ℕ → List ℕ → Call → ℕ
 bookNumber g K P c =
     firstNumber
@@ -41,7 +42,7 @@ bookCall g K P c =
       marks = kindMarks (c .kind) P (c .node);
     })
 
--- 'Its state is one mark a node, at first the build's': the answers to a list of calls, and the marks after it
+-- 'Its state is one mark a node, at first the build's', how many lockers stand there: the answers to a list of calls, and the marks after it
 unfoldable pub bookAnswers : Network → ℕ → List ℕ → List Call → List Update
 bookAnswers g K P [] = []
 bookAnswers g K P (c ∷ cs) = bookCall g K P c .answer ∷ bookAnswers g K (bookCall g K P c .marks) cs

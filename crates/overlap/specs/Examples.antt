@@ -13,7 +13,7 @@ use Rattle.network.specs.Cases.{roads, points}
 use Rattle.overlap.specs.declared.listed.Listed.the-variants as is
 use Rattle.overlap.specs.declared.nearest.Found.the-variants as found
 use Rattle.overlap.specs.declared.verify.Rule.the-variants as rule
-use Rattle.overlap.specs.declared.updated.Kind.the-variants.{Insert}
+use Rattle.overlap.specs.declared.updated.Kind.the-variants.{Insert, Remove}
 use Rattle.overlap.specs.Numbers.{buildNumber, tableQueryNumber}
 use Rattle.overlap.specs.Distances.{distancesOutcome}
 use Rattle.overlap.specs.Nearest.{nearestOutcome}
@@ -54,8 +54,8 @@ pub record Examples : Type 0 where
   pub no-4 : networkNumber (network (0 ∷ 1 ∷ 2 ∷ []) (1 ∷ 0 ∷ []) (65536 ∷ 65536 ∷ [])) ≡ 4
   -- 5: '0 to 1 of 4, 1 to 0 of 5'
   pub no-5 : networkNumber (network (0 ∷ 1 ∷ 2 ∷ []) (1 ∷ 0 ∷ []) (4 ∷ 5 ∷ [])) ≡ 5
-  -- 6: 'N, byte 2', of nearest: 'changes no buffer'
-  pub no-6 : nearestOutcome N (0 ∷ 0 ∷ 2 ∷ 0 ∷ 1 ∷ 1 ∷ []) 0 NONE 2 scratch old old
+  -- 6: 'N, byte 16' (Ask 8), of nearest: 'changes no buffer'
+  pub no-6 : nearestOutcome N (0 ∷ 0 ∷ 16 ∷ 0 ∷ 1 ∷ 1 ∷ []) 0 NONE 2 scratch old old
       ≡ record { answer = found.Refused 6; scratch = scratch; ids = old; distances = old }
   -- 7: 'N, node 6', of distances
   pub no-7 : distancesOutcome N 6 scratch old ≡ record { number = 7; scratch = scratch; answers = old }
@@ -65,8 +65,11 @@ pub record Examples : Type 0 where
   pub no-9 : tableQueryNumber N points 0 2 2 ids distances scratch old ≡ 9
   -- 10: 'N, 5 answer places', of lazy
   pub no-10 : lazyOutcome N points 0 2 scratch (replicate 5 9) ≡ record { answer = is.Refused 10; scratch = scratch; answers = replicate 5 9 }
-  -- 11: 'N, insert 2'
-  pub no-11 : changeNumber Insert N points 2 2 scratch ids distances ≡ 11
+  -- 11: 'N, remove 0' (Ask 8); 'insert at 15' too, and verify at 0; a second locker at node 2 is none
+  pub no-11 : changeNumber Remove N points 0 2 scratch ids distances ≡ 11
+  pub at-15 : changeNumber Insert N (0 ∷ 0 ∷ 15 ∷ 0 ∷ 1 ∷ 1 ∷ []) 2 2 scratch ids distances ≡ 11
+  pub at-0 : verifyOutcome N points 0 2 1 scratch ≡ record { answer = rule.Refused 11; scratch = scratch }
+  pub second : changeNumber Insert N points 2 2 scratch ids distances ≡ 0
   -- 12: 'N, q = 0, k = 2, limit 3': '12 alone leaves the scratch all zero'
   pub no-12 : eagerOutcome N points 0 2 3 scratch old ≡ record { answer = is.Refused 12; scratch = replicate 352 0; answers = old }
   -- 'Limit 4 answers P2'; 'Answer arrays hold the answer, then their old entries.'
@@ -84,6 +87,12 @@ pub record Examples : Type 0 where
       ≡ record { answer = found.Points 0; scratch = replicate 352 0; ids = old; distances = old }
   pub by-node : nearestOutcome star (0 ∷ 1 ∷ 1 ∷ []) 0 NONE 1 (replicate 104 9) (9 ∷ 9 ∷ []) (9 ∷ [])
       ≡ record { answer = found.Points 1; scratch = replicate 104 0; ids = 1 ∷ 9 ∷ []; distances = 5 ∷ [] }
+  -- Ask 8: 'Rows and the nearest call repeat a node for each locker'; 'a locker has its companions on the node as others at distance 0', but an equal
+  -- distance is not nearer
+  pub repeats : nearestOutcome N (0 ∷ 0 ∷ 2 ∷ 0 ∷ 1 ∷ 1 ∷ []) 0 NONE 2 scratch old old
+      ≡ record { answer = found.Points 2; scratch = replicate 352 0; ids = 2 ∷ 2 ∷ 9 ∷ 9 ∷ 9 ∷ 9 ∷ []; distances = 7 ∷ 7 ∷ 9 ∷ 9 ∷ 9 ∷ 9 ∷ [] }
+  pub companion : verifyOutcome N (0 ∷ 0 ∷ 2 ∷ 0 ∷ 1 ∷ 1 ∷ []) 2 0 1 scratch ≡ record { answer = rule.Answer false; scratch = replicate 352 0 }
+  pub on-site : verifyOutcome N (0 ∷ 0 ∷ 2 ∷ 0 ∷ 1 ∷ 1 ∷ []) 2 2 1 scratch ≡ record { answer = rule.Answer true; scratch = replicate 352 0 }
   -- Verify, of P1: 4 is no nearer to 2 than site 0; of P7's road it is
   pub equal : verifyOutcome N points 2 0 1 scratch ≡ record { answer = rule.Answer true; scratch = replicate 352 0 }
   pub nearer : verifyOutcome (roads 6) points 2 0 1 scratch ≡ record { answer = rule.Answer false; scratch = replicate 352 0 }
@@ -91,3 +100,6 @@ pub record Examples : Type 0 where
   pub yes : tableCheckAnswer N points 2 ids distances ≡ rule.Answer true
   pub another : tableCheckAnswer N points 2 ids (7 ∷ 8 ∷ 3 ∷ 10 ∷ 0 ∷ 7 ∷ 3 ∷ 9 ∷ 0 ∷ 7 ∷ 0 ∷ NONE ∷ []) ≡ rule.Answer false
   pub half : tableCheckAnswer N points 2 ids (7 ∷ 8 ∷ 3 ∷ 10 ∷ 0 ∷ 7 ∷ 3 ∷ 10 ∷ 0 ∷ 7 ∷ 0 ∷ 0 ∷ []) ≡ rule.Answer false
+  -- Ask 8: with a second locker at 2 it is another table; 'repeat a node for each locker', 'cut after K places'
+  pub missing : tableCheckAnswer N (0 ∷ 0 ∷ 2 ∷ 0 ∷ 1 ∷ 1 ∷ []) 2 ids distances ≡ rule.Answer false
+  pub copies : tableCheckAnswer N (0 ∷ 0 ∷ 2 ∷ 0 ∷ 1 ∷ 1 ∷ []) 2 (2 ∷ 2 ∷ 2 ∷ 2 ∷ 2 ∷ 2 ∷ 4 ∷ 2 ∷ 4 ∷ 2 ∷ 5 ∷ NONE ∷ []) (7 ∷ 7 ∷ 3 ∷ 3 ∷ 0 ∷ 0 ∷ 3 ∷ 10 ∷ 0 ∷ 7 ∷ 0 ∷ NONE ∷ []) ≡ rule.Answer true

@@ -11,7 +11,7 @@ use Rattle.network.specs.Count.{any}
 use Rattle.network.specs.Network.{Network, nodeCount, arcCount}
 use Rattle.network.specs.Accepted.{Accepted}
 use Rattle.network.specs.Check.{networkNumber}
-use Rattle.network.specs.Points.{marked}
+use Rattle.network.specs.Points.{lockers, marked}
 
 -- 'Conditions are tried from 1 upward, those whose subject the call has; the first met is returned'
 unfoldable pub firstNumber : List ℕ → ℕ
@@ -22,9 +22,9 @@ firstNumber (x ∷ xs) = cond (eqb x 0) (firstNumber xs) x
 abbrev pub byNumber : {A : Type 0} → ℕ → A → A → A
 byNumber number refused accepted = cond (eqb number 0) accepted refused
 
--- 6: 'points has not n entries, or a byte above 1'
+-- 6: 'points has not n entries, or a byte above' 15, as '6 allows bytes up to 15' (Ask 8)
 unfoldable pub badByteAt : List ℕ → ℕ → Bool
-badByteAt P i = ltb 1 (getD P i 0)
+badByteAt P i = ltb 15 (getD P i 0)
 
 unfoldable pub pointsNumber : ℕ → List ℕ → ℕ
 pointsNumber n P = cond (not (eqb (length P) n) || any (badByteAt P) (length P)) 6 0
@@ -53,9 +53,9 @@ scratchWords g m = 16 * nodeCount g + 8 * (arcCount g + nodeCount g) * m
 unfoldable pub shortNumber : ℕ → ℕ → ℕ
 shortNumber have need = cond (ltb have need) 10 0
 
--- 11: 'insert on a marked node; remove or verify of an unmarked one'
-unfoldable pub markedNumber : List ℕ → ℕ → ℕ
-markedNumber P p = cond (marked P p) 11 0
+-- 11: 'insert at 15, remove or verify at 0' (Ask 8). Bytes above 15 are 6's.
+unfoldable pub fullNumber : List ℕ → ℕ → ℕ
+fullNumber P p = cond (leb 15 (lockers P p)) 11 0
 
 unfoldable pub unmarkedNumber : List ℕ → ℕ → ℕ
 unmarkedNumber P p = cond (marked P p) 0 11

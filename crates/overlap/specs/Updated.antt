@@ -1,39 +1,40 @@
--- The calls that change the table, insert and remove: 1 to 5, 6, 7, 8, 10, 11; m is K. Document 01, 'The table': 'Insert marks a node, remove clears
--- one; each brings the table up to date and returns the number of rows whose contents differ before and after.'
+-- The calls that change the table, insert and remove: 1 to 5, 6, 7, 8, 10, 11; m is K. Document 01, 'The table', with Ask 8: 'Insert adds one, remove
+-- takes one'; 'each brings the table up to date and returns the number of rows whose contents differ before and after.'
 -- Assumes nothing.
 use Prim.Native.Nat.{ℕ, _≤_, _<_}
 use mathlib.Core.Path.{_≡_}
 use mathlib.Core.Logic.{_≢_}
-use mathlib.Core.Bool.{Bool, true, false}
+use mathlib.Core.Bool.{true}
 use mathlib.Core.List.{List, [], _∷_}
-use lib.ListN.{length, set, replicate}
+use lib.ListN.{length, replicate}
 use Rattle.network.specs.Network.{Network, nodeCount}
-use Rattle.network.specs.Points.{marked}
+use Rattle.network.specs.Points.{lockers, marked}
 use Rattle.network.specs.Rows.{rowsChanged}
 use Rattle.rows.specs.Flat.{Sized, IsTable}
 use Rattle.table.specs.Insert.{CanInsert}
 use Rattle.table.specs.Remove.{CanRemove}
+use Rattle.table.specs.Updated.{moreAt, fewerAt}
 use Rattle.overlap.specs.declared.updated.Kind.{Kind}
 use Rattle.overlap.specs.declared.updated.Kind.the-variants.{Insert, Remove}
 use Rattle.overlap.specs.declared.updated.Updated as call
 use Rattle.overlap.specs.declared.updated.Updated.the-variants as is
 use Rattle.overlap.specs.declared.Update.{Update}
-use Rattle.overlap.specs.Numbers.{firstNumber, tableNodeNumber, shortNumber, markedNumber, unmarkedNumber, scratchWords}
+use Rattle.overlap.specs.Numbers.{firstNumber, tableNodeNumber, shortNumber, fullNumber, unmarkedNumber, scratchWords}
 use Rattle.overlap.specs.Build.{TableReady}
 
--- 'insert marks the node, remove clears it'
+-- 'Insert adds one, remove takes one' (Ask 8): the bytes after
 abbrev pub kindMarks : Kind → List ℕ → ℕ → List ℕ
-kindMarks Insert P node = set P node 1
-kindMarks Remove P node = set P node 0
+kindMarks Insert P node = moreAt P node
+kindMarks Remove P node = fewerAt P node
 
--- 11: 'insert on a marked node; remove [..] of an unmarked one': what the mark is where 11 is not met
+-- 11: 'insert at 15, remove [..] at 0': what the byte is where 11 is not met
 abbrev pub kindNumber : Kind → List ℕ → ℕ → ℕ
-kindNumber Insert P node = markedNumber P node
+kindNumber Insert P node = fullNumber P node
 kindNumber Remove P node = unmarkedNumber P node
 
-abbrev pub kindMark : Kind → Bool
-kindMark Insert = false
-kindMark Remove = true
+abbrev pub KindReady : Kind → List ℕ → ℕ → Type 0
+KindReady Insert P node = lockers P node < 15
+KindReady Remove P node = marked P node ≡ true
 
 unfoldable pub changeNumber : Kind → Network → List ℕ → ℕ → ℕ → List ℕ → List ℕ → List ℕ → ℕ
 changeNumber kind g P node K scratch ids distances =
@@ -80,7 +81,7 @@ pub record ChangeReady (kind : Kind) (g : Network) (P : List ℕ) (node K : ℕ)
   pub inside : node < nodeCount g
   pub ready : TableReady g P K ids distances
   pub room : scratchWords g K ≤ length scratch
-  pub mark : marked P node ≡ kindMark kind
+  pub byte : KindReady kind P node
 
 -- what the work asks of the words that it is lent
 abbrev pub CanChange : Kind → Network → List ℕ → List ℕ → List ℕ → List ℕ → ℕ → ℕ → Type 0

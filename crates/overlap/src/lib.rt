@@ -84,9 +84,9 @@ pub extern "C" fn overlap_distances(
 }
 
 // Nearest. Lent: the network, the points, scratch of S entries with m = k, and two arrays for k answers each. Returned: number 0 and how many
-// points were found, or 1 to 5, 6, 7, 9, 10. Accepted: the ids and the distances of the points p with d(node, p) < e, by distance then node, cut
-// after the first k, then the old entries, and the whole scratch is zero. Refused: nothing is written. Document 01: 'Nearest: the points p with
-// d(node, p) < e, e any 32-bit number, by distance then node, cut after the first k; ids and distances in two arrays.'
+// points were found, or 1 to 5, 6, 7, 9, 10. Accepted: the ids and the distances of the points p with d(node, p) < e, by distance then node, a node
+// for each of its lockers, cut after the first k, then the old entries, and the whole scratch is zero. Refused: nothing is written. Document 01:
+// 'Nearest: the points p with d(node, p) < e, e any 32-bit number, by distance then node, cut after the first k; ids and distances in two arrays.'
 #[no_mangle]
 pub extern "C" fn overlap_nearest(
     starts: &[u32],
@@ -331,10 +331,10 @@ fn update_of(answer: Updated) -> Update
 }
 
 // Insert. Lent: the network, the points, scratch of S entries with m = K, and both table arrays. Returned: number 0 and how many rows changed, or 1
-// to 5, 6, 7, 8, 10, 11. Accepted: the node is marked, the table of the points before becomes the table of the points after, and the whole scratch is
-// zero; of a table that the check would deny nothing is said but its length and that the count is at most n. Refused: nothing is written. Document
-// 01: 'Insert marks a node, remove clears one; each brings the table up to date and returns the number of rows whose contents differ before and
-// after.'
+// to 5, 6, 7, 8, 10, 11. Accepted: the node has one locker more, the table of the points before becomes the table of the points after, and the
+// whole scratch is zero; of a table that the check would deny nothing is said but its length and that the count is at most n. Refused: nothing is
+// written. Document 01 with Ask 8: 'Insert adds one, remove takes one'; 'each brings the table up to date and returns the number of rows whose
+// contents differ before and after.'
 #[no_mangle]
 pub extern "C" fn overlap_insert(
     starts: &[u32],
@@ -363,7 +363,7 @@ pub extern "C" fn overlap_insert(
     ))
 }
 
-// Remove. Lent, returned and left: as insert, but the node's mark is cleared.
+// Remove. Lent, returned and left: as insert, but the node has one locker less.
 #[no_mangle]
 pub extern "C" fn overlap_remove(
     starts: &[u32],

@@ -5,7 +5,7 @@ ghost use Prim.Native.Nat.{_+_, _*_, _≤_, _<_};
 ghost use lib.ListN.{length};
 ghost use Rattle.network.specs.Count.{any};
 ghost use Rattle.network.specs.Network.{network};
-ghost use Rattle.overlap.specs.Numbers.{badByteAt, pointsNumber, nodeNumber, tableNumber, kNumber, tableKNumber, shortNumber, markedNumber, unmarkedNumber, networkPointsNumber, siteNumber, queryNumber, tableCheckNumber, tableNodeNumber, buildNumber, tableQueryNumber};
+ghost use Rattle.overlap.specs.Numbers.{badByteAt, pointsNumber, nodeNumber, tableNumber, kNumber, tableKNumber, shortNumber, fullNumber, unmarkedNumber, networkPointsNumber, siteNumber, queryNumber, tableCheckNumber, tableNodeNumber, buildNumber, tableQueryNumber};
 ghost use Rattle.overlap.specs.Distances.{distancesNumber};
 ghost use Rattle.overlap.specs.Nearest.{nearestNumber};
 ghost use Rattle.overlap.specs.Verify.{verifyNumber};
@@ -13,15 +13,16 @@ ghost use Rattle.overlap.specs.Listed.{searchNumber};
 ghost use Rattle.overlap.specs.Updated.{changeNumber};
 use crate::updated::Kind;
 use network::arcs::wide;
+use network::points::lockers_at;
 
-// Of 6: a byte above 1.
+// Of 6: a byte above 15.
 fn bad_byte(points: &[u8]) -> bool
     ensures { λ r. ⌜ r ≡ any (badByteAt (now (points .entry))) (length (now (points .entry))) ⌝ }
 {
     let mut i = 0;
     while i < points.len() {
-        let mark = points[i];
-        if 1 < mark {
+        let lockers = points[i];
+        if 15 < lockers {
             return true;
         }
         i += 1;
@@ -29,7 +30,7 @@ fn bad_byte(points: &[u8]) -> bool
     false
 }
 
-// 6: points has not n entries, or a byte above 1.
+// 6: points has not n entries, or a byte above 15.
 fn points_number(n: usize, points: &[u8]) -> u32
     ensures { λ r. ⌜ r ≡ pointsNumber n (now (points .entry)) ⌝ }
 {
@@ -125,25 +126,21 @@ fn scratch_number(n: usize, arcs: usize, m: u32, have: usize) -> u32
     short_number(have, scratch_words(n, arcs, m))
 }
 
-// 11: insert on a marked node.
-fn marked_number(points: &[u8], p: u32) -> u32
-    requires { ⌜ p < length (now points) ⌝ }
-    ensures { λ r. ⌜ r ≡ markedNumber (now (points .entry)) p ⌝ }
+// 11: insert at 15 lockers.
+fn full_number(points: &[u8], p: u32) -> u32
+    ensures { λ r. ⌜ r ≡ fullNumber (now (points .entry)) p ⌝ }
 {
-    let mark = points[wide(p)];
-    if mark == 1 {
+    if 15 <= lockers_at(points, p) {
         return 11;
     }
     0
 }
 
-// 11: remove or verify of an unmarked node.
+// 11: remove or verify at no locker.
 fn unmarked_number(points: &[u8], p: u32) -> u32
-    requires { ⌜ p < length (now points) ⌝ }
     ensures { λ r. ⌜ r ≡ unmarkedNumber (now (points .entry)) p ⌝ }
 {
-    let mark = points[wide(p)];
-    if mark == 1 {
+    if 0 < lockers_at(points, p) {
         return 0;
     }
     11
@@ -391,7 +388,7 @@ pub fn change_number(
         return number;
     }
     match kind {
-        Kind::Insert => marked_number(points, node),
+        Kind::Insert => full_number(points, node),
         Kind::Remove => unmarked_number(points, node),
     }
 }

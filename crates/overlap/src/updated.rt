@@ -1,6 +1,5 @@
-// The insert and the remove call: their work once no condition is met. Document 01, 'The table': 'Insert marks a node, remove clears one; each brings
-// the table up to date and returns the number of rows whose contents differ before and after.'
-ghost use mathlib.Core.Path.{_≡_};
+// The insert and the remove call: their work once no condition is met. Document 01, 'The table', with Ask 8: 'Insert adds one, remove takes one';
+// 'each brings the table up to date and returns the number of rows whose contents differ before and after.'
 ghost use Rattle.network.specs.Network.{network};
 ghost use Rattle.table.specs.Updated as table;
 ghost use Rattle.overlap.specs.Updated.{kindMarks, ChangeLeft, updatedUpdate, ChangeReady, CanChange};

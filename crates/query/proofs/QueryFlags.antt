@@ -8,9 +8,9 @@ use mathlib.Core.Logic.{_≢_, ⊎-elim}
 use mathlib.Core.List.{List}
 use native.Mathlib.Decide.{ℕ-discrete, decLt}
 use native.Mathlib.Omega.{arith}
-use lib.ListN.{length, getD, set, length-set}
+use lib.ListN.{length, getD, set, length-set, List·getD-eq-default}
 use lib.Seq.{getD-set-same, getD-set-other}
-use borrow.Author.Tests.{eqb-true, eq-eqb}
+use borrow.Author.Tests.{ltb-true, lt-ltb}
 use borrow.Rule.Slice.PartMut.{midOf, mid-len}
 use Rattle.network.specs.Network.{Network, nodeCount}
 use Rattle.network.specs.Accepted.{Accepted}
@@ -56,15 +56,15 @@ module _ {g : Network} {P dists : List ℕ} {q k K : ℕ} {xs : List ℕ} (c : C
       }
 
   -- it is no point
-  pub verified-none : (p sum : ℕ) → getD P p 0 ≢ 1 → Verified g P dists q k K xs xs p sum
+  pub verified-none : (p sum : ℕ) → getD P p 0 ≡ 0 → Verified g P dists q k K xs xs p sum
   verified-none p sum n =
       record {
         grown = grown-none;
-        right = λ e u f. record { flags = f; told = λ a. absurd (n (eqb-true (getD P p 0) 1 (listed-parts g P q k p .0 a .mark))) };
+        right = λ e u f. record { flags = f; told = λ a. absurd (omega (arith, n, ltb-true 0 (getD P p 0) (listed-parts g P q k p .0 a .mark))) };
       }
 
   pub verified-beyond : (p sum : ℕ) → nodeCount g ≤ p → Verified g P dists q k K xs xs p sum
-  verified-beyond p sum h = verified-none p sum (λ m. omega (arith, marked-inside P p (eq-eqb (getD P p 0) 1 m), c .asked .points))
+  verified-beyond p sum h = verified-none p sum (List·getD-eq-default P 0 {n = p} (omega (arith, h, c .asked .points)))
 
   module _ (p sum : ℕ) (inside : p < nodeCount g) where
     -- it was verified before
@@ -100,9 +100,9 @@ module _ {g : Network} {P dists : List ℕ} {q k K : ℕ} {xs : List ℕ} (c : C
         let s : p * K + 1 + (k - 1) ≡ p * K + k = omega (arith, c .asked .some) in
         mid-at (p * K + 1) ((p * K + K) - (p * K + 1)) dists (k - 1) (omega (arith, c .asked .some, c .asked .few)) ∙ ap (λ (j : ℕ). getD dists j 0) s
 
-    module _ (mark : getD P p 0 ≡ 1) where
+    module _ (mark : 0 < getD P p 0) where
       marked-p : marked P p ≡ true
-      marked-p = eq-eqb (getD P p 0) 1 mark
+      marked-p = lt-ltb 0 (getD P p 0) mark
 
       -- only p's flags change
       module _ {ws : List ℕ} (size : length ws ≡ length xs) (other : (i : ℕ) → i ≢ p → i ≢ nodeCount g + p → getD ws i 0 ≡ getD xs i 0)

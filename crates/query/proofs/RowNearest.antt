@@ -1,85 +1,81 @@
 -- What a row of the table says. Its first places that are nearer than e, cut after k, are the k nearest within e; each is the end of a way from the
 -- site, through the row's node. And the place of a point's k-th other point tells that the point lists a site which is no farther.
 -- Assumes nothing.
-use Prim.Native.Nat.{ℕ, suc, _+_, _*_, _≤_, _<_}
+use Prim.Native.Nat.{ℕ, suc, _+_, _*_, _≤_, _<_, min}
 use mathlib.Core.Path.{_≡_, refl, sym, ap, _∙_}
-use mathlib.Core.Bool.{Bool, true, not}
-use mathlib.Core.List.{List, List·Memᴰ, Memᴰ·cast}
-use mathlib.Core.Logic.{⊎-elim}
+use mathlib.Core.Bool.{true}
+use mathlib.Core.List.{List, List·Memᴰ}
 use native.Mathlib.Decide.{decLt, ℕ-discrete}
 use native.Mathlib.Omega.{arith}
-use native.Mathlib.Nat.{eq-or-lt-of-le}
-use lib.Dec.{eqb}
 use lib.ListN.{length, getD, take}
 use lib.Seq.{getD-take, length-take-le}
-use borrow.Author.Tests.{ltb-true, eqb-false, not-true}
 use Rattle.network.specs.Network.{Network, nodeCount}
 use Rattle.network.specs.Accepted.{Accepted}
 use Rattle.network.specs.Walk.{Walk}
 use Rattle.network.specs.Distance.{NONE, dist, Upto}
-use Rattle.network.specs.Count.{count}
-use Rattle.network.specs.Points.{marked, isNearer, countNearer, isOtherNearer, othersNearer, verified}
-use Rattle.network.specs.Nearest.{key, byDistance, nearest, Rising, isBefore, before, Nearer}
+use Rattle.network.specs.Points.{marked, countNearer, othersNearer, verified}
+use Rattle.network.specs.Nearest.{key, byDistance, nearest, Ordered, before, Nearer}
 use Rattle.network.specs.Rows.{tableIds, tableDistances}
-use Rattle.network.proofs.Tests.{and-parts}
-use Rattle.network.proofs.Counts.{count-mono, count-none, without, without-other, count-without, member-at}
+use Rattle.network.proofs.Counts.{member-at}
 use Rattle.network.proofs.Distances.{dist-at-most, dist-walk, dist-self, dist-symmetric, dist-triangle}
-use Rattle.network.proofs.Rising.{AllIn, same-members, take-all-in, take-rising, rising-at}
-use Rattle.network.proofs.Rank.{Near, nearer-passes, passes-nearer, before-passes, before-mono}
-use Rattle.network.proofs.Rows.{nearest-rising, nearest-length, listed-near, entry-listed}
+use Rattle.network.proofs.Ordered.{AllIn, below, below-most, same-below, take-all-in, take-ordered, take-few}
+use Rattle.network.proofs.Rank.{before-mono, before-up, count-before, others-less}
+use Rattle.network.proofs.Rows.{nearest-ordered, nearest-small, nearest-below, nearest-length, listed-near}
+use Rattle.expansion.proofs.FoundLaws.{at-above, at-below}
+use Rattle.expansion.proofs.VisitLaws.{nearer-mono, nearer-none}
 use Rattle.searches.proofs.Listed.{verified-parts}
 use Rattle.searches.proofs.LookLaws.{place-of}
 use Rattle.rows.specs.Flat.{place, IsTable}
 use Rattle.rows.proofs.Laid.{table-entry, table-padding}
 
--- keys rise by place
-rising-to : (xs : List (ℕ × ℕ)) (i j : ℕ) → Rising xs → i ≤ j → j < length xs → key (getD xs i (0, 0)) ≤ key (getD xs j (0, 0))
-rising-to xs i j r h l =
-    ⊎-elim
-    (λ (e : i ≡ j). omega (arith, ap (λ (x : ℕ). key (getD xs x (0, 0))) e))
-    (λ m. omega (arith, rising-at (0, 0) xs r i j m l))
-    (eq-or-lt-of-le h)
+-- Within l: a key below l × 2^32 is one of a distance below l.
+module _ {g : Network} (ok : Accepted g) (P : List ℕ) (v l : ℕ) (most : l ≤ NONE) where
+  before-within : (m : ℕ) → before g P v l m ≡ before g P v NONE (min m (l * 4294967296))
+  before-within m = omega (arith, into, back)
+    where
+      into : before g P v l m ≤ before g P v NONE (min m (l * 4294967296))
+      into =
+          before-mono g P v v l NONE m (min m (l * 4294967296))
+          (λ x b.
+          record {
+            nearer = record { inside = b .nearer .inside; point = b .nearer .point; less = omega (arith, b .nearer .less) };
+            first = omega (arith, b .first, b .nearer .less, b .nearer .inside, ok .few);
+          })
 
--- what is among the k nearest within l is among the k nearest; and the other way, where it is within l
-module _ {g : Network} (P : List ℕ) (v l k p : ℕ) (most : l ≤ NONE) where
-  near-far : Accepted g → Near g P v l k p → Near g P v NONE k p
-  near-far ok n =
-      record {
-        nearer = record { inside = n .nearer .inside; point = n .nearer .point; less = omega (arith, n .nearer .less) };
-        few =
-            omega (
-              arith,
-              n .few,
-              before-mono g P P v v NONE l (key (p, dist g v p)) (key (p, dist g v p))
-                  (λ x b.
-                  record {
-                    nearer =
-                        record {
-                          inside = b .nearer .inside;
-                          point = b .nearer .point;
-                          less = omega (arith, b .first, n .nearer .less, n .nearer .inside, ok .few);
-                        };
-                    first = b .first;
-                  }),
-            );
-      }
+      back : before g P v NONE (min m (l * 4294967296)) ≤ before g P v l m
+      back =
+          before-mono g P v v NONE l (min m (l * 4294967296)) m
+          (λ x b.
+          record {
+            nearer = record { inside = b .nearer .inside; point = b .nearer .point; less = omega (arith, b .first) };
+            first = omega (arith, b .first);
+          })
 
-  near-close : dist g v p < l → Near g P v NONE k p → Near g P v l k p
-  near-close h n =
-      record {
-        nearer = record { inside = n .nearer .inside; point = n .nearer .point; less = h };
-        few =
-            omega (
-              arith,
-              n .few,
-              before-mono g P P v v l NONE (key (p, dist g v p)) (key (p, dist g v p))
-                  (λ x b.
-                  record {
-                    nearer = record { inside = b .nearer .inside; point = b .nearer .point; less = omega (arith, b .nearer .less) };
-                    first = b .first;
-                  }),
-            );
-      }
+  -- what is nearer than l comes before a key that is no nearer
+  nearer-before : (m : ℕ) → l * 4294967296 ≤ m → countNearer g P v l ≤ before g P v NONE m
+  nearer-before m h =
+      omega (
+        arith,
+        before-within m,
+        before-up g P v NONE (min m (l * 4294967296)) m (omega arith),
+        all-nearer,
+      )
+    where
+      all-nearer : countNearer g P v l ≤ before g P v l m
+      all-nearer = count-before g P v l m (λ x r. omega (arith, r .less, r .inside, ok .few))
+
+-- the first places that are below a key are as many as come before it
+below-cut : (m : ℕ) (xs : List (ℕ × ℕ)) → Ordered xs → (r : ℕ) → r ≤ length xs → ((i : ℕ) → i < r → key (getD xs i (0, 0)) < m)
+    → (r < length xs → m ≤ key (getD xs r (0, 0))) → below m xs ≡ r
+below-cut m xs o r h less stop =
+    elim (decLt (below m xs) r) [
+      | yes a ↦ absurd (omega (arith, less (below m xs) a, at-below m xs o (below m xs) (omega arith) (omega arith)))
+      | no a ↦
+          elim (decLt r (below m xs)) [
+            | yes b ↦ absurd (omega (arith, at-above m xs o r b, stop (omega (arith, b, below-most m xs))))
+            | no b ↦ omega arith
+          ]
+    ]
 
 -- place i of a row holds p
 pub record StandsAt (ids : List ℕ) (at r p : ℕ) : Type 0 where
@@ -132,51 +128,51 @@ module _ {g : Network} (ok : Accepted g) {P : List ℕ} {K : ℕ} {ids dists : L
     taken : (i : ℕ) → i < r → getD (take r (nearest g P v NONE k)) i (0, 0) ≡ getD (nearest g P v NONE k) i (0, 0)
     taken i a = getD-take r (nearest g P v NONE k) i (0, 0) a
 
-    inner : AllIn (take r (nearest g P v NONE k)) (nearest g P v l k)
-    inner z m =
-        let i = place-of (take r (nearest g P v NONE k)) z m in
-        let a : i .0 < r = omega (arith, i .1 .low, length-take-le r (nearest g P v NONE k) fits) in
-        let e : getD (nearest g P v NONE k) (i .0) (0, 0) ≡ z = sym (taken (i .0) a) ∙ i .1 .is in
-        let n = listed-near ok P v NONE k (z .0) (z .1) (take-all-in r (nearest g P v NONE k) z m) in
-        let d = distance-at (i .0) (omega arith) (omega (arith, fits)) in
-        entry-listed ok P v l k (z .0) (z .1)
-        (record {
-          near = near-close P v l k (z .0) most (omega (arith, n .far, less (i .0) a, d, ap (λ (x : ℕ × ℕ). x .1) e)) (n .near);
-          far = n .far;
-        })
-
-    outer : AllIn (nearest g P v l k) (take r (nearest g P v NONE k))
-    outer z m =
-        let n = listed-near ok P v l k (z .0) (z .1) m in
-        let i =
-        place-of (nearest g P v NONE k) z
-        (entry-listed ok P v NONE k (z .0) (z .1) (record { near = near-far P v l k (z .0) most ok (n .near); far = n .far }))
-        in
-        let a : i .0 < r =
-        elim (decLt (i .0) r) [
-          | yes y ↦ y
-          | no y ↦
-              absurd
-              (omega (
-                arith,
-                stop (omega (arith, i .1 .low, nearest-length g P v NONE k)),
-                distance-at r (omega (arith, i .1 .low, nearest-length g P v NONE k)) (omega (arith, i .1 .low)),
-                rising-to (nearest g P v NONE k) r (i .0) (nearest-rising ok P v NONE k) (omega arith) (i .1 .low),
-                ap key (i .1 .is),
-                n .far,
-                n .near .nearer .less,
-                n .near .nearer .inside,
-                ok .few,
-              ))
-        ]
-        in
-        Memᴰ·cast (sym (taken (i .0) a ∙ i .1 .is))
-        (member-at (0, 0) (take r (nearest g P v NONE k)) (i .0) (omega (arith, length-take-le r (nearest g P v NONE k) fits)))
+    cut-at : below (l * 4294967296) (nearest g P v NONE k) ≡ r
+    cut-at =
+        below-cut (l * 4294967296) (nearest g P v NONE k) (nearest-ordered ok P v NONE k) r fits
+        (λ i a.
+        let z = getD (nearest g P v NONE k) i (0, 0) in
+        omega (
+          arith,
+          less i a,
+          distance-at i (omega arith) (omega (arith, fits)),
+          nearest-small ok P v NONE k z (member-at (0, 0) (nearest g P v NONE k) i (omega (arith, fits))),
+        ))
+        (λ a.
+        let b : r < k = omega (arith, nearest-length g P v NONE k) in
+        omega (arith, stop b, distance-at r b a))
 
     first : nearest g P v l k ≡ take r (nearest g P v NONE k)
     first =
-        same-members (nearest g P v l k) (take r (nearest g P v NONE k)) (nearest-rising ok P v l k)
-        (take-rising r (nearest g P v NONE k) (nearest-rising ok P v NONE k)) outer inner
+        same-below (nearest g P v l k) (take r (nearest g P v NONE k)) (nearest-ordered ok P v l k)
+        (take-ordered r (nearest g P v NONE k) (nearest-ordered ok P v NONE k)) (nearest-small ok P v l k)
+        (λ y m. nearest-small ok P v NONE k y (take-all-in r (nearest g P v NONE k) y m))
+        (λ m.
+        omega (
+          arith,
+          nearest-below ok P v l k m,
+          take-few r m (nearest g P v NONE k) (nearest-ordered ok P v NONE k),
+          nearest-below ok P v NONE k m,
+          nearest-below ok P v NONE k (l * 4294967296),
+          cut-at,
+          before-within ok P v l most m,
+          before-least m (l * 4294967296),
+        ))
+      where
+        before-least : (m top : ℕ) → before g P v NONE (min m top) ≡ min (before g P v NONE m) (before g P v NONE top)
+        before-least m top =
+            elim (decLt m top) [
+              | yes a ↦
+                  let q : min m top ≡ m = omega arith in
+                  omega (arith, before-up g P v NONE m top (omega arith), ap (before g P v NONE) q)
+              | no a ↦
+                  let q : min m top ≡ top = omega arith in
+                  omega (arith, before-up g P v NONE top m (omega arith), ap (before g P v NONE) q)
+            ]
+
+    outer : AllIn (nearest g P v l k) (take r (nearest g P v NONE k))
+    outer z m = rw first at m
 
     pub row-count : r ≡ length (nearest g P v l k)
     row-count = sym (ap length first ∙ length-take-le r (nearest g P v NONE k) fits)
@@ -222,24 +218,8 @@ module _ {g : Network} (ok : Accepted g) {P : List ℕ} {K : ℕ} {ids dists : L
 
 -- a point p and the others that are nearer to it than e
 module _ {g : Network} (ok : Accepted g) (P : List ℕ) (p e : ℕ) (low : p < nodeCount g) where
-  -- they are fewer than what passes a test that they and p pass
-  others-fewer : (t : ℕ → Bool) → t p ≡ true → ((y : ℕ) → Nearer g P p e y → t y ≡ true) → othersNearer g P p e < count t (nodeCount g)
-  unfolding othersNearer isOtherNearer
-  others-fewer t here all =
-      omega (
-        arith,
-        count-without t p (nodeCount g) low here,
-        count-mono (isOtherNearer g P p e) (without t p) (nodeCount g)
-            (λ y l a.
-            let b = and-parts (not (eqb y p)) _ a in
-            without-other t p y (eqb-false y p (not-true (eqb y p) (b .0))) ∙ all y (passes-nearer l (b .1))),
-      )
-
   others-none : e ≡ 0 → othersNearer g P p e ≡ 0
-  unfolding othersNearer isOtherNearer isNearer
-  others-none z =
-      count-none (isOtherNearer g P p e) (nodeCount g)
-      (λ y l a. absurd (omega (arith, ltb-true (dist g p y) e (and-parts (marked P y) _ (and-parts (not (eqb y p)) _ a .1) .1))))
+  others-none z = ap (othersNearer g P p) z ∙ nearer-none g P p
 
   -- no more are nearer than the k-th other point of p's row
   module _ (mark : marked P p ≡ true) {K : ℕ} {dists : List ℕ} (same : dists ≡ tableDistances g P K) (k : ℕ) (some : 1 ≤ k) (few : k < K) (h : e ≤ getD dists (p * K + k) 0) (reach : e < NONE) where
@@ -251,18 +231,16 @@ module _ {g : Network} (ok : Accepted g) (P : List ℕ) (p e : ℕ) (low : p < n
 
     -- the row has no k-th other point
     no-other : length (nearest g P p NONE (suc k)) ≤ k → othersNearer g P p e < k
-    unfolding countNearer
     no-other m =
         omega (
           arith,
           nearest-length g P p NONE (suc k),
-          others-fewer (isNearer g P p NONE) (nearer-passes own)
-              (λ y n. nearer-passes (record { inside = n .inside; point = n .point; less = omega (arith, n .less) })),
+          others-less g P p NONE own,
+          nearer-mono g P p e NONE (omega arith),
         )
 
-    -- it has one
+    -- it has one: of those before it one is p's own
     other : k < length (nearest g P p NONE (suc k)) → othersNearer g P p e < k
-    unfolding before
     other m =
         let z = getD (nearest g P p NONE (suc k)) k (0, 0) in
         let n = listed-near ok P p NONE (suc k) (z .0) (z .1) (member-at (0, 0) (nearest g P p NONE (suc k)) k m) in
@@ -273,12 +251,8 @@ module _ {g : Network} (ok : Accepted g) (P : List ℕ) (p e : ℕ) (low : p < n
               omega (
                 arith,
                 n .near .few,
-                others-fewer (isBefore g P p NONE (key (z .0, dist g p (z .0))))
-                    (before-passes (key (z .0, dist g p (z .0))) own (omega (arith, d, n .far, dist-self ok p, ok .few)))
-                    (λ x r.
-                    before-passes (key (z .0, dist g p (z .0)))
-                    (record { inside = r .inside; point = r .point; less = omega (arith, r .less) })
-                    (omega (arith, r .less, d, n .far, r .inside, ok .few))),
+                nearer-before ok P p e (omega arith) (key (z .0, dist g p (z .0))) (omega (arith, h, d, n .far)),
+                others-less g P p e (record { inside = low; point = mark; less = omega (arith, dist-self ok p) }),
               )
         ]
 

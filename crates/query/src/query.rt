@@ -70,7 +70,7 @@ fn verify_once(
         return;
     }
     let mark = points[at];
-    if mark != 1 {
+    if mark == 0 {
         return;
     }
     let seen = f[at];

@@ -89,8 +89,8 @@ fn print_calls(kinds: &[u32], nodes: &[u32], numbers: &[u32], counts: &[u32])
     }
 }
 
-fn word(mark: u8) -> u32 {
-    mark as u32
+fn word(lockers: u8) -> u32 {
+    lockers as u32
 }
 
 fn print_marks(points: &[u8; 6]) {
@@ -133,9 +133,10 @@ fn print_scratch(scratch: &[u32; 360]) {
     io::write_all(1, b"\n");
 }
 
-// Builds with K = places on network N with the points 2, 4 and 5, makes the calls, and prints what comes out: the answer, each call's entries, the
-// marks, the rows and the scratch.
+// Builds with K = places on network N with the points, makes the calls, and prints what comes out: the answer, each call's entries, the marks (how
+// many lockers stand at each node), the rows and the scratch.
 fn print_replay(
+    points: &mut [u8; 6],
     places: u32,
     kinds: &[u32],
     nodes: &[u32],
@@ -146,12 +147,11 @@ fn print_replay(
 )
     requires { ⌜ (length (now kinds) ≤ length (now nodes)) × (length (now kinds) ≤ length (now numbers)) × (length (now kinds) ≤ length (now counts)) ⌝ }
 {
-    let mut points = [0u8, 0, 1, 0, 1, 1];
     let mut scratch = [7u32; 360];
     let mut ids = [9u32; 12];
     let mut distances = [9u32; 12];
     let answer = on_n(
-        &mut points,
+        points,
         places,
         &mut scratch,
         &mut ids,
@@ -165,13 +165,14 @@ fn print_replay(
     );
     print_answer(answer);
     print_calls(kinds, nodes, numbers, counts);
-    print_marks(&points);
+    print_marks(points);
     print_rows(&ids, &distances);
     print_scratch(&scratch);
 }
 
-// Insertions and removals, accepted and refused with 7, 8, 10 and 11, and some that meet several.
+// Insertions and removals, accepted and refused with 7, 8, 10 and 11, and some that meet several; node 4 has two lockers for a while.
 fn all_kinds() {
+    let mut points = [0u8, 0, 1, 0, 1, 1];
     let kinds = [0u32, 1, 0, 0, 0, 0, 1, 0, 9, 0, 1, 1, 0, 1];
     let nodes = [0u32, 2, 6, 1, 1, 4, 2, 3, 5, 7, 3, 1, 2, 4];
     let each_places = [2u32, 2, 2, 3, 2, 2, 2, 2, 2, 18, 1, 2, 2, 2];
@@ -194,6 +195,28 @@ fn all_kinds() {
     let mut numbers = [9u32; 14];
     let mut counts = [9u32; 14];
     print_replay(
+        &mut points,
+        2,
+        &kinds,
+        &nodes,
+        &each_places,
+        &lengths,
+        &mut numbers,
+        &mut counts,
+    );
+}
+
+// Nodes with 15 lockers and with 14: insert at 15 is refused with 11, and rows that show two of them stay as they are.
+fn full_nodes() {
+    let mut points = [15u8, 0, 1, 0, 14, 1];
+    let kinds = [0u32, 0, 0, 1, 0, 1];
+    let nodes = [0u32, 4, 4, 2, 2, 0];
+    let each_places = [2u32; 6];
+    let lengths = [352usize; 6];
+    let mut numbers = [9u32; 6];
+    let mut counts = [9u32; 6];
+    print_replay(
+        &mut points,
         2,
         &kinds,
         &nodes,
@@ -206,11 +229,13 @@ fn all_kinds() {
 
 // The list may be empty: the table as build writes it.
 fn no_calls() {
+    let mut points = [0u8, 0, 1, 0, 1, 1];
     let words = [0u32; 0];
     let lengths = [0usize; 0];
     let mut numbers = [0u32; 0];
     let mut counts = [0u32; 0];
     print_replay(
+        &mut points,
         2,
         &words,
         &words,
@@ -225,12 +250,14 @@ fn no_calls() {
 fn one_call(places: u32, words: usize, counts: &mut [u32])
     requires { ⌜ 0 < length (now counts) ⌝ }
 {
+    let mut points = [0u8, 0, 1, 0, 1, 1];
     let kinds = [0u32];
     let nodes = [0u32];
     let each_places = [2u32];
     let lengths = [words];
     let mut numbers = [9u32; 1];
     print_replay(
+        &mut points,
         places,
         &kinds,
         &nodes,
@@ -243,6 +270,7 @@ fn one_call(places: u32, words: usize, counts: &mut [u32])
 
 fn main() {
     all_kinds();
+    full_nodes();
     no_calls();
     let mut count = [9u32; 1];
     one_call(2, 352, &mut count);

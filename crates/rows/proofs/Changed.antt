@@ -1,4 +1,4 @@
--- How many rows one more point changes, and one fewer: as many as the nodes that have it near while it is marked.
+-- How many rows one more locker changes, and one fewer: as many as the nodes whose row has a place for it.
 -- Assumes nothing.
 use Prim.Native.Nat.{ℕ, _<_}
 use mathlib.Core.Path.{_≡_, refl, sym, ap, _∙_}
@@ -9,14 +9,12 @@ use lib.Dec.{eqb}
 use borrow.Author.Tests.{eqb-true, eq-eqb}
 use Rattle.network.specs.Network.{Network, nodeCount}
 use Rattle.network.specs.Accepted.{Accepted}
-use Rattle.network.specs.Distance.{NONE}
 use Rattle.network.specs.Count.{count}
 use Rattle.network.specs.Rows.{row, sameRow, rowsChanged}
 use Rattle.network.proofs.Tests.{and-parts, and-intro}
 use Rattle.network.proofs.Counts.{count-same}
-use Rattle.network.proofs.Rank.{Near}
-use Rattle.rows.specs.Update.{Added}
-use Rattle.rows.proofs.Update.{changed-near}
+use Rattle.rows.specs.Update.{Added, Gains}
+use Rattle.rows.proofs.Update.{changed-gains}
 
 -- the test of two rows is their equality
 pub same-row : (xs ys : List (ℕ × ℕ)) → sameRow xs ys ≡ true → xs ≡ ys
@@ -49,25 +47,25 @@ differs xs ys b h k = from (sameRow xs ys) refl b h k
     from true e false h k = refl
     from false e b h k = sym (h (λ q. false≢true (sym e ∙ ap (sameRow xs) (sym q) ∙ row-same xs)))
 
--- t tells the nodes that have x near, while x is marked: as many rows differ as pass
+-- t tells the nodes whose row has a place for one more at x: as many rows differ as pass
 module _ {g : Network} (ok : Accepted g) {P P′ : List ℕ} {x : ℕ} (low : x < nodeCount g) (a : Added P P′ x) (K : ℕ) (t : ℕ → Bool)
-    (only : (i : ℕ) → i < nodeCount g → t i ≡ true → Near g P′ i NONE K x) (all : (i : ℕ) → i < nodeCount g → Near g P′ i NONE K x → t i ≡ true) where
-  -- x is marked: the points were P and are P′
+    (only : (i : ℕ) → i < nodeCount g → t i ≡ true → Gains g P K i x) (all : (i : ℕ) → i < nodeCount g → Gains g P K i x → t i ≡ true) where
+  -- one more: the points were P and are P′
   pub added-changes : rowsChanged g P P′ K ≡ count t (nodeCount g)
   unfolding rowsChanged
   added-changes =
       count-same t (λ i. not (sameRow (row g P K i) (row g P′ K i))) (nodeCount g)
       (λ i h.
       differs (row g P K i) (row g P′ K i) (t i)
-      (λ n. all i h (changed-near ok low a K i .0 n))
-      (λ e. changed-near ok low a K i .1 (only i h e)))
+      (λ n. all i h (changed-gains ok low a K i .0 n))
+      (λ e. changed-gains ok low a K i .1 (only i h e)))
 
-  -- its mark is cleared: the points were P′ and are P
+  -- one fewer: the points were P′ and are P
   pub removed-changes : rowsChanged g P′ P K ≡ count t (nodeCount g)
   unfolding rowsChanged
   removed-changes =
       count-same t (λ i. not (sameRow (row g P′ K i) (row g P K i))) (nodeCount g)
       (λ i h.
       differs (row g P′ K i) (row g P K i) (t i)
-      (λ n. all i h (changed-near ok low a K i .0 (λ e. n (sym e))))
-      (λ e q. changed-near ok low a K i .1 (only i h e) (sym q)))
+      (λ n. all i h (changed-gains ok low a K i .0 (λ e. n (sym e))))
+      (λ e q. changed-gains ok low a K i .1 (only i h e) (sym q)))

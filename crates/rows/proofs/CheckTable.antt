@@ -6,18 +6,19 @@ use mathlib.Core.Path.{_≡_, refl, sym, ap, _∙_}
 use mathlib.Core.Bool.{Bool, true, false, not, _&&_, _||_, false≢true}
 use mathlib.Core.Logic.{_≢_, _↔_, ⊎-elim}
 use mathlib.Core.List.{List, [], _∷_, List·Memᴰ}
-use native.Mathlib.Decide.{ℕ-discrete}
+use native.Mathlib.Decide.{ℕ-discrete, decLt}
 use native.Mathlib.Omega.{arith}
 use lib.Dec.{eqb, leb}
-use lib.ListN.{length, getD}
-use borrow.Author.Tests.{eq-eqb, ne-eqb, eqb-true, le-leb, leb-true, not-false}
+use lib.ListN.{length, getD, List·getD-eq-default}
+use borrow.Author.Tests.{lt-ltb, le-ltb, eq-eqb, ne-eqb, eqb-true, le-leb, leb-true, not-false}
 use Rattle.network.specs.Network.{Network, Arc, nodeCount, neighboursOf, weightsOf}
 use Rattle.network.specs.Accepted.{Accepted}
 use Rattle.network.specs.Distance.{NONE}
 use Rattle.network.specs.Count.{any}
-use Rattle.network.specs.Points.{marked}
+use Rattle.network.specs.Points.{lockers, marked}
 use Rattle.network.specs.Rows.{tableIds, tableDistances}
 use Rattle.network.proofs.Tests.{and-parts, and-intro, and-left, and-right, or-parts, or-intro, or-cases, or-left, or-right, any-none, none-any, one-any, any-passes}
+use Rattle.network.proofs.Rank.{marked-inside}
 use Rattle.network.proofs.NodeArcs.{arc-source}
 use Rattle.network.proofs.Ranges.{arc-at, arc-place}
 use Rattle.network.proofs.NumberZero.{accepted-ranges}
@@ -26,7 +27,7 @@ use Rattle.rows.specs.Flat.{filled, places, rowAt, IsTable, Flat}
 use Rattle.rows.specs.Check.{rowPart, holds, isPlaced, badRow, comesFrom, comesAt, comesOver, isOwn, isSupported, unsupportedAt, unsupported, lacksOwn, asksFor, asksAt, asks, asksFrom, asksOver, unclosed, badNode, sameList, isTable, CanCheck}
 use Rattle.rows.proofs.Laid.{part-places, flat-iff-table}
 use Rattle.rows.proofs.CheckTests.{rows-lie, row-part-length, supported-padding, asks-padding, asks-entry}
-use Rattle.rows.proofs.CheckRows.{rowOf, entries, Good, shape-padded, shape-in, in-shape, entry-low, held-in, in-held, good-sorted, placed-in, in-placed, row-good, good-row, sorted-good}
+use Rattle.rows.proofs.CheckRows.{rowOf, entries, Good, shape-padded, shape-in, in-shape, entry-low, held-in, in-held, good-sorted, placed-in, in-placed, among-has, row-good, good-row, sorted-good}
 
 -- lists are one exactly if the test says so
 pub same-list : (xs ys : List ℕ) → sameList xs ys ≡ true → xs ≡ ys
@@ -79,20 +80,20 @@ module _ {g : Network} {P : List ℕ} {K : ℕ} {ids dists : List ℕ} (c : CanC
   -- nothing is wrong
   module _ (e : any (badNode g P K ids dists) (nodeCount g) ≡ false) where
     node : (i : ℕ) → i < nodeCount g
-        → (badRow (rowPart K i ids) (rowPart K i dists) ≡ false) × (lacksOwn P (rowPart K i ids) (rowPart K i dists) i ≡ false)
+        → (badRow P (rowPart K i ids) (rowPart K i dists) ≡ false) × (lacksOwn P (rowPart K i ids) (rowPart K i dists) i ≡ false)
         × (unsupported g P K ids dists i ≡ false) × (unclosed g K ids dists i ≡ false)
     unfolding badNode
     node i h =
         let r = any-none (badNode g P K ids dists) (nodeCount g) i e h in
-        let row = badRow (rowPart K i ids) (rowPart K i dists) in
+        let row = badRow P (rowPart K i ids) (rowPart K i dists) in
         let own = lacksOwn P (rowPart K i ids) (rowPart K i dists) i in
         let s = or-parts (row || own || unsupported g P K ids dists i) _ r in
         let t = or-parts (row || own) _ (s .0) in
         let u = or-parts row _ (t .0) in
         (u .0, u .1, t .1, s .1)
 
-    good : (i : ℕ) → i < nodeCount g → Good (rowPart K i ids) (rowPart K i dists)
-    good i h = row-good (rowPart K i ids) (rowPart K i dists) (node i h .0)
+    good : (i : ℕ) → i < nodeCount g → Good P (rowPart K i ids) (rowPart K i dists)
+    good i h = row-good P (rowPart K i ids) (rowPart K i dists) (node i h .0)
 
     arrives : (i p d : ℕ) → i < nodeCount g → p ≢ NONE → comesOver g K ids dists i p d ≡ true → Support g P T i p d
     unfolding comesOver comesAt comesFrom
@@ -180,11 +181,22 @@ module _ {g : Network} {P : List ℕ} {K : ℕ} {ids dists : List ℕ} (c : CanC
 
   -- the rows are those of the table
   module _ (f : Flat g P K ids dists) where
-    good-of : (i : ℕ) → i < nodeCount g → Good (rowPart K i ids) (rowPart K i dists)
+    good-of : (i : ℕ) → i < nodeCount g → Good P (rowPart K i ids) (rowPart K i dists)
     good-of i h =
-        sorted-good (rowPart K i ids) (rowPart K i dists)
+        sorted-good P (rowPart K i ids) (rowPart K i dists)
         (rw (row-is i h, part-length i h) (f .rows .sorted i h))
         (rw (row-is i h, part-length i h) (f .padded i h))
+
+    -- an entry has a locker, so it is a node
+    small-of : (i : ℕ) (h : i < nodeCount g) (j : ℕ) → j < good-of i h .shape .size → getD (rowPart K i ids) j 0 < 4294967296
+    small-of i h j l =
+        let p = getD (rowPart K i ids) j 0 in
+        let m = among-has (rowPart K i ids) p (good-of i h .shape .size) j l refl in
+        let n = marked-inside P p (lt-ltb 0 (lockers P p) (omega (arith, m, good-of i h .most p))) in
+        omega (arith, n, c .points, ok .few)
+
+    no-lockers : lockers P NONE ≡ 0
+    no-lockers = List·getD-eq-default P 0 {n = NONE} (omega (arith, c .points, ok .few))
 
     held-of : (i p d : ℕ) → i < nodeCount g → List·Memᴰ (p, d) (T i) → holds (rowPart K i ids) (rowPart K i dists) p d ≡ true
     held-of i p d h m = in-held (good-of i h .shape) p d (rw (entries-are i h) m)
@@ -192,9 +204,9 @@ module _ {g : Network} {P : List ℕ} {K : ℕ} {ids dists : List ℕ} (c : CanC
     has-own : (i : ℕ) → i < nodeCount g → lacksOwn P (rowPart K i ids) (rowPart K i dists) i ≡ false
     unfolding lacksOwn
     has-own i h =
-        elim (ℕ-discrete (getD P i 0) 1) [
-          | yes e ↦ and-right (marked P i) _ (ap not (held-of i i 0 h (f .rows .source i h (eq-eqb (getD P i 0) 1 e))))
-          | no n ↦ and-left (marked P i) _ (ne-eqb (getD P i 0) 1 n)
+        elim (decLt 0 (getD P i 0)) [
+          | yes e ↦ and-right (marked P i) _ (ap not (held-of i i 0 h (f .rows .source i h (lt-ltb 0 (getD P i 0) e))))
+          | no n ↦ and-left (marked P i) _ (le-ltb 0 (getD P i 0) (omega arith))
         ]
 
     arrived : (i p d : ℕ) {a w e : ℕ} → Arc g i a w → List·Memᴰ (p, e) (T a) → d ≡ w + e → comesOver g K ids dists i p d ≡ true
@@ -261,9 +273,9 @@ module _ {g : Network} {P : List ℕ} {K : ℕ} {ids dists : List ℕ} (c : CanC
         none-any (badNode g P K ids dists) (nodeCount g)
         (λ i h.
         or-intro
-        (badRow (rowPart K i ids) (rowPart K i dists) || lacksOwn P (rowPart K i ids) (rowPart K i dists) i || unsupported g P K ids dists i) _
-        (or-intro (badRow (rowPart K i ids) (rowPart K i dists) || lacksOwn P (rowPart K i ids) (rowPart K i dists) i) _
-        (or-intro (badRow (rowPart K i ids) (rowPart K i dists)) _ (good-row (good-of i h)) (has-own i h)) (all-supported i h))
+        (badRow P (rowPart K i ids) (rowPart K i dists) || lacksOwn P (rowPart K i ids) (rowPart K i dists) i || unsupported g P K ids dists i) _
+        (or-intro (badRow P (rowPart K i ids) (rowPart K i dists) || lacksOwn P (rowPart K i ids) (rowPart K i dists) i) _
+        (or-intro (badRow P (rowPart K i ids) (rowPart K i dists)) _ (good-row (good-of i h) (small-of i h) no-lockers) (has-own i h)) (all-supported i h))
         (all-closed i h))
 
   -- so the check tells whether both arrays are the table

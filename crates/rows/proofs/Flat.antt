@@ -12,7 +12,7 @@ use borrow.Author.Tests.{eq-eqb, ne-eqb}
 use Rattle.network.specs.Network.{Network, nodeCount}
 use Rattle.network.specs.Accepted.{Accepted}
 use Rattle.network.specs.Distance.{NONE}
-use Rattle.network.specs.Nearest.{key, nearest, Rising}
+use Rattle.network.specs.Nearest.{key, nearest, Ordered}
 use Rattle.network.specs.Rows.{pad, row}
 use Rattle.network.proofs.Rows.{listed-near}
 use Rattle.rows.specs.Flat.{filled, place, places, At, Flat}
@@ -81,24 +81,24 @@ module _ (ids dists : List ℕ) where
       record { index = suc (r .index); low = omega arith; is = r .is ∙ ap (place ids dists) (shift at (r .index)) })
       (List·Memᴰ·cases-cons m)
 
-  -- it rises where each key is less than the next
-  ahead : (at k : ℕ) → ((j : ℕ) → suc j < k → key (place ids dists (at + j)) < key (place ids dists (at + suc j))) → (j : ℕ) → suc j < k
-      → key (place ids dists at) < key (place ids dists (at + suc j))
+  -- it is in order where no key is more than the next
+  ahead : (at k : ℕ) → ((j : ℕ) → suc j < k → key (place ids dists (at + j)) ≤ key (place ids dists (at + suc j))) → (j : ℕ) → suc j < k
+      → key (place ids dists at) ≤ key (place ids dists (at + suc j))
   ahead at k h zero l = omega (arith, h zero l, ap (λ v. key (place ids dists v)) (add-zero at))
   ahead at k h (suc j) l = omega (arith, ahead at k h j (omega arith), h (suc j) l)
 
-  pub places-rising : (at k : ℕ) → ((j : ℕ) → suc j < k → key (place ids dists (at + j)) < key (place ids dists (at + suc j))) → Rising (places ids dists at k)
+  pub places-ordered : (at k : ℕ) → ((j : ℕ) → suc j < k → key (place ids dists (at + j)) ≤ key (place ids dists (at + suc j))) → Ordered (places ids dists at k)
   unfolding places
-  places-rising at zero h = tt
-  places-rising at (suc k) h = (
+  places-ordered at zero h = tt
+  places-ordered at (suc k) h = (
     λ y m.
         let r = in-place (suc at) k y m in
         omega (arith, ap key (r .is ∙ ap (place ids dists) (shift at (r .index))), ahead at (suc k) h (r .index) (omega arith)),
-    places-rising (suc at) k (λ j l. rw (shift at j, shift at (suc j)) (h (suc j) (omega arith))),
+    places-ordered (suc at) k (λ j l. rw (shift at j, shift at (suc j)) (h (suc j) (omega arith))),
   )
 
-  -- no point twice, where no two indices hold one node
-  pub places-once : (at k : ℕ) → ((j l : ℕ) → j < l → l < k → getD ids (at + j) 0 ≢ getD ids (at + l) 0)
+  -- a node at one distance, where two indices that hold it have one
+  pub places-once : (at k : ℕ) → ((j l : ℕ) → j < l → l < k → getD ids (at + j) 0 ≡ getD ids (at + l) 0 → getD dists (at + j) 0 ≡ getD dists (at + l) 0)
       → (p d e : ℕ) → List·Memᴰ (p, d) (places ids dists at k) → List·Memᴰ (p, e) (places ids dists at k) → d ≡ e
   places-once at k h p d e m n = from (in-place at k (p, d) m) (in-place at k (p, e) n)
     where
@@ -110,8 +110,10 @@ module _ (ids dists : List ℕ) where
             | yes q ↦ ap (λ (x : ℕ × ℕ). x .1) (r .is) ∙ ap (λ v. getD dists (at + v) 0) q ∙ sym (ap (λ (x : ℕ × ℕ). x .1) (s .is))
             | no q ↦
                 elim (decLt (r .index) (s .index)) [
-                  | yes b ↦ absurd (h (r .index) (s .index) b (s .low) (omega arith))
-                  | no c ↦ absurd (h (s .index) (r .index) (omega arith) (r .low) (omega arith))
+                  | yes b ↦
+                      ap (λ (x : ℕ × ℕ). x .1) (r .is) ∙ h (r .index) (s .index) b (s .low) (sym u ∙ v) ∙ sym (ap (λ (x : ℕ × ℕ). x .1) (s .is))
+                  | no c ↦
+                      ap (λ (x : ℕ × ℕ). x .1) (r .is) ∙ sym (h (s .index) (r .index) (omega arith) (r .low) (sym v ∙ u)) ∙ sym (ap (λ (x : ℕ × ℕ). x .1) (s .is))
                 ]
           ]
 

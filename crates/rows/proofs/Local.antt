@@ -7,18 +7,20 @@ use mathlib.Core.Logic.{_↔_}
 use mathlib.Core.List.{List, List·Memᴰ, List·Memᴰ·head}
 use native.Mathlib.Decide.{ℕ-discrete, decLt}
 use native.Mathlib.Omega.{arith}
+use lib.ListN.{length}
 use Rattle.network.specs.Network.{Network, Arc, nodeCount}
 use Rattle.network.proofs.NodeArcs.{arc-source}
 use Rattle.network.specs.Accepted.{Accepted}
 use Rattle.network.specs.Walk.{here, step}
 use Rattle.network.specs.Distance.{NONE, dist}
 use Rattle.network.proofs.Distances.{dist-self, dist-arc, dist-next}
-use Rattle.network.specs.Points.{marked}
-use Rattle.network.specs.Nearest.{key, nearest, before}
-use Rattle.network.proofs.Rank.{Before, before-mono, before-most}
-use Rattle.network.proofs.Rows.{nearest-rising, nearest-length, near-listed, listed-near, nearest-source}
+use Rattle.network.specs.Points.{lockers, marked}
+use Rattle.network.specs.Nearest.{key, nearest, before, times}
+use Rattle.network.proofs.Ordered.{below, below-all}
+use Rattle.network.proofs.Rank.{Before, before-mono, before-most, before-step}
+use Rattle.network.proofs.Rows.{nearest-ordered, nearest-length, nearest-below, nearest-times, nearest-no-more, near-listed, listed-near, nearest-source}
 use Rattle.network.proofs.Prefix.{reached-arc, near-next}
-use Rattle.rows.specs.Exact.{Sorted, Sound, Placed, stands, full, Table, Support, own, via, Local}
+use Rattle.rows.specs.Exact.{Full, Sorted, Sound, Placed, stands, full, Table, Support, own, via, Local}
 use Rattle.rows.proofs.Exact.{exact}
 
 module _ {g : Network} (ok : Accepted g) {P : List ℕ} {K : ℕ} {T : ℕ → List (ℕ × ℕ)} where
@@ -47,13 +49,26 @@ module _ {g : Network} (ok : Accepted g) {P : List ℕ} {K : ℕ} {T : ℕ → L
 
 -- the exact table has these properties
 module _ {g : Network} (ok : Accepted g) (P : List ℕ) (K : ℕ) where
-  nearest-sorted : (i : ℕ) → Sorted K (nearest g P i NONE K)
+  nearest-sorted : (i : ℕ) → Sorted P K (nearest g P i NONE K)
   nearest-sorted i =
       record {
-        rising = nearest-rising ok P i NONE K;
+        ordered = nearest-ordered ok P i NONE K;
         short = omega (arith, nearest-length g P i NONE K);
         once = λ p d e m n. listed-near ok P i NONE K p d m .far ∙ sym (listed-near ok P i NONE K p e n .far);
+        most = nearest-no-more ok P i NONE K;
+        whole = whole;
       }
+    where
+      -- a node that lacks a place ends a full row
+      whole : (p d : ℕ) → List·Memᴰ (p, d) (nearest g P i NONE K) → times p (nearest g P i NONE K) < lockers P p → Full K (nearest g P i NONE K) p d
+      whole p d m l =
+          let r = listed-near ok P i NONE K p d m in
+          let k = key (p, dist g i p) in
+          let a = nearest-times ok P i NONE K p (r .near .nearer) in
+          let s = before-step ok P i NONE p (r .near .nearer) in
+          let n : length (nearest g P i NONE K) ≡ K = omega (arith, a, s, r .near .few, nearest-length g P i NONE K, before-most g P i NONE (suc k)) in
+          let b : length (nearest g P i NONE K) ≤ below (suc k) (nearest g P i NONE K) = omega (arith, a, s, n, r .near .few, nearest-below ok P i NONE K (suc k)) in
+          record { filled = n; ends = λ y u. omega (arith, below-all (suc k) (nearest g P i NONE K) b y u, r .far) }
 
   nearest-supported : (i p d : ℕ) → List·Memᴰ (p, d) (nearest g P i NONE K) → Support g P (λ c. nearest g P c NONE K) i p d
   nearest-supported i p d m =
@@ -71,7 +86,7 @@ module _ {g : Network} (ok : Accepted g) (P : List ℕ) (K : ℕ) where
   ahead i p h y m =
       let r = listed-near ok P i NONE K (y .0) (y .1) m in
       elim (decLt (key (p, dist g i p)) (key y)) [
-        | yes l ↦ absurd (omega (arith, r .near .few, before-mono g P P i i NONE NONE (key (p, dist g i p)) (key (y .0, dist g i (y .0))) (further l (r .far))))
+        | yes l ↦ absurd (omega (arith, r .near .few, before-mono g P i i NONE NONE (key (p, dist g i p)) (key (y .0, dist g i (y .0))) (further l (r .far))))
         | no n ↦ omega arith
       ]
     where
@@ -87,8 +102,11 @@ module _ {g : Network} (ok : Accepted g) (P : List ℕ) (K : ℕ) where
             stands {e = dist g i p} (omega (arith, u .most, r .far))
             (near-listed ok P i NONE K p (record { nearer = reached-arc ok P arc (r .near .nearer); few = l }))
         | no n ↦
-            full (omega (arith, nearest-length g P i NONE K, before-most g P i NONE (key (p, dist g i p))))
-            (λ y t. omega (arith, u .most, r .far, ahead i p (omega arith) y t))
+            full
+            (record {
+              filled = omega (arith, nearest-length g P i NONE K, before-most g P i NONE (key (p, dist g i p)));
+              ends = λ y t. omega (arith, u .most, r .far, ahead i p (omega arith) y t);
+            })
       ]
 
   nearest-sourced : (i : ℕ) → 1 ≤ K → i < nodeCount g → marked P i ≡ true → List·Memᴰ (i, 0) (nearest g P i NONE K)

@@ -4,7 +4,7 @@ use Prim.Native.Nat.{ℕ, zero, suc, _+_, _-_, _≤_, _<_}
 use mathlib.Core.Path.{_≡_, refl, sym, ap, _∙_}
 use mathlib.Core.Bool.{true, false, false≢true}
 use mathlib.Core.Logic.{⊎-elim}
-use mathlib.Core.List.{List, [], _∷_, _++_, List·Memᴰ, List·Memᴰ·head, List·Memᴰ·tail}
+use mathlib.Core.List.{List, [], _∷_, _++_}
 use native.Mathlib.Nat.{eq-or-lt-of-le, le-of-suc-le-suc, not-suc-le-zero}
 use native.Mathlib.Numerals.{add-one}
 use native.Mathlib.Decide.{decLt, decLe}
@@ -133,15 +133,7 @@ module _ (p d : ℕ) where
       rw (places-cons q e qs es (length qs), takes-behind (p, d) (q, e) (places qs es 0 (length qs)) (o .before zero (omega arith)))
       (ltb-suc j (length qs) ∙ put-taken j qs es (omega arith) (later o))
 
--- ---- A row that takes x holds it then; one that does not is as it was; what is nearer is taken too.
-pub taken-in : (x : ℕ × ℕ) (xs : List (ℕ × ℕ)) → takes x xs ≡ true → List·Memᴰ x (take (length xs) (insert x xs))
-taken-in x [] t = absurd (false≢true (sym (takes-nil x) ∙ t))
-taken-in x (y ∷ ys) t =
-    elim (decLe (key y) (key x)) [
-      | yes h ↦ rw (insert-behind x y ys h) (List·Memᴰ·tail (taken-in x ys (sym (takes-behind x y ys h) ∙ t)))
-      | no n ↦ rw (insert-before x y ys (omega arith)) (List·Memᴰ·head refl)
-    ]
-
+-- ---- A row that does not take x is as it was; what is nearer is taken too.
 pub not-taken : (x : ℕ × ℕ) (xs : List (ℕ × ℕ)) → takes x xs ≡ false → take (length xs) (insert x xs) ≡ xs
 not-taken x [] t = refl
 not-taken x (y ∷ ys) t =

@@ -34,9 +34,9 @@ module _ {K i : ℕ} {ids dists : List ℕ} (h : HasRow ids dists K i) where
       }
 
   -- what `take_out_of_row` leaves
-  pub taken-out-of-row : {zs ws : List ℕ} {p : ℕ} {r : Bool}
-      → TakenOut (midOf (i * K) ((i * K + K) - i * K) ids) (midOf (i * K) ((i * K + K) - i * K) dists) zs ws p r
-      → TakenOutOfRow ids dists (putMid (i * K) ((i * K + K) - i * K) ids zs) (putMid (i * K) ((i * K + K) - i * K) dists ws) K i p r
+  pub taken-out-of-row : {zs ws : List ℕ} {p all : ℕ} {r : Bool}
+      → TakenOut (midOf (i * K) ((i * K + K) - i * K) ids) (midOf (i * K) ((i * K + K) - i * K) dists) zs ws p all r
+      → TakenOutOfRow ids dists (putMid (i * K) ((i * K + K) - i * K) ids zs) (putMid (i * K) ((i * K + K) - i * K) dists ws) K i p all r
   taken-out-of-row t =
       let b = row-lent h (t .ids-size) (t .dists-size) in
       record {

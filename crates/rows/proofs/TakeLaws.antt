@@ -2,25 +2,27 @@
 -- Assumes nothing.
 use Prim.Native.Nat.{ℕ, zero, suc, _+_, _-_, _≤_, _<_}
 use mathlib.Core.Path.{_≡_, refl, sym, ap, _∙_}
-use mathlib.Core.Bool.{true, false, false≢true}
+use mathlib.Core.Bool.{true, false}
 use mathlib.Core.Logic.{_≢_, ⊎-elim}
-use mathlib.Core.List.{List, [], _∷_, _++_, List·Memᴰ, List·Memᴰ·head, List·Memᴰ·tail, List·Memᴰ·cases-cons, List·Memᴰ·not-nil, append-assoc}
+use mathlib.Core.List.{List, [], _∷_, _++_, List·Memᴰ, List·Memᴰ·head, List·Memᴰ·tail, append-assoc}
 use native.Mathlib.Nat.{eq-or-lt-of-le, le-of-suc-le-suc, not-suc-le-zero, zero-add}
 use native.Mathlib.Numerals.{add-one}
 use native.Mathlib.Decide.{ℕ-discrete, decLt, decLe}
 use native.Mathlib.Omega.{arith}
-use lib.Dec.{ltb}
+use lib.Dec.{eqb}
 use lib.ListN.{length, getD, set, replicate, length-set, length-append, List·getD-eq-default}
 use lib.Seq.{ext-getD, getD-set-same, getD-set-other}
-use borrow.Author.Tests.{eq-eqb, ne-eqb, lt-ltb, le-ltb}
+use borrow.Author.Tests.{eq-eqb, ne-eqb}
 use Rattle.network.specs.Distance.{NONE}
-use Rattle.network.specs.Nearest.{key, insert}
+use Rattle.network.specs.Nearest.{key, insert, Ordered, times}
 use Rattle.network.specs.Rows.{pad}
+use Rattle.network.proofs.Ordered.{Small, key-pair}
 use Rattle.network.proofs.Insert.{insert-behind, insert-before, insert-length, insert-nil}
 use Rattle.rows.specs.Flat.{place, places}
-use Rattle.rows.specs.Take.{takeOut, hasPoint, PointAt, TakenAt}
-use Rattle.rows.proofs.Partial.{Has}
+use Rattle.rows.specs.Take.{takeOut, PointAt, TakenAt}
+use Rattle.rows.specs.Check.{among}
 use Rattle.rows.proofs.Flat.{places-length, places-at}
+use Rattle.rows.proofs.CheckRows.{times-places}
 
 -- ---- The loop that looks for the place.
 pub point-more : (ids : List ℕ) (p at : ℕ) → ((j : ℕ) → j < at → getD ids j 0 ≢ p) → getD ids at 0 ≢ p → (j : ℕ) → j < at + 1 → getD ids j 0 ≢ p
@@ -77,7 +79,7 @@ pub shift-all : {xs ys : List ℕ} {place at held : ℕ} → Shifting xs ys plac
 shift-all s h =
     record { size = s .size; before = λ j l. s .kept j (omega (arith, s .low)); behind = λ j l m. s .moved j (omega (arith, s .low)) m }
 
--- ---- The clauses of `takeOut` and `hasPoint`.
+-- ---- The clauses of `takeOut`.
 take-here : (p : ℕ) (y : ℕ × ℕ) (ys : List (ℕ × ℕ)) → y .0 ≡ p → takeOut p (y ∷ ys) ≡ ys ++ (NONE, NONE) ∷ []
 unfolding takeOut
 take-here p y ys e = rw (eq-eqb (y .0) p e, takeOut)
@@ -89,18 +91,6 @@ take-later p y ys n = rw (ne-eqb (y .0) p n, takeOut)
 take-nil : (p : ℕ) → takeOut p [] ≡ []
 unfolding takeOut
 take-nil p = refl
-
-has-nil : (p : ℕ) → hasPoint p [] ≡ false
-unfolding hasPoint
-has-nil p = refl
-
-has-here : (p : ℕ) (y : ℕ × ℕ) (ys : List (ℕ × ℕ)) → y .0 ≡ p → hasPoint p (y ∷ ys) ≡ true
-unfolding hasPoint
-has-here p y ys e = rw (eq-eqb (y .0) p e)
-
-has-later : (p : ℕ) (y : ℕ × ℕ) (ys : List (ℕ × ℕ)) → y .0 ≢ p → hasPoint p (y ∷ ys) ≡ hasPoint p ys
-unfolding hasPoint
-has-later p y ys n = rw (ne-eqb (y .0) p n)
 
 -- ---- The row as a list, place by place.
 take-length : (p : ℕ) (xs : List (ℕ × ℕ)) → length (takeOut p xs) ≡ length xs
@@ -137,45 +127,10 @@ module _ (p : ℕ) (z : ℕ × ℕ) where
       ap (λ t. getD t (suc j) z) (take-later p y ys (all zero (omega arith)))
       ∙ take-behind ys j r (le-of-suc-le-suc h) (λ i n. all (suc i) (omega arith)) e (le-of-suc-le-suc l) (le-of-suc-le-suc m)
 
-  has-at : (xs : List (ℕ × ℕ)) (r : ℕ) → r < length xs → getD xs r z .0 ≡ p → hasPoint p xs ≡ true
-  has-at [] r h e = absurd (not-suc-le-zero h)
-  has-at (y ∷ ys) zero h e = has-here p y ys e
-  has-at (y ∷ ys) (suc r) h e =
-      elim (ℕ-discrete (y .0) p) [
-        | yes q ↦ has-here p y ys q
-        | no n ↦ has-later p y ys n ∙ has-at ys r (le-of-suc-le-suc h) e
-      ]
-
-  has-none : (xs : List (ℕ × ℕ)) → ((i : ℕ) → i < length xs → getD xs i z .0 ≢ p) → hasPoint p xs ≡ false
-  has-none [] all = has-nil p
-  has-none (y ∷ ys) all = has-later p y ys (all zero (omega arith)) ∙ has-none ys (λ i l. all (suc i) (omega arith))
-
--- ---- Its members.
-pub has-member : (p d : ℕ) (xs : List (ℕ × ℕ)) → List·Memᴰ (p, d) xs → hasPoint p xs ≡ true
-has-member p d [] m = absurd (List·Memᴰ·not-nil m)
-has-member p d (y ∷ ys) m =
-    elim (ℕ-discrete (y .0) p) [
-      | yes q ↦ has-here p y ys q
-      | no n ↦
-          has-later p y ys n
-          ∙ ⊎-elim (λ e. absurd (n (sym (ap (λ (x : ℕ × ℕ). x .0) e)))) (λ t. has-member p d ys t) (List·Memᴰ·cases-cons m)
-    ]
-
-pub has-some : (p : ℕ) (xs : List (ℕ × ℕ)) → hasPoint p xs ≡ true → Has p xs
-has-some p [] e = absurd (false≢true (sym (has-nil p) ∙ e))
-has-some p (y ∷ ys) e =
-    elim (ℕ-discrete (y .0) p) [
-      | yes q ↦ record { far = y .1; mem = List·Memᴰ·head (λ k. (sym q k, y .1)) }
-      | no n ↦ let h = has-some p ys (sym (has-later p y ys n) ∙ e) in record { far = h .far; mem = List·Memᴰ·tail (h .mem) }
-    ]
-
-pub take-absent : (p : ℕ) (xs : List (ℕ × ℕ)) → hasPoint p xs ≡ false → takeOut p xs ≡ xs
-take-absent p [] e = take-nil p
-take-absent p (y ∷ ys) e =
-    elim (ℕ-discrete (y .0) p) [
-      | yes q ↦ absurd (false≢true (sym e ∙ has-here p y ys q))
-      | no n ↦ take-later p y ys n ∙ ap (λ l. y ∷ l) (take-absent p ys (sym (has-later p y ys n) ∙ e))
-    ]
+  -- a row without p stays
+  take-absent : (xs : List (ℕ × ℕ)) → ((i : ℕ) → i < length xs → getD xs i z .0 ≢ p) → takeOut p xs ≡ xs
+  take-absent [] all = take-nil p
+  take-absent (y ∷ ys) all = take-later p y ys (all zero (omega arith)) ∙ ap (λ l. y ∷ l) (take-absent ys (λ i l. all (suc i) (omega arith)))
 
 -- ---- What `take_out` leaves.
 module _ {ids dists ids′ dists′ : List ℕ} {p r : ℕ} (same : length dists ≡ length ids) (o : PointAt ids p r) (t : TakenAt ids ids′ r) (u : TakenAt dists dists′ r) where
@@ -227,7 +182,7 @@ module _ {ids dists ids′ dists′ : List ℕ} {p r : ℕ} (same : length dists
             let b : j < r = omega arith in
             (λ k. (t .before j b k, u .before j b k))
             ∙ sym (row-at j h)
-            ∙ ap (λ l. getD l j (0, 0)) (sym (take-absent p row (has-none p (0, 0) row (λ i l. others i (omega (arith, long))))))
+            ∙ ap (λ l. getD l j (0, 0)) (sym (take-absent p (0, 0) row (λ i l. others i (omega (arith, long)))))
       ]
 
   pub taken-row : places ids′ dists′ 0 (length ids) ≡ takeOut p (places ids dists 0 (length ids))
@@ -238,23 +193,53 @@ module _ {ids dists ids′ dists′ : List ℕ} {p r : ℕ} (same : length dists
       let h : j < length ids = omega (arith, places-length ids′ dists′ 0 (length ids)) in
       places-at ids′ dists′ 0 (length ids) j (0, 0) h ∙ ap (place ids′ dists′) (zero-add j) ∙ new-at j h)
 
-  pub taken-was : ltb r (length ids) ≡ hasPoint p (places ids dists 0 (length ids))
-  taken-was =
-      elim (decLt r (length ids)) [
-        | yes l ↦ lt-ltb r (length ids) l ∙ sym (has-at p (0, 0) row r (omega (arith, long)) (id-at r l ∙ o .here l))
-        | no m ↦ le-ltb r (length ids) (omega arith) ∙ sym (has-none p (0, 0) row (λ i l. others i (omega (arith, long))))
-      ]
+-- ---- Whether the row has all lockers of p.
+module _ (ids dists : List ℕ) (p all c : ℕ) (e : c ≡ among ids p (length ids)) where
+  counted : times p (places ids dists 0 (length ids)) ≡ c
+  counted = times-places ids dists p (length ids) ∙ sym e
 
--- ---- An entry that was put in comes out again.
-pub take-inserted : (p d : ℕ) (ys zs : List (ℕ × ℕ)) → ((y : ℕ × ℕ) → List·Memᴰ y ys → y .0 ≢ p)
+  pub has-all : c ≡ all → true ≡ eqb (times p (places ids dists 0 (length ids))) all
+  has-all h = sym (eq-eqb (times p (places ids dists 0 (length ids))) all (counted ∙ h))
+
+  pub has-not-all : c ≢ all → false ≡ eqb (times p (places ids dists 0 (length ids))) all
+  has-not-all n = sym (ne-eqb (times p (places ids dists 0 (length ids))) all (λ q. n (sym counted ∙ q)))
+
+-- ---- An entry that was put in comes out again: of those of its node, which are all alike, the first.
+-- put in among its like, it stands first
+insert-first : (x : ℕ × ℕ) (ys : List (ℕ × ℕ)) → Ordered (x ∷ ys) → ((y : ℕ × ℕ) → List·Memᴰ y ys → key y ≡ key x → y ≡ x) → insert x ys ≡ x ∷ ys
+insert-first x [] r h = insert-nil x
+insert-first x (y ∷ ys) r h =
+    elim (decLe (key y) (key x)) [
+      | yes l ↦
+          let e : y ≡ x = h y (List·Memᴰ·head refl) (omega (arith, r .0 y (List·Memᴰ·head refl))) in
+          insert-behind x y ys l
+          ∙ ap (λ l. y ∷ l) (insert-first x ys (λ z m. r .0 z (List·Memᴰ·tail m), r .1 .1) (λ z m. h z (List·Memᴰ·tail m)))
+          ∙ λ k. e k ∷ sym e k ∷ ys
+      | no n ↦ insert-before x y ys (omega arith)
+    ]
+
+pub take-inserted : (p d : ℕ) (ys zs : List (ℕ × ℕ)) → Ordered ys → p < 4294967296 → Small ys → ((e : ℕ) → List·Memᴰ (p, e) ys → e ≡ d)
     → takeOut p (insert (p, d) ys ++ zs) ≡ ys ++ (zs ++ (NONE, NONE) ∷ [])
-take-inserted p d [] zs h = ap (λ l. takeOut p (l ++ zs)) (insert-nil (p, d)) ∙ take-here p (p, d) zs refl
-take-inserted p d (y ∷ ys) zs h =
+take-inserted p d [] zs r b s h = ap (λ l. takeOut p (l ++ zs)) (insert-nil (p, d)) ∙ take-here p (p, d) zs refl
+take-inserted p d (y ∷ ys) zs r b s h =
     elim (decLe (key y) (key (p, d))) [
       | yes l ↦
-          ap (λ l. takeOut p (l ++ zs)) (insert-behind (p, d) y ys l)
-          ∙ take-later p y (insert (p, d) ys ++ zs) (h y (List·Memᴰ·head refl))
-          ∙ ap (λ l. y ∷ l) (take-inserted p d ys zs (λ z m. h z (List·Memᴰ·tail m)))
+          elim (ℕ-discrete (y .0) p) [
+            | yes q ↦
+                let e : y .1 ≡ d = h (y .1) (List·Memᴰ·head (λ k. (sym q k, y .1))) in
+                let same : y ≡ (p, d) = λ k. (q k, e k) in
+                ap (λ l. takeOut p (l ++ zs)) (insert-behind (p, d) y ys l)
+                ∙ take-here p y (insert (p, d) ys ++ zs) q
+                ∙ ap (λ l. (l ++ zs) ++ (NONE, NONE) ∷ [])
+                (insert-first (p, d) ys (λ z m. omega (arith, r .0 z m, ap key same), r .1)
+                (λ z m k. key-pair z (p, d) (s z (List·Memᴰ·tail m)) b k))
+                ∙ append-assoc ((p, d) ∷ ys) zs ((NONE, NONE) ∷ [])
+                ∙ λ k. sym same k ∷ (ys ++ (zs ++ (NONE, NONE) ∷ []))
+            | no n ↦
+                ap (λ l. takeOut p (l ++ zs)) (insert-behind (p, d) y ys l)
+                ∙ take-later p y (insert (p, d) ys ++ zs) n
+                ∙ ap (λ l. y ∷ l) (take-inserted p d ys zs (r .1) b (λ z m. s z (List·Memᴰ·tail m)) (λ e m. h e (List·Memᴰ·tail m)))
+          ]
       | no n ↦
           ap (λ l. takeOut p (l ++ zs)) (insert-before (p, d) y ys (omega arith))
           ∙ take-here p (p, d) (y ∷ ys ++ zs) refl
@@ -265,8 +250,9 @@ more-padding : (n : ℕ) (x : ℕ × ℕ) → replicate n x ++ x ∷ [] ≡ repl
 more-padding zero x = refl
 more-padding (suc n) x = ap (λ l. x ∷ l) (more-padding n x)
 
-pub take-row : (K p d : ℕ) (ys : List (ℕ × ℕ)) → length ys < K → ((y : ℕ × ℕ) → List·Memᴰ y ys → y .0 ≢ p) → takeOut p (pad K (insert (p, d) ys)) ≡ pad K ys
-take-row K p d ys l h =
+pub take-row : (K p d : ℕ) (ys : List (ℕ × ℕ)) → length ys < K → Ordered ys → p < 4294967296 → Small ys → ((e : ℕ) → List·Memᴰ (p, e) ys → e ≡ d)
+    → takeOut p (pad K (insert (p, d) ys)) ≡ pad K ys
+take-row K p d ys l r b s h =
     let q : suc (K - length (insert (p, d) ys)) ≡ K - length ys = omega (arith, insert-length (p, d) ys) in
-    take-inserted p d ys (replicate (K - length (insert (p, d) ys)) (NONE, NONE)) h
+    take-inserted p d ys (replicate (K - length (insert (p, d) ys)) (NONE, NONE)) r b s h
     ∙ ap (λ l. ys ++ l) (more-padding (K - length (insert (p, d) ys)) (NONE, NONE) ∙ ap (λ n. replicate n (NONE, NONE)) q)

@@ -11,8 +11,8 @@ use lib.ListN.{length, getD, take, drop}
 use Rattle.network.specs.Network.{Network, nodeCount, neighboursOf, weightsOf}
 use Rattle.network.specs.Accepted.{Accepted}
 use Rattle.network.specs.Distance.{NONE}
-use Rattle.network.specs.Count.{any}
-use Rattle.network.specs.Points.{marked}
+use Rattle.network.specs.Count.{any, count}
+use Rattle.network.specs.Points.{lockers, marked}
 use Rattle.network.specs.Nearest.{key}
 use Rattle.network.specs.Rows.{tableIds, tableDistances}
 use Rattle.rows.specs.Flat.{place, Sized}
@@ -43,26 +43,41 @@ endsBy xs ys p d = not (eqb (getD xs (length xs - 1) 0) NONE) && not (ltb (key (
 unfoldable pub isPlaced : List ℕ → List ℕ → ℕ → ℕ → Bool
 isPlaced xs ys p d = hasWithin xs ys p d || endsBy xs ys p d
 
--- p is one of the first k ids of a row
+-- how many of the first k ids of a row are p
 unfoldable pub isId : List ℕ → ℕ → ℕ → Bool
 isId xs p j = eqb (getD xs j 0) p
 
-unfoldable pub standsAmong : List ℕ → ℕ → ℕ → Bool
-standsAmong xs p k = any (isId xs p) k
+unfoldable pub among : List ℕ → ℕ → ℕ → ℕ
+among xs p k = count (isId xs p) k
 
--- place j follows a place that is no padding, and comes behind it
-unfoldable pub follows : List ℕ → List ℕ → ℕ → Bool
-follows xs ys j = not (eqb (getD xs (j - 1) 0) NONE) && ltb (key (place xs ys (j - 1))) (key (place xs ys j))
+-- the node of the place before j has all its lockers before j
+unfoldable pub wholeBefore : List ℕ → List ℕ → ℕ → Bool
+wholeBefore P xs j = leb (lockers P (getD xs (j - 1) 0)) (among xs (getD xs (j - 1) 0) j)
 
--- 'by distance then node [..]; the rest is NONE in both arrays': place j is half padding, repeats an id, or does not follow the place before it
-unfoldable pub badEntry : List ℕ → List ℕ → ℕ → Bool
-badEntry xs ys j = standsAmong xs (getD xs j 0) j || (ltb 0 j && not (follows xs ys j))
+-- place j repeats the place before it; or it begins a node: the one before has all its lockers, and comes before it
+unfoldable pub repeats : List ℕ → List ℕ → ℕ → Bool
+repeats xs ys j = eqb (getD xs (j - 1) 0) (getD xs j 0) && eqb (getD ys (j - 1) 0) (getD ys j 0)
 
-unfoldable pub badPlace : List ℕ → List ℕ → ℕ → Bool
-badPlace xs ys j = cond (eqb (getD xs j 0) NONE) (not (eqb (getD ys j 0) NONE)) (badEntry xs ys j)
+unfoldable pub begins : List ℕ → List ℕ → List ℕ → ℕ → Bool
+begins P xs ys j = wholeBefore P xs j && ltb (key (place xs ys (j - 1))) (key (place xs ys j))
 
-unfoldable pub badRow : List ℕ → List ℕ → Bool
-badRow xs ys = any (badPlace xs ys) (length xs)
+-- place j follows a place that is no padding: its node is new and begins, or it repeats
+unfoldable pub follows : List ℕ → List ℕ → List ℕ → ℕ → Bool
+follows P xs ys j = not (eqb (getD xs (j - 1) 0) NONE) && cond (eqb (among xs (getD xs j 0) j) 0) (begins P xs ys j) (repeats xs ys j)
+
+-- 'by distance then node [..]; the rest is NONE in both arrays', a node for each of its lockers: place j is half padding, or padding behind a node
+-- that lacks a place; its node has no locker for it, or it does not follow the place before it
+unfoldable pub badEntry : List ℕ → List ℕ → List ℕ → ℕ → Bool
+badEntry P xs ys j = leb (lockers P (getD xs j 0)) (among xs (getD xs j 0) j) || (ltb 0 j && not (follows P xs ys j))
+
+unfoldable pub badPadding : List ℕ → List ℕ → List ℕ → ℕ → Bool
+badPadding P xs ys j = not (eqb (getD ys j 0) NONE) || (ltb 0 j && not (wholeBefore P xs j))
+
+unfoldable pub badPlace : List ℕ → List ℕ → List ℕ → ℕ → Bool
+badPlace P xs ys j = cond (eqb (getD xs j 0) NONE) (badPadding P xs ys j) (badEntry P xs ys j)
+
+unfoldable pub badRow : List ℕ → List ℕ → List ℕ → Bool
+badRow P xs ys = any (badPlace P xs ys) (length xs)
 
 -- p at distance d comes from the row of c over an arc of weight w; over the arc of i at place j; over some arc of i
 unfoldable pub comesFrom : ℕ → List ℕ → List ℕ → ℕ → ℕ → ℕ → ℕ → Bool
@@ -114,7 +129,7 @@ unclosed g K ids dists i = any (asksOver g K ids dists i) (length (neighboursOf 
 -- something is wrong with row i; with some row
 unfoldable pub badNode : Network → List ℕ → ℕ → List ℕ → List ℕ → ℕ → Bool
 badNode g P K ids dists i =
-    badRow (rowPart K i ids) (rowPart K i dists)
+    badRow P (rowPart K i ids) (rowPart K i dists)
     || lacksOwn P (rowPart K i ids) (rowPart K i dists) i
     || unsupported g P K ids dists i
     || unclosed g K ids dists i

@@ -8,14 +8,22 @@ use mathlib.Core.List.{List, List·Memᴰ}
 use lib.ListN.{length}
 use Rattle.network.specs.Network.{Network, Arc, nodeCount}
 use Rattle.network.specs.Walk.{Walk}
-use Rattle.network.specs.Points.{marked}
-use Rattle.network.specs.Nearest.{key, Rising}
+use Rattle.network.specs.Points.{lockers, marked}
+use Rattle.network.specs.Nearest.{key, Ordered, times}
 
--- a row without padding: it rises by distance then node, it has room, and no point stands in it twice
-pub record Sorted (K : ℕ) (xs : List (ℕ × ℕ)) : Type 0 where
-  pub rising : Rising xs
+-- a row is full of what does not come behind (p, d)
+pub record Full (K : ℕ) (xs : List (ℕ × ℕ)) (p d : ℕ) : Type 0 where
+  pub filled : length xs ≡ K
+  pub ends : (y : ℕ × ℕ) → List·Memᴰ y xs → key y ≤ key (p, d)
+
+-- A row without padding: it is in order by distance then node, it has room, and a node stands in it at one distance, once for each of its lockers,
+-- or as often as there is room for at the end of a full row.
+pub record Sorted (P : List ℕ) (K : ℕ) (xs : List (ℕ × ℕ)) : Type 0 where
+  pub ordered : Ordered xs
   pub short : length xs ≤ K
   pub once : (p d e : ℕ) → List·Memᴰ (p, d) xs → List·Memᴰ (p, e) xs → d ≡ e
+  pub most : (p : ℕ) → times p xs ≤ lockers P p
+  pub whole : (p d : ℕ) → List·Memᴰ (p, d) xs → times p xs < lockers P p → Full K xs p d
 
 -- an entry of the row of i is a point, with the sum of a walk
 pub record Sound (g : Network) (P : List ℕ) (i p d : ℕ) : Type 0 where
@@ -26,11 +34,11 @@ pub record Sound (g : Network) (P : List ℕ) (i p d : ℕ) : Type 0 where
 -- (p, d) asks for no place in a row: p stands there and is no farther, or the row is full of what does not come behind (p, d)
 pub data Placed (K : ℕ) (xs : List (ℕ × ℕ)) (p d : ℕ) : Type 0 where
   stands : {e : ℕ} → e ≤ d → List·Memᴰ (p, e) xs → Placed K xs p d
-  full : length xs ≡ K → ((y : ℕ × ℕ) → List·Memᴰ y xs → key y ≤ key (p, d)) → Placed K xs p d
+  full : Full K xs p d → Placed K xs p d
 
 -- 'It holds the K nearest points of node i that can be reached, by distance then node, i's own point first'
 pub record Table (g : Network) (P : List ℕ) (K : ℕ) (T : ℕ → List (ℕ × ℕ)) : Type 0 where
-  pub sorted : (i : ℕ) → i < nodeCount g → Sorted K (T i)
+  pub sorted : (i : ℕ) → i < nodeCount g → Sorted P K (T i)
   pub sound : (i p d : ℕ) → i < nodeCount g → List·Memᴰ (p, d) (T i) → Sound g P i p d
   pub source : (i : ℕ) → i < nodeCount g → marked P i ≡ true → List·Memᴰ (i, 0) (T i)
   pub closed : {i c w : ℕ} → Arc g i c w → (p d : ℕ) → List·Memᴰ (p, d) (T c) → Placed K (T i) p (d + w)
@@ -41,7 +49,7 @@ pub data Support (g : Network) (P : List ℕ) (T : ℕ → List (ℕ × ℕ)) (i
   via : {c w e : ℕ} → Arc g i c w → List·Memᴰ (p, e) (T c) → d ≡ w + e → Support g P T i p d
 
 pub record Local (g : Network) (P : List ℕ) (K : ℕ) (T : ℕ → List (ℕ × ℕ)) : Type 0 where
-  pub sorted : (i : ℕ) → i < nodeCount g → Sorted K (T i)
+  pub sorted : (i : ℕ) → i < nodeCount g → Sorted P K (T i)
   pub supported : (i p d : ℕ) → i < nodeCount g → List·Memᴰ (p, d) (T i) → Support g P T i p d
   pub source : (i : ℕ) → i < nodeCount g → marked P i ≡ true → List·Memᴰ (i, 0) (T i)
   pub closed : {i c w : ℕ} → Arc g i c w → (p d : ℕ) → List·Memᴰ (p, d) (T c) → Placed K (T i) p (d + w)

@@ -1,6 +1,6 @@
 -- A point is put into a row: it goes behind the entries that come before it by distance then node, those behind it move up by one, and the last
--- drops. Document 01, 'The table': 'Insert marks a node [..] brings the table up to date'. Any contents are allowed: on a table that the check would
--- deny the row is free.
+-- drops. Document 01, 'The table', with Ask 8: 'Insert adds one', and 'brings the table up to date'. Any contents are allowed: on a table that the
+-- check would deny the row is free.
 -- Assumes nothing.
 use Prim.Native.Nat.{ℕ, zero, suc, _+_, _*_, _≤_, _<_}
 use mathlib.Core.Path.{_≡_}

@@ -1,14 +1,20 @@
--- One more point, or one fewer: document 01, 'The table', 'Insert marks a node, remove clears one'.
+-- One more locker at a node, or one fewer: document 01, 'The table', and Ask 8: 'Insert adds one, remove takes one'.
 -- Assumes nothing.
-use Prim.Native.Nat.{ℕ}
+use Prim.Native.Nat.{ℕ, suc, _<_}
 use mathlib.Core.Path.{_≡_}
-use mathlib.Core.Bool.{true, false}
 use mathlib.Core.Logic.{_≢_}
 use mathlib.Core.List.{List}
-use Rattle.network.specs.Points.{marked}
+use Rattle.network.specs.Network.{Network}
+use Rattle.network.specs.Distance.{NONE, dist}
+use Rattle.network.specs.Points.{lockers}
+use Rattle.network.specs.Nearest.{key, before}
 
--- P′ marks x besides the points of P
+-- P′ has one more locker at x than P
 pub record Added (P P′ : List ℕ) (x : ℕ) : Type 0 where
-  pub off : marked P x ≡ false
-  pub on : marked P′ x ≡ true
-  pub others : (y : ℕ) → y ≢ x → marked P′ y ≡ marked P y
+  pub one : lockers P′ x ≡ suc (lockers P x)
+  pub others : (y : ℕ) → y ≢ x → lockers P′ y ≡ lockers P y
+
+-- the row of i has a place for one more locker at x: it is reached, and fewer than K stand at or before its key
+pub record Gains (g : Network) (P : List ℕ) (K i x : ℕ) : Type 0 where
+  pub reach : dist g i x < NONE
+  pub room : before g P i NONE (suc (key (x, dist g i x))) < K

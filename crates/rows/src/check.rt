@@ -1,16 +1,20 @@
 // The table check: document 01, 'The table'. Each row agrees with the rows of its neighbours, arc by arc; sums are made in 64 bits, so that any
 // contents can be tested. No scratch.
 ghost use mathlib.Core.Path.{_≡_};
-ghost use Prim.Native.Nat.{_+_, _≤_, _<_};
-ghost use lib.ListN.{length};
+ghost use Prim.Native.Nat.{_+_, _-_, _≤_, _<_};
+ghost use lib.Dec.{ltb};
+ghost use lib.ListN.{length, getD};
+ghost use Rattle.network.specs.Nearest.{key};
+ghost use Rattle.rows.specs.Flat.{place};
 ghost use Rattle.network.specs.Network.{network, nodeCount};
-ghost use Rattle.rows.specs.Check.{holds, hasWithin, endsBy, isPlaced, standsAmong, follows, badPlace, badRow, HasRows, comesFrom, comesOver, isOwn, isSupported, unsupported, lacksOwn, asksFor, asks, asksFrom, unclosed, badNode, isTable, CanRead, CanCheck};
+ghost use Rattle.rows.specs.Check.{among, holds, hasWithin, endsBy, isPlaced, wholeBefore, repeats, begins, follows, badPadding, badEntry, badPlace, badRow, HasRows, comesFrom, comesOver, isOwn, isSupported, unsupported, lacksOwn, asksFor, asks, asksFrom, unclosed, badNode, isTable, CanRead, CanCheck};
 use crate::order::long;
 use crate::order::precedes;
 use crate::rows;
 use network::arcs;
 use network::arcs::wide;
 use network::distance::Distance;
+use network::points::lockers_at;
 
 // Whether a row holds p at distance d.
 fn holds(ids: &[u32], distances: &[u32], p: u32, d: u32) -> bool
@@ -71,64 +75,125 @@ fn is_placed(ids: &[u32], distances: &[u32], p: u32, d: u64) -> bool
     ends_by(ids, distances, p, d)
 }
 
-// Whether p is one of the first k ids of a row.
-fn stands_among(ids: &[u32], p: u32, k: usize) -> bool
-    requires { ⌜ k ≤ length (now ids) ⌝ }
-    ensures { λ r. ⌜ r ≡ standsAmong (now (ids .entry)) p k ⌝ }
+// Whether the node of the place before j has all its lockers before j. A single one stands there.
+fn whole_before(points: &[u8], ids: &[u32], j: usize) -> bool
+    requires { ⌜ (0 < j) × (j ≤ length (now ids)) ⌝ }
+    ensures { λ r. ⌜ r ≡ wholeBefore (now (points .entry)) (now (ids .entry)) j ⌝ }
 {
-    let mut j = 0;
-    while j < k {
-        let q = ids[j];
-        if q == p {
-            return true;
-        }
-        j += 1;
+    let q = ids[j - 1];
+    let all = lockers_at(points, q);
+    if all <= 1 {
+        return true;
     }
-    false
+    let c = rows::among(ids, q, j);
+    all <= c
 }
 
-// Whether place j comes behind the place before it, and that is no padding.
-fn follows(ids: &[u32], distances: &[u32], j: usize) -> bool
+// Whether place j comes behind the place before it.
+fn rises(ids: &[u32], distances: &[u32], j: usize) -> bool
     requires { ⌜ (0 < j) × (j < length (now ids)) × (length (now distances) ≡ length (now ids)) ⌝ }
-    ensures { λ r. ⌜ r ≡ follows (now (ids .entry)) (now (distances .entry)) j ⌝ }
+    ensures { λ r. ⌜ r ≡ ltb (key (place (now (ids .entry)) (now (distances .entry)) (j - 1))) (key (place (now (ids .entry)) (now (distances .entry)) j)) ⌝ }
 {
     let q = ids[j - 1];
     let e = long(distances[j - 1]);
     let p = ids[j];
     let d = long(distances[j]);
-    if q == Distance::NONE {
-        return false;
-    }
     precedes(q, e, p, d)
 }
 
-// Whether place j of a row is half padding, repeats an id, or does not follow the place before it.
-fn bad_place(ids: &[u32], distances: &[u32], j: usize) -> bool
-    requires { ⌜ (j < length (now ids)) × (length (now distances) ≡ length (now ids)) ⌝ }
-    ensures { λ r. ⌜ r ≡ badPlace (now (ids .entry)) (now (distances .entry)) j ⌝ }
+// Whether place j, of a node that is new, comes behind the place before it, whose node has all its lockers.
+fn begins(points: &[u8], ids: &[u32], distances: &[u32], j: usize) -> bool
+    requires { ⌜ (0 < j) × (j < length (now ids)) × (length (now distances) ≡ length (now ids)) ⌝ }
+    ensures { λ r. ⌜ r ≡ begins (now (points .entry)) (now (ids .entry)) (now (distances .entry)) j ⌝ }
 {
+    if whole_before(points, ids, j) {
+        return rises(ids, distances, j);
+    }
+    false
+}
+
+// Whether place j repeats the place before it.
+fn repeats(ids: &[u32], distances: &[u32], j: usize) -> bool
+    requires { ⌜ (0 < j) × (j < length (now ids)) × (length (now distances) ≡ length (now ids)) ⌝ }
+    ensures { λ r. ⌜ r ≡ repeats (now (ids .entry)) (now (distances .entry)) j ⌝ }
+{
+    let q = ids[j - 1];
+    let e = distances[j - 1];
     let p = ids[j];
     let d = distances[j];
-    if p == Distance::NONE {
-        return d != Distance::NONE;
+    if q != p {
+        return false;
     }
-    if stands_among(ids, p, j) {
+    e == d
+}
+
+// Whether place j follows the place before it, and that is no padding: its node is new and begins, or it repeats; c is how often it stands before j.
+fn follows(points: &[u8], ids: &[u32], distances: &[u32], j: usize, c: usize) -> bool
+    requires { ⌜ (0 < j) × (j < length (now ids)) × (length (now distances) ≡ length (now ids)) × (c ≡ among (now ids) (getD (now ids) j 0) j) ⌝ }
+    ensures { λ r. ⌜ r ≡ follows (now (points .entry)) (now (ids .entry)) (now (distances .entry)) j ⌝ }
+{
+    let q = ids[j - 1];
+    if q == Distance::NONE {
+        return false;
+    }
+    if c == 0 {
+        return begins(points, ids, distances, j);
+    }
+    repeats(ids, distances, j)
+}
+
+// Whether a place of padding is half padding, or comes behind a node that lacks a place.
+fn bad_padding(points: &[u8], ids: &[u32], distances: &[u32], j: usize) -> bool
+    requires { ⌜ (j < length (now ids)) × (length (now distances) ≡ length (now ids)) ⌝ }
+    ensures { λ r. ⌜ r ≡ badPadding (now (points .entry)) (now (ids .entry)) (now (distances .entry)) j ⌝ }
+{
+    let d = distances[j];
+    if d != Distance::NONE {
         return true;
     }
     if j == 0 {
         return false;
     }
-    !follows(ids, distances, j)
+    !whole_before(points, ids, j)
 }
 
-// Whether a row is not sorted by distance then node, repeats an id, or is not padded with NONE in both arrays.
-fn bad_row(ids: &[u32], distances: &[u32]) -> bool
+// Whether the node of a place has no locker for it, or the place does not follow the one before it.
+fn bad_entry(points: &[u8], ids: &[u32], distances: &[u32], j: usize) -> bool
+    requires { ⌜ (j < length (now ids)) × (length (now distances) ≡ length (now ids)) ⌝ }
+    ensures { λ r. ⌜ r ≡ badEntry (now (points .entry)) (now (ids .entry)) (now (distances .entry)) j ⌝ }
+{
+    let p = ids[j];
+    let all = lockers_at(points, p);
+    let c = rows::among(ids, p, j);
+    if all <= c {
+        return true;
+    }
+    if j == 0 {
+        return false;
+    }
+    !follows(points, ids, distances, j, c)
+}
+
+// Whether something is wrong with place j of a row.
+fn bad_place(points: &[u8], ids: &[u32], distances: &[u32], j: usize) -> bool
+    requires { ⌜ (j < length (now ids)) × (length (now distances) ≡ length (now ids)) ⌝ }
+    ensures { λ r. ⌜ r ≡ badPlace (now (points .entry)) (now (ids .entry)) (now (distances .entry)) j ⌝ }
+{
+    let p = ids[j];
+    if p == Distance::NONE {
+        return bad_padding(points, ids, distances, j);
+    }
+    bad_entry(points, ids, distances, j)
+}
+
+// Whether a row is not sorted by distance then node, a node for each of its lockers, or is not padded with NONE in both arrays.
+fn bad_row(points: &[u8], ids: &[u32], distances: &[u32]) -> bool
     requires { ⌜ length (now distances) ≡ length (now ids) ⌝ }
-    ensures { λ r. ⌜ r ≡ badRow (now (ids .entry)) (now (distances .entry)) ⌝ }
+    ensures { λ r. ⌜ r ≡ badRow (now (points .entry)) (now (ids .entry)) (now (distances .entry)) ⌝ }
 {
     let mut j = 0;
     while j < ids.len() {
-        if bad_place(ids, distances, j) {
+        if bad_place(points, ids, distances, j) {
             return true;
         }
         j += 1;
@@ -200,7 +265,7 @@ fn is_own(points: &[u8], i: usize, p: u32, d: u32) -> bool
     if d != 0 {
         return false;
     }
-    mark == 1
+    0 < mark
 }
 
 // Whether p at distance d is padding, node i's own point, or comes to it over an arc.
@@ -275,7 +340,7 @@ fn lacks_own(points: &[u8], ids: &[u32], distances: &[u32], i: usize) -> bool
     ensures { λ r. ⌜ r ≡ lacksOwn (now (points .entry)) (now (ids .entry)) (now (distances .entry)) i ⌝ }
 {
     let mark = points[i];
-    if mark != 1 {
+    if mark == 0 {
         return false;
     }
     !holds(ids, distances, i as u32, 0)
@@ -367,7 +432,7 @@ fn bad_node(
 {
     let near = rows::row_of(ids, i, places);
     let far = rows::row_of(distances, i, places);
-    if bad_row(near, far) {
+    if bad_row(points, near, far) {
         return true;
     }
     if lacks_own(points, near, far, i) {

@@ -4,10 +4,11 @@ ghost use mathlib.Core.Path.{_≡_};
 ghost use lib.ListN.{length};
 ghost use Rattle.rows.specs.Put.{HasRow};
 ghost use Rattle.rows.specs.Take.{PointAt, TakenAt, TakenOut, TakenOutOfRow};
+use crate::rows;
 use network::distance::Distance;
 
 // The first place of a row that holds p; the row's length where none does.
-pub fn place_of_point(ids: &[u32], p: u32) -> usize
+fn place_of_point(ids: &[u32], p: u32) -> usize
     ensures { λ r. ⌜ PointAt (now (ids .entry)) p r ⌝ }
 {
     let mut at = 0;
@@ -36,23 +37,34 @@ fn take_at(row: &mut [u32], place: usize)
     }
 }
 
-// Takes a point out of a row. Returns whether it stood there.
-fn take_out(ids: &mut [u32], distances: &mut [u32], p: u32) -> bool
+// Takes one locker of a node out of a row that has all of them, and there is one. Returns whether it has.
+fn take_out(ids: &mut [u32], distances: &mut [u32], p: u32, all: usize) -> bool
     requires { ⌜ length (now distances) ≡ length (now ids) ⌝ }
-    ensures { λ r. ⌜ TakenOut (now (ids .entry)) (now (distances .entry)) (now (ids .exit)) (now (distances .exit)) p r ⌝ }
+    ensures { λ r. ⌜ TakenOut (now (ids .entry)) (now (distances .entry)) (now (ids .exit)) (now (distances .exit)) p all r ⌝ }
 {
+    let c = rows::among(ids, p, ids.len());
+    if c != all {
+        return false;
+    }
     let at = place_of_point(ids, p);
     take_at(ids, at);
     take_at(distances, at);
-    at < ids.len()
+    true
 }
 
 // The same for row i of a table with k places to a row: the row is lent as the part that it is.
-pub fn take_out_of_row(ids: &mut [u32], distances: &mut [u32], k: usize, i: usize, p: u32) -> bool
+pub fn take_out_of_row(
+    ids: &mut [u32],
+    distances: &mut [u32],
+    k: usize,
+    i: usize,
+    p: u32,
+    all: usize,
+) -> bool
     requires { ⌜ HasRow (now ids) (now distances) k i ⌝ }
-    ensures { λ r. ⌜ TakenOutOfRow (now (ids .entry)) (now (distances .entry)) (now (ids .exit)) (now (distances .exit)) k i p r ⌝ }
+    ensures { λ r. ⌜ TakenOutOfRow (now (ids .entry)) (now (distances .entry)) (now (ids .exit)) (now (distances .exit)) k i p all r ⌝ }
 {
     let a = i * k;
     let e = a + k;
-    take_out(&mut ids[a..e], &mut distances[a..e], p)
+    take_out(&mut ids[a..e], &mut distances[a..e], p, all)
 }

@@ -1,7 +1,7 @@
 -- What a search from q has found where it has settled all that it comes to: with all the marks, and with some of them.
 -- Assumes nothing.
-use Prim.Native.Nat.{ℕ, _<_}
-use mathlib.Core.Path.{_≡_, ap, _∙_}
+use Prim.Native.Nat.{ℕ, suc, _<_}
+use mathlib.Core.Path.{_≡_}
 use mathlib.Core.Bool.{true, false}
 use mathlib.Core.Logic.{_≢_, inl}
 use mathlib.Core.List.{List}
@@ -11,27 +11,24 @@ use Rattle.network.specs.Network.{Network, nodeCount}
 use Rattle.network.specs.Accepted.{Accepted}
 use Rattle.network.specs.Walk.{Walk}
 use Rattle.network.specs.Distance.{NONE, dist}
-use Rattle.network.specs.Points.{marked, isNearer, countNearer, isListed, isExpanded}
-use Rattle.network.specs.Nearest.{key, Nearer, before, isBefore}
-use Rattle.network.proofs.Counts.{count-mono, without, without-other, count-without}
+use Rattle.network.specs.Points.{lockers, marked, countNearer, isListed, isExpanded}
+use Rattle.network.specs.Nearest.{key, Nearer, before}
+use borrow.Author.Tests.{ltb-true}
 use Rattle.network.proofs.Distances.{dist-walk, dist-symmetric}
-use Rattle.network.proofs.Rank.{Near, nearer-passes, passes-before}
+use Rattle.network.proofs.Rank.{Near, before-step, before-most}
 use Rattle.expansion.proofs.Search.{Explored, closed-leads, finished}
 use Rattle.searches.proofs.Beaten.{Unbeaten, Part, unbeaten-closed, expanded-unbeaten}
 use Rattle.searches.proofs.Listed.{listed-parts, lazy-open}
 use Rattle.searches.proofs.Finds.{Met, eager-finds}
 
 -- a point does not come before itself
-pub before-less : {g : Network} {P : List ℕ} {i e p : ℕ} → Nearer g P i e p → before g P i e (key (p, dist g i p)) < countNearer g P i e
-unfolding before countNearer
-before-less {g} {P} {i} {e} {p} h =
+pub before-less : {g : Network} → Accepted g → {P : List ℕ} {i e p : ℕ} → Nearer g P i e p → before g P i e (key (p, dist g i p)) < countNearer g P i e
+before-less {g} ok {P} {i} {e} {p} h =
     omega (
       arith,
-      count-mono (isBefore g P i e (key (p, dist g i p))) (without (isNearer g P i e) p) (nodeCount g)
-          (λ x l a.
-          let b = passes-before (key (p, dist g i p)) l a in
-          without-other (isNearer g P i e) p x (λ s. omega (arith, b .first, ap (λ (y : ℕ). key (y, dist g i y)) s)) ∙ nearer-passes (b .nearer)),
-      count-without (isNearer g P i e) p (nodeCount g) (h .inside) (nearer-passes h),
+      before-step ok P i e p h,
+      before-most g P i e (suc (key (p, dist g i p))),
+      ltb-true 0 (lockers P p) (h .point),
     )
 
 -- with the marks P: each point that is listed, but for one on q, is among the k that are found from a node that is settled at its distance
@@ -50,7 +47,7 @@ module _ {g : Network} (ok : Accepted g) (P : List ℕ) (q k : ℕ) (Settled : �
       record {
         node = f .node;
         settled = all (f .node) (f .met) (omega (arith, f .reach));
-        near = record { nearer = n; few = omega (arith, before-less n, rw (← e) at (f .few)) };
+        near = record { nearer = n; few = omega (arith, before-less ok n, rw (← e) at (f .few)) };
       }
 
   -- so each listed point is flagged, where the site's own is, and those that are found from a settled node are

@@ -15,8 +15,8 @@ use Rattle.network.specs.Accepted.{Accepted}
 use Rattle.network.specs.Walk.{Walk}
 use Rattle.network.specs.Distance.{NONE, dist}
 use Rattle.network.proofs.Tests.{and-parts, and-intro}
-use Rattle.network.specs.Points.{marked, isNearer, countNearer, isExpanded}
-use Rattle.network.proofs.Counts.{count-mono}
+use Rattle.network.specs.Points.{lockers, marked, isNearer, countNearer, isExpanded}
+use Rattle.network.proofs.Totals.{sum-le, sum-mono}
 use Rattle.network.proofs.Distances.{Next, dist-at-most, dist-walk, dist-symmetric}
 use Rattle.network.proofs.Rank.{nearer-passes, passes-nearer}
 use Rattle.network.proofs.Prefix.{count-next}
@@ -32,9 +32,12 @@ Unbeaten g M q k m = Beaten g M q k m → ⊥
 pub decBeaten : (g : Network) (M : List ℕ) (q k m : ℕ) → Dec (Beaten g M q k m)
 decBeaten g M q k m = decLe k (countNearer g M m (dist g m q))
 
--- every mark of M is a mark of P
+-- M has no more lockers at a node than P
 abbrev pub Part : List ℕ → List ℕ → Type 0
-Part M P = (x : ℕ) → marked M x ≡ true → marked P x ≡ true
+Part M P = (x : ℕ) → lockers M x ≤ lockers P x
+
+pub part-marked : (M P : List ℕ) (x : ℕ) → Part M P → marked M x ≡ true → marked P x ≡ true
+part-marked M P x sub m = lt-ltb 0 (lockers P x) (omega (arith, ltb-true 0 (lockers M x) m, sub x))
 
 -- with more marks no fewer are nearer
 pub beaten-part : (g : Network) (M P : List ℕ) (q k m : ℕ) → Part M P → Beaten g M q k m → Beaten g P q k m
@@ -42,10 +45,10 @@ unfolding countNearer
 beaten-part g M P q k m sub h =
     omega (
       arith,
-      count-mono (isNearer g M m (dist g m q)) (isNearer g P m (dist g m q)) (nodeCount g)
+      sum-le (isNearer g M m (dist g m q)) (isNearer g P m (dist g m q)) (lockers M) (lockers P) (nodeCount g)
           (λ x h a.
           let r = passes-nearer {P = M} h a in
-          nearer-passes {P = P} (record { inside = h; point = sub x (r .point); less = r .less })),
+          (nearer-passes {P = P} (record { inside = h; point = part-marked M P x sub (r .point); less = r .less }), sub x)),
     )
 
 pub unbeaten-part : (g : Network) (M P : List ℕ) (q k m : ℕ) → Part M P → Unbeaten g P q k m → Unbeaten g M q k m
@@ -55,7 +58,7 @@ unbeaten-part g M P q k m sub n b = n (beaten-part g M P q k m sub b)
 pub nearer-farther : (g : Network) (M : List ℕ) (m d e : ℕ) → d ≤ e → countNearer g M m d ≤ countNearer g M m e
 unfolding countNearer
 nearer-farther g M m d e h =
-    count-mono (isNearer g M m d) (isNearer g M m e) (nodeCount g)
+    sum-mono (isNearer g M m d) (isNearer g M m e) (lockers M) (nodeCount g)
     (λ x l a.
     let r = passes-nearer {e = d} l a in
     nearer-passes {e = e} (record { inside = l; point = r .point; less = omega (arith, r .less) }))

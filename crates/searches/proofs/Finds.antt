@@ -8,18 +8,16 @@ use mathlib.Core.Logic.{_≢_, _⊎_, inl, inr}
 use mathlib.Core.List.{List}
 use native.Mathlib.Decide.{ℕ-discrete, decLt}
 use native.Mathlib.Omega.{arith}
-use borrow.Author.Tests.{ltb-true}
-use Rattle.network.specs.Network.{Network, Arc, nodeCount}
+use Rattle.network.specs.Network.{Network, Arc}
 use Rattle.network.specs.Accepted.{Accepted}
 use Rattle.network.specs.Distance.{NONE, dist}
-use Rattle.network.proofs.Tests.{and-parts}
-use Rattle.network.specs.Points.{marked, isNearer, countNearer, isOtherNearer, othersNearer, isListed}
-use Rattle.network.proofs.Counts.{count-mono, count-but}
+use Rattle.network.specs.Points.{countNearer, isListed}
+use Rattle.network.specs.Nearest.{Nearer}
 use Rattle.network.proofs.Distances.{Previous, dist-at-most, dist-self, dist-symmetric, dist-triangle, dist-arc, dist-next, dist-previous}
-use Rattle.network.proofs.Rank.{passes-nearer}
+use Rattle.network.proofs.Rank.{count-nearer-mono, others-nearly, others-part}
 use Rattle.expansion.proofs.Search.{Through, Leads}
 use Rattle.searches.proofs.Beaten.{Beaten, Unbeaten, decBeaten, unbeaten-closed}
-use Rattle.searches.proofs.Listed.{Lists, listed-parts, other-nearer, own-unbeaten}
+use Rattle.searches.proofs.Listed.{Lists, listed-parts, own-unbeaten}
 
 -- an arc from an unbeaten node, on a shortest way from q
 pub record Behind (g : Network) (P : List ℕ) (q k c : ℕ) : Type 0 where
@@ -70,25 +68,19 @@ module _ {g : Network} (ok : Accepted g) (P : List ℕ) (q k p : ℕ) (h : Lists
       let t = dist-triangle ok p c x (omega (arith, r .rest)) (omega (arith, dist-at-most g c q)) in
       omega (arith, t .most, r .sum, dist-symmetric ok p q, dist-symmetric ok c q)
 
-  other : (c x : ℕ) → On g q p c → x ≢ p → isNearer g P c (dist g c q) x ≡ true → isOtherNearer g P p (dist g p q) x ≡ true
-  unfolding isNearer
-  other c x r n a =
-      let b = and-parts (marked P x) _ a in
-      other-nearer g P p (dist g p q) x (b .0) n (nearer-too c x r (ltb-true (dist g c x) (dist g c q) (b .1)))
+  nearer-there : (c x : ℕ) → On g q p c → Nearer g P c (dist g c q) x → Nearer g P p (dist g p q) x
+  nearer-there c x r a = record { inside = a .inside; point = a .point; less = nearer-too c x r (a .less) }
 
-  -- so at most k marks are nearer to it than q
+  -- so at most k lockers are nearer to it than q
   few-nearer : (c : ℕ) → On g q p c → countNearer g P c (dist g c q) ≤ k
-  unfolding countNearer othersNearer
   few-nearer c r =
-      omega (
-        arith,
-        h .few,
-        count-but (isNearer g P c (dist g c q)) (isOtherNearer g P p (dist g p q)) p (nodeCount g) (λ x n a. other c x r n a),
-      )
+      omega (arith, h .few, others-nearly g P p (dist g p q), counted c r)
+    where
+      counted : (c : ℕ) → On g q p c → countNearer g P c (dist g c q) ≤ countNearer g P p (dist g p q)
+      counted c r = count-nearer-mono g P c p (dist g c q) (dist g p q) (λ x a. nearer-there c x r a)
 
   -- and where it is beaten, p is among them
   among : (c : ℕ) → On g q p c → Beaten g P q k c → dist g c p < dist g c q
-  unfolding countNearer othersNearer
   among c r b =
       elim (decLt (dist g c p) (dist g c q)) [
         | yes l ↦ l
@@ -97,8 +89,8 @@ module _ {g : Network} (ok : Accepted g) (P : List ℕ) (q k p : ℕ) (h : Lists
             (omega (
               arith,
               h .few,
-              count-mono (isNearer g P c (dist g c q)) (isOtherNearer g P p (dist g p q)) (nodeCount g)
-                  (λ x i a. other c x r (λ e. n (rw e at (passes-nearer i a .less))) a),
+              others-part g P p (dist g p q) P c (dist g c q)
+                  (λ x a. (λ e. n (rw e at (a .less)), omega arith, nearer-there c x r a)),
             ))
       ]
 

@@ -13,10 +13,10 @@ use Rattle.network.specs.Accepted.{Accepted}
 use Rattle.network.specs.Distance.{NONE, dist}
 use Rattle.network.proofs.Tests.{and-parts, and-intro}
 use Rattle.network.proofs.Distances.{dist-self}
-use Rattle.network.specs.Points.{marked, isNearer, countNearer, isOtherNearer, othersNearer, verified, isListed}
-use Rattle.network.proofs.Counts.{count-mono, count-none}
-use Rattle.network.proofs.Rank.{passes-nearer}
-use Rattle.searches.proofs.Beaten.{Unbeaten, Part}
+use Rattle.network.specs.Points.{lockers, marked, isNearer, countNearer, othersAt, othersNearer, verified, isListed}
+use Rattle.network.proofs.Totals.{sum-none}
+use Rattle.network.proofs.Rank.{others-part}
+use Rattle.searches.proofs.Beaten.{Unbeaten, Part, part-marked}
 
 -- the parts of the test
 pub record Lists (g : Network) (P : List ℕ) (q k p : ℕ) : Type 0 where
@@ -45,21 +45,17 @@ listed-parts g P q k p = (
   λ h. and-intro (marked P p) _ (h .mark) (verified-parts g P p q k .1 (h .reach, h .few)),
 )
 
--- a point that is not p and nearer to p than d
-pub other-nearer : (g : Network) (P : List ℕ) (p d x : ℕ) → marked P x ≡ true → x ≢ p → dist g p x < d → isOtherNearer g P p d x ≡ true
-unfolding isOtherNearer isNearer
-other-nearer g P p d x a n h = and-intro (not (eqb x p)) _ (ap not (ne-eqb x p n)) (and-intro (marked P x) _ a (lt-ltb (dist g p x) d h))
-
 -- a listed point that is not among the marks M is not beaten by M
 pub lazy-open : (g : Network) (P M : List ℕ) (q k p : ℕ) → isListed g P q k p ≡ true → Part M P → marked M p ≡ false → Unbeaten g M q k p
-unfolding countNearer othersNearer
 lazy-open g P M q k p e sub un b =
     let h = listed-parts g P q k p .0 e in
     let l =
-    count-mono (isNearer g M p (dist g p q)) (isOtherNearer g P p (dist g p q)) (nodeCount g)
-    (λ x i a.
-    let r = passes-nearer {P = M} i a in
-    other-nearer g P p (dist g p q) x (sub x (r .point)) (λ j. false≢true (sym un ∙ ap (marked M) (sym j) ∙ r .point)) (r .less))
+    others-part g P p (dist g p q) M p (dist g p q)
+    (λ x r. (
+      λ j. false≢true (sym un ∙ ap (marked M) (sym j) ∙ r .point),
+      sub x,
+      record { inside = r .inside; point = part-marked M P x sub (r .point); less = r .less },
+    ))
     in
     omega (arith, h .few)
 
@@ -71,16 +67,16 @@ module _ {g : Network} (ok : Accepted g) (P : List ℕ) (q k : ℕ) (some : 1 �
       let z = dist-self ok q in
       omega (
         arith,
-        count-none (isNearer g P q (dist g q q)) (nodeCount g)
-            (λ x l a. omega (arith, ltb-true (dist g q x) (dist g q q) (and-parts (marked P x) _ a .1))),
+        sum-none (isNearer g P q (dist g q q)) (lockers P) (nodeCount g)
+            (λ x l a. absurd (omega (arith, ltb-true (dist g q x) (dist g q q) (and-parts (marked P x) _ a .1)))),
       )
 
   no-others : othersNearer g P q (dist g q q) ≡ 0
-  unfolding othersNearer isOtherNearer isNearer
+  unfolding othersNearer isNearer
   no-others =
       let z = dist-self ok q in
-      count-none (isOtherNearer g P q (dist g q q)) (nodeCount g)
-      (λ x l a. omega (arith, ltb-true (dist g q x) (dist g q q) (and-parts (marked P x) _ (and-parts (not (eqb x q)) _ a .1) .1)))
+      sum-none (isNearer g P q (dist g q q)) (othersAt P q) (nodeCount g)
+      (λ x l a. absurd (omega (arith, ltb-true (dist g q x) (dist g q q) (and-parts (marked P x) _ a .1))))
 
   -- a site that is a point is listed for itself
   pub own-listed : (isListed g P q k q ≡ true) ↔ (marked P q ≡ true)

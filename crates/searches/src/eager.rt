@@ -65,7 +65,7 @@ pub fn own_flag(points: &[u8], q: u32) -> u32
 {
     let at = wide(q);
     let mark = points[at];
-    if mark == 1 {
+    if 0 < mark {
         return 1;
     }
     0

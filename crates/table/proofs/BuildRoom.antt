@@ -6,7 +6,7 @@ use mathlib.Core.Path.{_≡_, refl, ap, _∙_}
 use mathlib.Core.Logic.{_≢_}
 use mathlib.Core.List.{List}
 use native.Mathlib.Decide.{ℕ-discrete}
-use native.Mathlib.Nat.{mul-zero, mul-suc, mul-add, mul-comm}
+use native.Mathlib.Nat.{mul-zero, mul-suc, mul-add, mul-comm, mul-le-mul-left}
 use native.Mathlib.Omega.{arith}
 use lib.ListN.{getD}
 use Rattle.network.specs.Network.{Network, nodeCount, arcCount, startOf}
@@ -24,20 +24,20 @@ module _ (g : Network) (K : ℕ) (xs ys : List ℕ) where
   free-same zero h = refl
   free-same (suc n) h = rw (h n (omega arith), free-same n (λ x l. h x (omega arith)))
 
-  -- the row of v takes one entry
-  pub free-less : (v n : ℕ) → v < n → getD xs v 0 < K → getD ys v 0 ≡ getD xs v 0 + 1 → ((x : ℕ) → x < n → x ≢ v → getD ys x 0 ≡ getD xs x 0)
-      → freeArcs g K ys n + degree g v ≡ freeArcs g K xs n
+  -- the row of v takes one entry or more
+  pub free-less : (v n : ℕ) → v < n → getD xs v 0 < getD ys v 0 → getD ys v 0 ≤ K → ((x : ℕ) → x < n → x ≢ v → getD ys x 0 ≡ getD xs x 0)
+      → freeArcs g K ys n + degree g v ≤ freeArcs g K xs n
   unfolding freeArcs
   free-less v zero l a e h = absurd (omega arith)
   free-less v (suc n) l a e h =
       elim (ℕ-discrete n v) [
         | yes q ↦
-            let s : K - getD xs n 0 ≡ suc (K - getD ys n 0) = omega (arith, ap (λ (x : ℕ). getD xs x 0) q, ap (λ (x : ℕ). getD ys x 0) q) in
+            let s : suc (K - getD ys n 0) ≤ K - getD xs n 0 = omega (arith, ap (λ (x : ℕ). getD xs x 0) q, ap (λ (x : ℕ). getD ys x 0) q) in
             omega (
               arith,
               free-same n (λ x i. h x (omega arith) (omega arith)),
               ap (degree g) q,
-              ap (λ (x : ℕ). degree g n * x) s,
+              mul-le-mul-left (degree g n) s,
               mul-suc (degree g n) (K - getD ys n 0),
             )
         | no m ↦

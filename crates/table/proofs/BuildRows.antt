@@ -8,15 +8,13 @@ use mathlib.Core.List.{List}
 use native.Mathlib.Nat.{zero-add}
 use native.Mathlib.Omega.{arith}
 use lib.ListN.{length, getD, set}
-use borrow.Rule.Slice.PartMut.{midOf, putMid, mid-len, put-same, set-mid-at}
+use borrow.Rule.Slice.PartMut.{midOf, putMid, mid-len, put-same}
 use Rattle.network.proofs.Lends.{mid-length, mid-at}
 use Rattle.rows.specs.Check.{rowPart}
-use Rattle.table.specs.Build.{Stands, HasPlace, NoPlace, HasPlaceIs, HasPlaceAtIs, Takes, Refuses, CanLook, HasPlaceAt, NoPlaceAt, CanAppend, TakesAt, RefusesAt}
+use Rattle.table.specs.Build.{Stands, HasPlace, NoPlace, HasPlaceIs, HasPlaceAtIs, Takes, Refuses, CanLook, HasPlaceAt, NoPlaceAt, CanAppend, TakesAt, RefusesAt, run, often}
+use Rattle.table.proofs.Runs.{put-run}
 
 module _ (a e : ℕ) (xs : List ℕ) where
-  part-set : (j v : ℕ) (zs : List ℕ) → e ≤ length xs → j < e - a → zs ≡ set (midOf a (e - a) xs) j v → putMid a (e - a) xs zs ≡ set xs (a + j) v
-  part-set j v zs fits h q = ap (putMid a (e - a) xs) q ∙ set-mid-at a (e - a) j xs v (omega (arith, mid-len a e xs fits))
-
   stands-part : (size p : ℕ) → size ≤ e - a → Stands (midOf a (e - a) xs) 0 size p → Stands xs a size p
   stands-part size p h s = record { index = s .index; low = s .low; is = sym (mid-at a (e - a) xs (s .index) (omega (arith, s .low))) ∙ rw (zero-add (s .index)) at (s .is) }
 
@@ -61,19 +59,32 @@ place-look {xs} {ids} {K} {i} look w size p l word is part h =
     }
 
 -- the row of node i is appended to
-module _ {xs ids dists : List ℕ} {K i : ℕ} (can : CanAppend xs ids dists K i) (a e w size p d : ℕ) (from : a ≡ i * K) (end : e ≡ a + K) (word : w ≡ i)
+module _ {xs ids dists : List ℕ} {K i all : ℕ} (can : CanAppend xs ids dists K i all) (a e w size p d : ℕ) (from : a ≡ i * K) (end : e ≡ a + K) (word : w ≡ i)
     (is : size ≡ getD xs w 0) where
-  pub takes-at : {zs es : List ℕ} → Takes (midOf a (e - a) ids) zs (midOf a (e - a) dists) es size p d
-      → TakesAt xs (set xs w (getD xs w 0 + 1)) ids (putMid a (e - a) ids zs) dists (putMid a (e - a) dists es) K i p d
-  takes-at {zs} {es} t =
+  -- the row has K places
+  long : length (midOf a (e - a) ids) ≡ K
+  long = omega (arith, mid-len a e ids (omega (arith, can .look .ids-room)))
+
+  pub takes-at : {zs es : List ℕ} {then : ℕ} → Takes (midOf a (e - a) ids) zs (midOf a (e - a) dists) es size p d all then
+      → TakesAt xs (set xs w then) ids (putMid a (e - a) ids zs) dists (putMid a (e - a) dists es) K i p d all
+  takes-at {zs} {es} {then} t =
       let s = size-is (can .look) a e w size p from end word is in
-      let l : size < e - a = omega (arith, t .place .free, mid-len a e ids (omega (arith, can .look .ids-room))) in
       let q : a + size ≡ i * K + getD xs i 0 = omega (arith, s) in
+      let o : often (length (midOf a (e - a) ids)) size all ≡ often K (getD xs i 0) all = rw (long, s) refl in
+      let n = often K (getD xs i 0) all in
+      let l : size + n ≤ e - a = omega (arith, s, can .look .size) in
+      let c : then ≡ getD xs i 0 + n = omega (arith, t .count, s, o) in
       record {
         place = place-at (can .look) a e w size p from end word is (t .place);
-        words = rw (word);
-        new-ids = part-set a e ids size p zs (omega (arith, can .look .ids-room)) l (t .new-ids) ∙ ap (λ (x : ℕ). set ids x p) q;
-        new-dists = part-set a e dists size d es (omega (arith, can .dists-room)) l (t .new-dists) ∙ ap (λ (x : ℕ). set dists x d) q;
+        words = ap (λ (x : ℕ). set xs x then) word ∙ ap (set xs i) c;
+        new-ids =
+            ap (putMid a (e - a) ids) (t .new-ids ∙ ap (λ (x : ℕ). run (midOf a (e - a) ids) size x p) o)
+            ∙ put-run a e ids (omega arith) (omega (arith, can .look .ids-room)) size n p l
+            ∙ ap (λ (x : ℕ). run ids x n p) q;
+        new-dists =
+            ap (putMid a (e - a) dists) (t .new-dists ∙ ap (λ (x : ℕ). run (midOf a (e - a) dists) size x d) o)
+            ∙ put-run a e dists (omega arith) (omega (arith, can .dists-room)) size n d l
+            ∙ ap (λ (x : ℕ). run dists x n d) q;
       }
 
   pub refuses-at : {zs es : List ℕ} → Refuses (midOf a (e - a) ids) zs (midOf a (e - a) dists) es size p

@@ -1,6 +1,6 @@
 -- What the loops of build's steps keep, turn by turn.
 -- Assumes nothing.
-use Prim.Native.Nat.{ℕ, zero, suc, _+_, _*_, _≤_}
+use Prim.Native.Nat.{ℕ, zero, suc, _+_, _-_, _*_, _≤_, _<_}
 use mathlib.Core.Path.{_≡_, refl, sym, ap, _∙_}
 use mathlib.Core.Logic.{_≢_, _⊎_, inl, inr, ⊎-elim}
 use mathlib.Core.Bool.{Bool, true, false, not, false≢true, true≢false}
@@ -11,7 +11,7 @@ use lib.ListN.{length, getD, drop}
 use lib.Seq.{getD-drop}
 use Rattle.expansion.specs.Queue.{Queue}
 use Rattle.expansion.specs.Area.{Blank}
-use Rattle.table.specs.Build.{Stands, StandsIs, HasPlaceIs, CanLook, HasPlaceAt, NoPlaceAt}
+use Rattle.table.specs.Build.{Stands, StandsIs, HasPlaceIs, CanLook, HasPlaceAt, NoPlaceAt, Appended, run, often}
 
 -- stands: the j ids from place `from` on are not p
 pub stands-none : {ids : List ℕ} {from p : ℕ} → Stands ids from 0 p → ⊥
@@ -28,6 +28,29 @@ stands-more {ids} {from} {j} lacks other s =
 pub place-is : {ids : List ℕ} {size p : ℕ} {r : Bool} → size ≢ length ids → size ≤ length ids → StandsIs ids size p r → HasPlaceIs ids size p (not r)
 place-is {r = true} n h s = record { yes = λ e. absurd (false≢true e); no = λ e. record { why = inr (s .yes refl) } }
 place-is {r = false} n h s = record { yes = λ e. record { free = omega arith; lacks = s .no refl }; no = λ e. absurd (true≢false e) }
+
+-- append: a row without a place for p stays, and one that has a place has taken p as often as there is room for
+pub append-none : {ids dists : List ℕ} {size p d all : ℕ} {r : Bool} → HasPlaceIs ids size p r → not r ≡ true → Appended ids ids dists dists size p d all size
+append-none {r = true} h e = absurd (false≢true e)
+append-none {r = false} h e = record { taken = λ l. absurd (omega arith); refused = λ l. record { place = h .no refl; new-ids = refl; new-dists = refl } }
+
+pub append-some : {ids ids′ dists dists′ : List ℕ} {size p d all end : ℕ} {r : Bool} → HasPlaceIs ids size p r → not r ≡ false → 0 < all
+    → end ≡ size + often (length ids) size all → ids′ ≡ run ids size (end - size) p → dists′ ≡ run dists size (end - size) d
+    → Appended ids ids′ dists dists′ size p d all end
+append-some {r = false} h e some c a b = absurd (true≢false e)
+append-some {ids} {dists = dists} {size = size} {p = p} {d = d} {all = all} {end = end} {r = true} h e some c a b =
+    let q : end - size ≡ often (length ids) size all = omega arith in
+    record {
+      taken =
+          λ l.
+          record {
+            place = h .yes refl;
+            count = c;
+            new-ids = a ∙ ap (λ (n : ℕ). run ids size n p) q;
+            new-dists = b ∙ ap (λ (n : ℕ). run dists size n d) q;
+          };
+      refused = λ l. absurd (omega (arith, h .yes refl .free));
+    }
 
 -- offer: words that stay say the same of a row's places
 module _ {xs ys ids : List ℕ} {K i p : ℕ} (same : getD ys i 0 ≡ getD xs i 0) where

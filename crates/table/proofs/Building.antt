@@ -2,38 +2,34 @@
 -- where its row needs it no more it is dropped, else the row takes it and the node's neighbours are offered it. Both keep the table partial. An
 -- offer that is taken has the exact distance.
 -- Assumes nothing.
-use Prim.Native.Nat.{ℕ, _+_, _≤_, _<_}
+use Prim.Native.Nat.{ℕ, zero, suc, _+_, _-_, _≤_, _<_, min}
 use mathlib.Core.Path.{_≡_, refl, sym, ap, _∙_}
 use mathlib.Core.Logic.{_≢_, _⊎_, inl, inr, ⊎-elim}
-use mathlib.Core.List.{List, [], _∷_, _++_, List·Memᴰ, List·Memᴰ·head, List·Memᴰ·tail, List·Memᴰ·cases-cons, List·Memᴰ·append-cases, List·Memᴰ·not-nil, Memᴰ·append-left, Memᴰ·append-right, Memᴰ·cast}
+use mathlib.Core.List.{List, [], _∷_, _++_, List·Memᴰ, List·Memᴰ·head, List·Memᴰ·append-cases, Memᴰ·append-left, Memᴰ·append-right, Memᴰ·cast}
 use native.Mathlib.Decide.{ℕ-discrete}
 use native.Mathlib.Omega.{arith}
-use lib.ListN.{length, length-append}
+use lib.ListN.{length, replicate}
+use borrow.Author.Tests.{ltb-true}
 use Rattle.network.specs.Network.{Network, Arc, nodeCount}
 use Rattle.network.specs.Accepted.{Accepted}
 use Rattle.network.specs.Walk.{step}
 use Rattle.network.specs.Distance.{NONE, dist}
-use Rattle.network.specs.Nearest.{key, Rising, Nearer}
+use Rattle.network.specs.Points.{lockers}
+use Rattle.network.specs.Nearest.{key, Nearer}
 use Rattle.network.proofs.NodeArcs.{arc-source}
 use Rattle.network.proofs.Distances.{dist-at-most, dist-walk, dist-zero}
-use Rattle.network.proofs.Rank.{key-other}
+use Rattle.network.proofs.Rows.{padding}
 use Rattle.rows.specs.Exact.{Sorted, Sound, Placed, stands, full, Table}
 use Rattle.rows.proofs.Partial.{Partial, no-shorter}
+use Rattle.table.proofs.Append.{appended-sorted}
 
--- ---- A list with one entry more.
-last-cases : (y x : ℕ × ℕ) (xs : List (ℕ × ℕ)) → List·Memᴰ y (xs ++ x ∷ []) → List·Memᴰ y xs ⊎ (y ≡ x)
-last-cases y x xs m =
-    ⊎-elim
-    (λ a. inl a)
-    (λ b. ⊎-elim (λ e. inr e) (λ n. absurd (List·Memᴰ·not-nil n)) (List·Memᴰ·cases-cons b))
-    (List·Memᴰ·append-cases xs m)
+-- ---- A list with some more of one entry.
+more-cases : (n : ℕ) (y x : ℕ × ℕ) (xs : List (ℕ × ℕ)) → List·Memᴰ y (xs ++ replicate n x) → List·Memᴰ y xs ⊎ (y ≡ x)
+more-cases n y x xs m = ⊎-elim (λ a. inl a) (λ b. inr (padding n x y b)) (List·Memᴰ·append-cases xs m)
 
-last-rising : (x : ℕ × ℕ) (xs : List (ℕ × ℕ)) → Rising xs → ((y : ℕ × ℕ) → List·Memᴰ y xs → key y < key x) → Rising (xs ++ x ∷ [])
-last-rising x [] r h = (λ y m. absurd (List·Memᴰ·not-nil m), tt)
-last-rising x (z ∷ xs) r h = (
-  λ y m. ⊎-elim (λ a. r .0 y a) (λ e. omega (arith, h z (List·Memᴰ·head refl), ap key e)) (last-cases y x xs m),
-  last-rising x xs (r .1) (λ y m. h y (List·Memᴰ·tail m)),
-)
+some-like : (n : ℕ) (x : ℕ × ℕ) → 1 ≤ n → List·Memᴰ x (replicate n x)
+some-like zero x h = absurd (omega arith)
+some-like (suc n) x h = List·Memᴰ·head refl
 
 record Member (xs : List (ℕ × ℕ)) : Type 0 where
   it : ℕ × ℕ
@@ -61,10 +57,10 @@ pub record TakenOut (Held Left : ℕ → ℕ → ℕ → Type 0) (i p d : ℕ) :
   pub old : (j q e : ℕ) → Left j q e → Held j q e
   pub kept : (j q e : ℕ) → Held j q e → Left j q e ⊎ ((j ≡ i) × (q ≡ p) × (e ≡ d))
 
--- it is taken: the row of i has it as its last entry, and the nodes that i's arcs lead to are offered it, but for those whose rows have the point or
--- are full
-pub record RowTakes (g : Network) (T T′ : ℕ → List (ℕ × ℕ)) (i p d : ℕ) : Type 0 where
-  pub here : T′ i ≡ T i ++ (p, d) ∷ []
+-- it is taken: the row of i has it behind its entries, once for each locker or as often as there is room for, and the nodes that i's arcs lead to
+-- are offered it, but for those whose rows have the point or are full
+pub record RowTakes (g : Network) (P : List ℕ) (K : ℕ) (T T′ : ℕ → List (ℕ × ℕ)) (i p d : ℕ) : Type 0 where
+  pub here : T′ i ≡ T i ++ replicate (min (lockers P p) (K - length (T i))) (p, d)
   pub other : (j : ℕ) → j < nodeCount g → j ≢ i → T′ j ≡ T j
 
 pub record OverArc (g : Network) (i p d j q e : ℕ) : Type 0 where
@@ -122,15 +118,15 @@ module _ {g : Network} (ok : Accepted g) {P : List ℕ} {K : ℕ} where
     stands-placed e m = stands {e = e} (omega (arith, b .passed i (offer .node) (p, e) m, b .ahead i p d (o .was))) m
 
     pub full-placed : length (T i) ≡ K → Placed K (T i) p d
-    full-placed l = full l (λ y m. omega (arith, b .passed i (offer .node) y m, b .ahead i p d (o .was)))
+    full-placed l = full (record { filled = l; ends = λ y m. omega (arith, b .passed i (offer .node) y m, b .ahead i p d (o .was)) })
 
     -- a row that needs (i, 0) no more has it
     own-placed : (j : ℕ) → j < nodeCount g → Placed K (T j) j 0 → List·Memᴰ (j, 0) (T j)
     own-placed j h (stands {e} l m) = let z : e ≡ 0 = omega arith in rw z at m
-    own-placed j h (full l a) =
-        let y = some-member (T j) (omega arith) in
+    own-placed j h (full a) =
+        let y = some-member (T j) (omega (arith, a .filled)) in
         let s = b .rows .sound j (y .it .0) (y .it .1) h (y .mem) in
-        let z : y .it .1 ≡ 0 = omega (arith, a (y .it) (y .mem), fits j h) in
+        let z : y .it .1 ≡ 0 = omega (arith, a .ends (y .it) (y .mem), fits j h) in
         let q : j ≡ y .it .0 = dist-zero ok j (y .it .0) (omega (arith, dist-walk ok (s .walk) .most)) in
         Memᴰ·cast (λ k. (q k, sym z k)) (y .mem)
 
@@ -175,7 +171,10 @@ module _ {g : Network} (ok : Accepted g) {P : List ℕ} {K : ℕ} where
                 (λ j q e x. omega (arith, o .least j q e x, fits q (b .held j q e x .sound .inside))) free lacks r,
           )
 
-      module _ {T′ : ℕ → List (ℕ × ℕ)} {New : ℕ → ℕ → ℕ → Type 0} (t : RowTakes g T T′ i p d) (f : OffersOn g K T′ Left New i p d) where
+      module _ {T′ : ℕ → List (ℕ × ℕ)} {New : ℕ → ℕ → ℕ → Type 0} (t : RowTakes g P K T T′ i p d) (f : OffersOn g K T′ Left New i p d) where
+        abbrev room : ℕ
+        room = min (lockers P p) (K - length (T i))
+
         new-cases : (j : ℕ) → j < nodeCount g → (y : ℕ × ℕ) → List·Memᴰ y (T′ j) → List·Memᴰ y (T j) ⊎ ((j ≡ i) × (y ≡ (p, d)))
         new-cases j h y m =
             elim (ℕ-discrete j i) [
@@ -183,54 +182,26 @@ module _ {g : Network} (ok : Accepted g) {P : List ℕ} {K : ℕ} where
                   ⊎-elim
                   (λ a. inl (rw e a))
                   (λ q. inr (e, q))
-                  (last-cases y (p, d) (T i) (rw (ap T′ e ∙ t .here) at m))
+                  (more-cases room y (p, d) (T i) (rw (ap T′ e ∙ t .here) at m))
               | no n ↦ inl (rw (t .other j h n) at m)
             ]
 
         new-old : (j : ℕ) → j < nodeCount g → (y : ℕ × ℕ) → List·Memᴰ y (T j) → List·Memᴰ y (T′ j)
         new-old j h y m =
             elim (ℕ-discrete j i) [
-              | yes e ↦ rw (ap T′ e ∙ t .here) (Memᴰ·append-left ((p, d) ∷ []) (rw e at m))
+              | yes e ↦ rw (ap T′ e ∙ t .here) (Memᴰ·append-left (replicate room (p, d)) (rw e at m))
               | no n ↦ rw (t .other j h n) m
             ]
 
         new-last : List·Memᴰ (p, d) (T′ i)
-        new-last = rw (t .here) (Memᴰ·append-right (T i) (List·Memᴰ·head refl))
+        new-last = rw (t .here) (Memᴰ·append-right (T i) (some-like room (p, d) (omega (arith, free, ltb-true 0 (lockers P p) (offer .sound .point)))))
 
-        behind : (y : ℕ × ℕ) → List·Memᴰ y (T i) → key y < key (p, d)
-        behind y m =
-            let s = b .rows .sound i (y .0) (y .1) (offer .node) m in
-            let n : y .0 ≢ p = λ e. lacks (y .1) (Memᴰ·cast (λ k. (sym e k, y .1)) m) in
-            omega (
-              arith,
-              b .passed i (offer .node) y m,
-              b .ahead i p d (o .was),
-              key-other y (p, d) (fits (y .0) (s .inside)) (fits p (offer .sound .inside)) n,
-            )
-
-        row-sorted : Sorted K (T i ++ (p, d) ∷ [])
+        row-sorted : Sorted P K (T i ++ replicate room (p, d))
         row-sorted =
-            let s = b .rows .sorted i (offer .node) in
-            record {
-              rising = last-rising (p, d) (T i) (s .rising) behind;
-              short = simp length-append (omega arith);
-              once =
-                  λ q x y m n.
-                  ⊎-elim
-                  (λ a.
-                  ⊎-elim
-                  (λ c. s .once q x y a c)
-                  (λ c. absurd (lacks x (Memᴰ·cast (λ k. (ap (λ (z : ℕ × ℕ). z .0) (sym c) k, x)) a)))
-                  (last-cases (q, y) (p, d) (T i) n))
-                  (λ a.
-                  ⊎-elim
-                  (λ c. absurd (lacks y (Memᴰ·cast (λ k. (ap (λ (z : ℕ × ℕ). z .0) (sym a) k, y)) c)))
-                  (λ c. ap (λ (z : ℕ × ℕ). z .1) a ∙ sym (ap (λ (z : ℕ × ℕ). z .1) c))
-                  (last-cases (q, y) (p, d) (T i) n))
-                  (last-cases (q, x) (p, d) (T i) m);
-            }
+            appended-sorted (b .rows .sorted i (offer .node)) p d free lacks
+            (λ y m. omega (arith, b .passed i (offer .node) y m, b .ahead i p d (o .was)))
 
-        new-sorted : (j : ℕ) → j < nodeCount g → Sorted K (T′ j)
+        new-sorted : (j : ℕ) → j < nodeCount g → Sorted P K (T′ j)
         new-sorted j h =
             elim (ℕ-discrete j i) [
               | yes e ↦ rw (ap T′ e ∙ t .here) row-sorted
@@ -239,9 +210,9 @@ module _ {g : Network} (ok : Accepted g) {P : List ℕ} {K : ℕ} where
 
         new-placed : (j q e : ℕ) → j < nodeCount g → Placed K (T j) q e → Placed K (T′ j) q e
         new-placed j q e h (stands l m) = stands l (new-old j h _ m)
-        new-placed j q e h (full l a) =
-            let n : j ≢ i = λ z. absurd (omega (arith, ap (λ (x : ℕ). length (T x)) z)) in
-            rw (t .other j h n) (full l a)
+        new-placed j q e h (full a) =
+            let n : j ≢ i = λ z. absurd (omega (arith, free, a .filled, ap (λ (x : ℕ). length (T x)) z)) in
+            rw (t .other j h n) (full a)
 
         new-held : (j q e : ℕ) → j < nodeCount g → Held j q e → New j q e ⊎ List·Memᴰ (q, e) (T′ j)
         new-held j q e h n =
@@ -260,7 +231,7 @@ module _ {g : Network} (ok : Accepted g) {P : List ℕ} {K : ℕ} where
         -- a row that has p, or is full, needs no offer of p that comes from here
         served : (j w : ℕ) → j < nodeCount g → Served K (T′ j) p → Placed K (T′ j) p (d + w)
         served j w h (has {e} m) = stands {e = e} (omega (arith, new-passed j h (p, e) m)) m
-        served j w h (filled l) = full l (λ y m. omega (arith, new-passed j h y m))
+        served j w h (filled l) = full (record { filled = l; ends = λ y m. omega (arith, new-passed j h y m) })
 
         new-closed : {j c w : ℕ} → Arc g j c w → (q e : ℕ) → List·Memᴰ (q, e) (T′ c) → Placed K (T′ j) q (e + w) ⊎ New j q (e + w)
         new-closed {j} {c} {w} r q e m =

@@ -2,22 +2,22 @@
 -- entries, the places behind a row's entries are empty, and the queue has room. An offer that is popped is refused or taken by its row; both
 -- keep all this, and the room falls. When the queue is empty, the arrays are the table.
 -- Assumes nothing.
-use Prim.Native.Nat.{ℕ, zero, suc, _+_, _-_, _*_, _≤_, _<_}
+use Prim.Native.Nat.{ℕ, zero, _+_, _-_, _*_, _≤_, _<_}
 use mathlib.Core.Path.{_≡_, sym, ap, _∙_}
-use mathlib.Core.Logic.{_≢_, inl, inr, ⊎-elim}
+use mathlib.Core.Logic.{_≢_, _⊎_, inl, inr, ⊎-elim}
 use mathlib.Core.Bool.{true}
-use mathlib.Core.List.{List, [], _∷_, _++_, List·Memᴰ, List·Memᴰ·not-nil, Memᴰ·cast}
+use mathlib.Core.List.{List, [], _++_, List·Memᴰ, List·Memᴰ·not-nil, Memᴰ·cast}
 use native.Mathlib.Decide.{ℕ-discrete, decLt}
-use native.Mathlib.Nat.{add-zero}
 use native.Mathlib.Omega.{arith}
 use lib.ListN.{length, getD, drop, replicate, length-set, getD-replicate}
+use borrow.Author.Tests.{ltb-true}
 use lib.Seq.{getD-set-same, getD-set-other, drop-set-lt}
 use Rattle.network.specs.Network.{Network, nodeCount, arcCount, neighboursOf, weightsOf}
 use Rattle.network.specs.Accepted.{Accepted}
 use Rattle.network.specs.Walk.{here}
 use Rattle.network.specs.Distance.{NONE}
 use Rattle.network.specs.Nearest.{key}
-use Rattle.network.specs.Points.{marked}
+use Rattle.network.specs.Points.{lockers, marked}
 use Rattle.network.specs.Rows.{row}
 use Rattle.network.proofs.Ranges.{arc-at, arc-place, neighbours-length}
 use Rattle.network.proofs.NumberZero.{accepted-ranges}
@@ -31,7 +31,7 @@ use Rattle.expansion.proofs.EnteredLaws.{entered-held}
 use Rattle.rows.specs.Exact.{Placed}
 use Rattle.rows.specs.Flat.{place, places, rowAt, Sized, IsTable}
 use Rattle.table.specs.Offer.{offerOf, arcOffer}
-use Rattle.table.specs.Build.{Stands, NoPlaceAt, CanAppend, TakesAt, RefusesAt, CanOfferOn, Offered, Seeded, CanSpread}
+use Rattle.table.specs.Build.{Stands, NoPlaceAt, CanAppend, TakesAt, RefusesAt, CanOfferOn, Offered, Seeded, CanSpread, often}
 use Rattle.rows.proofs.Exact.{exact-row}
 use Rattle.rows.proofs.Flat.{places-length, place-in, in-place, places-padded, places-same}
 use Rattle.network.proofs.Lends.{row-fits}
@@ -40,6 +40,7 @@ use Rattle.rows.proofs.PutLaws.{places-nil}
 use Rattle.table.proofs.Building.{Offer, Building, TakenOut, RowTakes, OverArc, Served, has, filled, OffersOn, building-same, building-done, building-dropped, building-taken, offer, stands-placed, full-placed, taken-exact}
 use Rattle.table.proofs.BuildSteps.{place-or}
 use Rattle.table.proofs.BuildRoom.{freeArcs, free-same, free-less, free-all}
+use Rattle.table.proofs.Runs.{run-length, run-in, run-out, places-run}
 
 -- the row of i, without its padding
 abbrev pub rowsOf : ℕ → List ℕ → List ℕ → List ℕ → ℕ → List (ℕ × ℕ)
@@ -59,14 +60,6 @@ pub record Filling (g : Network) (P : List ℕ) (K : ℕ) (xs ids dists : List �
   pub last : ℕ
   pub built : Building g P K (rowsOf K xs ids dists) (HeldIn (nodeCount g) xs len) last
   pub left : len + freeArcs g K xs (nodeCount g) ≤ nodeCount g + K * arcCount g
-
--- places of one entry more
-places-more : (ids dists : List ℕ) (at k : ℕ) → places ids dists at (suc k) ≡ places ids dists at k ++ place ids dists (at + k) ∷ []
-unfolding places
-places-more ids dists at zero = ap (λ (x : ℕ). place ids dists x ∷ []) (sym (add-zero at))
-places-more ids dists at (suc k) =
-    let q : suc at + k ≡ at + suc k = omega arith in
-    ap (λ (l : List (ℕ × ℕ)). place ids dists at ∷ l) (rw q at (places-more ids dists (suc at) k))
 
 -- a point that stands among the ids is in the row, with the distance at its place
 stands-in : (ids dists : List ℕ) (at size p : ℕ) (s : Stands ids at size p) → List·Memᴰ (p, getD dists (at + s .index) 0) (places ids dists at size)
@@ -109,7 +102,15 @@ module _ {g : Network} {P xs ys ids dists : List ℕ} {K len : ℕ} (c : CanSpre
       let f = c .can .accepted .few in
       record {
         rows = record {
-          sorted = λ i h. record { rising = tt; short = omega arith; once = λ p d e m n. absurd (List·Memᴰ·not-nil m) };
+          sorted =
+              λ i h.
+              record {
+                ordered = tt;
+                short = omega arith;
+                once = λ p d e m n. absurd (List·Memᴰ·not-nil m);
+                most = λ p. omega arith;
+                whole = λ p d m l. absurd (List·Memᴰ·not-nil m);
+              };
           sound = λ i p d h m. absurd (List·Memᴰ·not-nil m);
           source =
               λ i h a.
@@ -198,13 +199,17 @@ module _ {g : Network} {P xs ys ids dists : List ℕ} {K len : ℕ} (ok : Accept
   free-popped = free-same g K xs ys (nodeCount g) (λ x h. pop .before x h)
 
   -- what `append_at` requires
-  pub can-append : K ≤ 17 → CanAppend ys ids dists K i
+  some-lockers : 0 < lockers P p
+  some-lockers = ltb-true 0 (lockers P p) (offer ok some built taken-out .sound .point)
+
+  pub can-append : K ≤ 17 → CanAppend ys ids dists K i (lockers P p)
   can-append most =
       let r = row-fits i (nodeCount g) K popped-node in
       record {
         look = record { word = omega (arith, popped-node, pop .size, f .room); size = popped-size; ids-room = omega (arith, f .sized .all-ids) };
         places = most;
         dists-room = omega (arith, f .sized .all-dists);
+        some = some-lockers;
       }
 
   -- a point that stands in the row
@@ -238,24 +243,28 @@ module _ {g : Network} {P xs ys ids dists : List ℕ} {K len : ℕ} (ok : Accept
     pub refused-less : len - 1 + freeArcs g K zs (nodeCount g) < len + freeArcs g K xs (nodeCount g)
     refused-less = omega (arith, free-popped, ap (λ (l : List ℕ). freeArcs g K l (nodeCount g)) (r .words))
 
-  module _ {zs ids′ dists′ : List ℕ} (r : TakesAt ys zs ids ids′ dists dists′ K i p d) where
+  module _ {zs ids′ dists′ : List ℕ} (r : TakesAt ys zs ids ids′ dists dists′ K i p d (lockers P p)) where
     abbrev size : ℕ
     size = getD ys i 0
+
+    -- how often the row takes it
+    abbrev new : ℕ
+    new = often K size (lockers P p)
 
     in-words : i < length ys
     in-words = omega (arith, popped-node, pop .size, f .room)
 
-    word-here : getD zs i 0 ≡ size + 1
-    word-here = ap (λ (l : List ℕ). getD l i 0) (r .words) ∙ getD-set-same ys i (size + 1) 0 in-words
+    word-here : getD zs i 0 ≡ size + new
+    word-here = ap (λ (l : List ℕ). getD l i 0) (r .words) ∙ getD-set-same ys i (size + new) 0 in-words
 
     word-other : (j : ℕ) → j ≢ i → getD zs j 0 ≡ getD ys j 0
-    word-other j n = ap (λ (l : List ℕ). getD l j 0) (r .words) ∙ getD-set-other ys i j (size + 1) 0 n
+    word-other j n = ap (λ (l : List ℕ). getD l j 0) (r .words) ∙ getD-set-other ys i j (size + new) 0 n
 
     same-queue : drop (nodeCount g) zs ≡ drop (nodeCount g) ys
-    same-queue = ap (drop (nodeCount g)) (r .words) ∙ drop-set-lt (nodeCount g) ys i (size + 1) popped-node
+    same-queue = ap (drop (nodeCount g)) (r .words) ∙ drop-set-lt (nodeCount g) ys i (size + new) popped-node
 
     same-words : length zs ≡ length xs
-    same-words = ap length (r .words) ∙ length-set ys i (size + 1) ∙ pop .size
+    same-words = ap length (r .words) ∙ length-set ys i (size + new) ∙ pop .size
 
     free-row : length (rowsOf K ys ids dists i) < K
     free-row = omega (arith, places-length ids dists (i * K) size, r .place .free)
@@ -265,14 +274,20 @@ module _ {g : Network} {P xs ys ids dists : List ℕ} {K len : ℕ} (ok : Accept
         let a = in-place ids dists (i * K) size (p, e) m in
         r .place .lacks (record { index = a .index; low = a .low; is = sym (ap (λ (z : ℕ × ℕ). z .0) (a .is)) })
 
-    free-taken : freeArcs g K zs (nodeCount g) + degree g i ≡ freeArcs g K xs (nodeCount g)
-    free-taken = free-less g K ys zs i (nodeCount g) popped-node (r .place .free) word-here (λ x h n. word-other x n) ∙ free-popped
+    free-taken : freeArcs g K zs (nodeCount g) + degree g i ≤ freeArcs g K xs (nodeCount g)
+    free-taken =
+        omega (
+          arith,
+          free-less g K ys zs i (nodeCount g) popped-node (omega (arith, word-here, r .place .free, some-lockers)) (omega (arith, word-here, r .place .free))
+              (λ x h n. word-other x n),
+          free-popped,
+        )
 
     arcs-of : length (neighboursOf g i) ≡ degree g i
     arcs-of = neighbours-length (accepted-ranges ok) i popped-node
 
     same-ids : length ids′ ≡ nodeCount g * K
-    same-ids = ap length (r .new-ids) ∙ length-set ids (i * K + size) p ∙ f .sized .all-ids
+    same-ids = ap length (r .new-ids) ∙ run-length ids (i * K + size) p new ∙ f .sized .all-ids
 
     sizes-fit : (j : ℕ) → j < nodeCount g → getD zs j 0 ≤ K
     sizes-fit j h =
@@ -305,34 +320,35 @@ module _ {g : Network} {P xs ys ids dists : List ℕ} {K len : ℕ} (ok : Accept
               };
         }
 
-    -- the place that is taken
-    at-here : place ids′ dists′ (i * K + size) ≡ (p, d)
-    at-here =
+    -- the places that are taken
+    at-here : (j : ℕ) → size ≤ j → j < size + new → place ids′ dists′ (i * K + j) ≡ (p, d)
+    at-here j low high =
         let c = row-fits i (nodeCount g) K popped-node in
         λ k. (
-          (ap (λ (l : List ℕ). getD l (i * K + size) 0) (r .new-ids) ∙ getD-set-same ids (i * K + size) p 0 (omega (arith, f .sized .all-ids, r .place .free))) k,
-          (ap (λ (l : List ℕ). getD l (i * K + size) 0) (r .new-dists) ∙ getD-set-same dists (i * K + size) d 0 (omega (arith, f .sized .all-dists, r .place .free))) k,
+          (ap (λ (l : List ℕ). getD l (i * K + j) 0) (r .new-ids)
+              ∙ run-in ids (i * K + size) p new (i * K + j) (omega (arith, f .sized .all-ids, r .place .free)) (omega arith) (omega arith)) k,
+          (ap (λ (l : List ℕ). getD l (i * K + j) 0) (r .new-dists)
+              ∙ run-in dists (i * K + size) d new (i * K + j) (omega (arith, f .sized .all-dists, r .place .free)) (omega arith) (omega arith)) k,
         )
 
-    at-other : (j : ℕ) → j ≢ i * K + size → place ids′ dists′ j ≡ place ids dists j
+    at-other : (j : ℕ) → (j < i * K + size) ⊎ (i * K + size + new ≤ j) → place ids′ dists′ j ≡ place ids dists j
     at-other j n = λ k. (
-      (ap (λ (l : List ℕ). getD l j 0) (r .new-ids) ∙ getD-set-other ids (i * K + size) j p 0 n) k,
-      (ap (λ (l : List ℕ). getD l j 0) (r .new-dists) ∙ getD-set-other dists (i * K + size) j d 0 n) k,
+      (ap (λ (l : List ℕ). getD l j 0) (r .new-ids) ∙ run-out ids (i * K + size) p new j n) k,
+      (ap (λ (l : List ℕ). getD l j 0) (r .new-dists) ∙ run-out dists (i * K + size) d new j n) k,
     )
 
-    apart : (j m : ℕ) → j ≢ i → m < K → j * K + m ≢ i * K + size
-    apart j m n l = ⊎-elim (λ h. omega arith) (λ h. omega (arith, r .place .free)) (rows-apart j i m K n l)
+    apart : (j m : ℕ) → j ≢ i → m < K → (j * K + m < i * K + size) ⊎ (i * K + size + new ≤ j * K + m)
+    apart j m n l = ⊎-elim (λ h. inl (omega arith)) (λ h. inr (omega (arith, r .place .free))) (rows-apart j i m K n l)
 
     module _ {ws : List ℕ} {then : ℕ} (o : Offered g zs ws ids′ K (len - 1) then i p d (length (neighboursOf g i))) where
-      row-takes : RowTakes g (rowsOf K ys ids dists) (rowsOf K ws ids′ dists′) i p d
+      row-takes : RowTakes g P K (rowsOf K ys ids dists) (rowsOf K ws ids′ dists′) i p d
       row-takes =
-          let next : size + 1 ≡ suc size = omega arith in
           record {
             here =
-                ap (places ids′ dists′ (i * K)) (o .frame .words i popped-node ∙ word-here ∙ next)
-                ∙ places-more ids′ dists′ (i * K) size
-                ∙ ap (λ (x : ℕ × ℕ). places ids′ dists′ (i * K) size ++ x ∷ []) at-here
-                ∙ ap (λ (l : List (ℕ × ℕ)). l ++ (p, d) ∷ []) (places-same ids′ dists′ ids dists (i * K) size (λ j h. at-other (i * K + j) (omega arith)));
+                ap (places ids′ dists′ (i * K)) (o .frame .words i popped-node ∙ word-here)
+                ∙ places-run ids′ dists′ (p, d) (i * K) size new at-here
+                ∙ ap (λ (l : List (ℕ × ℕ)). l ++ replicate new (p, d)) (places-same ids′ dists′ ids dists (i * K) size (λ j h. at-other (i * K + j) (inl (omega arith))))
+                ∙ ap (λ (x : ℕ). rowsOf K ys ids dists i ++ replicate (often K x (lockers P p)) (p, d)) (sym (places-length ids dists (i * K) size));
             other =
                 λ j h n.
                 ap (places ids′ dists′ (j * K)) (o .frame .words j h ∙ word-other j n)
@@ -398,7 +414,7 @@ module _ {g : Network} {P xs ys ids dists : List ℕ} {K len : ℕ} (ok : Accept
           record {
             sized = record {
               all-ids = same-ids;
-              all-dists = ap length (r .new-dists) ∙ length-set dists (i * K + size) d ∙ f .sized .all-dists;
+              all-dists = ap length (r .new-dists) ∙ run-length dists (i * K + size) d new ∙ f .sized .all-dists;
             };
             room = omega (arith, f .room, same-words, o .frame .size);
             queue = o .queue;
@@ -410,7 +426,7 @@ module _ {g : Network} {P xs ys ids dists : List ℕ} {K len : ℕ} (ok : Accept
                       let a = ap (λ (x : ℕ). x * K) e in
                       let b = ap (λ (x : ℕ). getD zs x 0) e in
                       let c = ap (λ (x : ℕ). getD ys x 0) e in
-                      at-other (j * K + m) (omega (arith, word-here))
+                      at-other (j * K + m) (inr (omega (arith, word-here)))
                       ∙ f .padding j m h (omega (arith, pop .before j h, word-here)) k
                   | no n ↦ at-other (j * K + m) (apart j m n k) ∙ f .padding j m h (omega (arith, word-other j n, pop .before j h)) k
                 ];

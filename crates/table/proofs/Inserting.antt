@@ -9,8 +9,7 @@ use mathlib.Core.Logic.{_≢_}
 use mathlib.Core.List.{List}
 use native.Mathlib.Decide.{ℕ-discrete}
 use native.Mathlib.Omega.{arith}
-use lib.ListN.{length, getD, take, set}
-use borrow.Author.Tests.{eqb-false}
+use lib.ListN.{length, getD, take}
 use Rattle.network.specs.Network.{Network, nodeCount, neighboursOf}
 use Rattle.network.specs.Accepted.{Accepted}
 use Rattle.network.specs.Distance.{NONE, dist, Upto}
@@ -20,9 +19,7 @@ use Rattle.network.specs.Rows.{row, rowsChanged}
 use Rattle.network.proofs.Counts.{count-mono, count-none, without, without-other, count-without, without-not}
 use Rattle.network.proofs.Distances.{dist-walk, dist-symmetric, dist-at-most}
 use Rattle.network.proofs.Lends.{row-fits}
-use Rattle.network.proofs.Rank.{Near}
-use Rattle.network.proofs.Rows.{row-length, row-members}
-use Rattle.network.proofs.Prefix.{near-next}
+use Rattle.network.proofs.Rows.{row-length}
 use Rattle.expansion.specs.Area.{queueBase, Kept, Started, Took, Emptied, Followed}
 use Rattle.expansion.proofs.Search.{Leads, closed-leads}
 use Rattle.expansion.proofs.AreaLaws.{settledAs, label-same}
@@ -30,31 +27,39 @@ use Rattle.expansion.proofs.AreaSearch.{took-exact, search-finished}
 use Rattle.expansion.proofs.Progress.{Progress, progress-start, progress-settled, took-walk, label-taken, label-others}
 use Rattle.expansion.proofs.Stopping.{kept-same, progress-stopped}
 use Rattle.rows.specs.Flat.{rowAt, Sized, IsTable}
-use Rattle.rows.specs.Update.{Added}
+use Rattle.rows.specs.Update.{Added, Gains}
 use Rattle.rows.specs.Put.{takes, HasRow, PutInRow}
 use Rattle.table.specs.Insert.{CanInsert}
+use Rattle.table.specs.Updated.{moreAt}
+use Rattle.table.proofs.Gains.{taken-gains, gains-next}
 use Rattle.rows.proofs.Laid.{table-rows, rows-table}
-use Rattle.rows.proofs.Update.{row-added, row-kept, near-or-not, changed-near, set-added}
+use Rattle.rows.proofs.Update.{row-added, row-kept, gains-or-not, changed-gains, set-added}
 use Rattle.rows.proofs.Changed.{added-changes}
-use Rattle.rows.proofs.PutLaws.{taken-in, not-taken, takes-nearer, insert-pad}
+use Rattle.rows.proofs.PutLaws.{not-taken, takes-nearer, insert-pad}
 
 -- the arrays were the table of P, and x is near v once it is marked: the row of v takes x
 pub record Enters (g : Network) (P ids dists : List ℕ) (x K v : ℕ) : Type 0 where
   pub was : IsTable g P K ids dists
-  pub near : Near g (set P x 1) v NONE K x
+  pub near : Gains g P K v x
 
 -- t tells the settled nodes that x is near to
 pub record Tells (g : Network) (P xs : List ℕ) (x K : ℕ) (t : ℕ → Bool) : Type 0 where
-  pub only : (v : ℕ) → v < nodeCount g → t v ≡ true → (getD xs (0 + v) 0 ≢ 0) × Near g (set P x 1) v NONE K x
-  pub all : (v : ℕ) → v < nodeCount g → getD xs (0 + v) 0 ≢ 0 → Near g (set P x 1) v NONE K x → t v ≡ true
+  pub only : (v : ℕ) → v < nodeCount g → t v ≡ true → (getD xs (0 + v) 0 ≢ 0) × Gains g P K v x
+  pub all : (v : ℕ) → v < nodeCount g → getD xs (0 + v) 0 ≢ 0 → Gains g P K v x → t v ≡ true
 
 pub record Inserting (g : Network) (P ids₀ dists₀ : List ℕ) (x K : ℕ) (xs : List ℕ) (settled len changed : ℕ) (ids dists : List ℕ) : Type 0 where
   pub progress : Progress g x (Enters g P ids₀ dists₀ x K) (Enters g P ids₀ dists₀ x K) xs 0 settled len
   pub sized : Sized g K ids dists
   pub few : changed ≤ settled
   pub fresh : IsTable g P K ids₀ dists₀ → (v : ℕ) → v < nodeCount g → getD xs (0 + v) 0 ≡ 0 → rowAt ids dists K v ≡ row g P K v
-  pub done : IsTable g P K ids₀ dists₀ → (v : ℕ) → v < nodeCount g → getD xs (0 + v) 0 ≢ 0 → rowAt ids dists K v ≡ row g (set P x 1) K v
+  pub done : IsTable g P K ids₀ dists₀ → (v : ℕ) → v < nodeCount g → getD xs (0 + v) 0 ≢ 0 → rowAt ids dists K v ≡ row g (moreAt P x) K v
   pub counted : IsTable g P K ids₀ dists₀ → (t : ℕ → Bool) → Tells g P xs x K t → changed ≡ count t (nodeCount g)
+
+-- one more at x
+more-added : (P : List ℕ) (x : ℕ) → x < length P → Added P (moreAt P x) x
+more-added P x h =
+    let q : getD P x 0 + 1 ≡ suc (getD P x 0) = omega arith in
+    rw q (set-added P x h)
 
 -- who passes a test but for v; and where v does not pass it, as many do
 without-passes : (b : ℕ → Bool) (v y : ℕ) → without b v y ≡ true → b y ≡ true
@@ -75,8 +80,8 @@ module _ {g : Network} {P s₀ ids₀ dists₀ : List ℕ} {x K : ℕ} (c : CanI
   abbrev Was : Type 0
   Was = IsTable g P K ids₀ dists₀
 
-  added : Added P (set P x 1) x
-  added = set-added P x (omega (arith, c .points, c .expand .inside)) (eqb-false (getD P x 0) 1 (c .unmarked))
+  added : Added P (moreAt P x) x
+  added = more-added P x (omega (arith, c .points, c .expand .inside))
 
   pub enters-leads : Leads g x (Enters g P ids₀ dists₀ x K) (Enters g P ids₀ dists₀ x K)
   enters-leads =
@@ -86,7 +91,7 @@ module _ {g : Network} {P s₀ ids₀ dists₀ : List ℕ} {x K : ℕ} (c : CanI
             λ u v w o r e n.
             record {
               was = o .was;
-              near = near-next ok (set P x 1) (ok .returns r) K x (omega (arith, e, dist-symmetric ok x v, dist-symmetric ok x u)) (o .near);
+              near = gains-next ok P (ok .returns r) K x (omega (arith, e, dist-symmetric ok x v, dist-symmetric ok x u)) (o .near);
             };
       })
 
@@ -124,7 +129,7 @@ module _ {g : Network} {P s₀ ids₀ dists₀ : List ℕ} {x K : ℕ} (c : CanI
       reach : dist g v x ≢ NONE
       reach = omega (arith, upto .some, dist-symmetric ok x v)
 
-      far : Was → Near g (set P x 1) v NONE K x → l ≡ dist g v x
+      far : Was → Gains g P K v x → l ≡ dist g v x
       far i n =
           took-exact ok (e .progress .area) (e .progress .searched) t enters-leads (record { was = i; near = n })
           ∙ dist-symmetric ok x v
@@ -133,30 +138,29 @@ module _ {g : Network} {P s₀ ids₀ dists₀ : List ℕ} {x K : ℕ} (c : CanI
       now-row i = e .fresh i v (t .inside) (t .new)
 
       -- the row with x at its distance
-      entered : take K (insert (x, dist g v x) (row g P K v)) ≡ row g (set P x 1) K v
+      entered : take K (insert (x, dist g v x) (row g P K v)) ≡ row g (moreAt P x) K v
       unfolding row
       entered =
           insert-pad K (x, dist g v x) (nearest g P v NONE K) (omega (arith, dist-at-most g v x, reach, ok .few, c .expand .inside))
           ∙ sym (row-added ok (c .expand .inside) added K v reach)
 
       -- a row that takes x has it near; one that does not is not near to it
-      pub took-near : Was → r ≡ true → Near g (set P x 1) v NONE K x
+      pub took-near : Was → r ≡ true → Gains g P K v x
       took-near i a =
           let y = sym (put .taken ∙ ap (takes (x, l)) (now-row i)) ∙ a in
-          let m = taken-in (x, dist g v x) (row g P K v) (takes-nearer (x, l) (x, dist g v x) (row g P K v) (omega (arith, upto .most, dist-symmetric ok x v)) y) in
-          row-members ok (set P x 1) K v x (dist g v x) (omega (arith, ok .few, c .expand .inside)) .0
-          (rw (row-length g P K v, entered) at m) .near
+          taken-gains ok P K v x reach
+          (takes-nearer (x, l) (x, dist g v x) (row g P K v) (omega (arith, upto .most, dist-symmetric ok x v)) y)
 
       stays : Was → r ≡ false → take K (insert (x, l) (row g P K v)) ≡ row g P K v
       stays i a =
           rw (row-length g P K v) at (not-taken (x, l) (row g P K v) (sym (put .taken ∙ ap (takes (x, l)) (now-row i)) ∙ a))
 
-      pub left-far : Was → r ≡ false → Near g (set P x 1) v NONE K x → ⊥
+      pub left-far : Was → r ≡ false → Gains g P K v x → ⊥
       left-far i a n =
-          changed-near ok (c .expand .inside) added K v .1 n
+          changed-gains ok (c .expand .inside) added K v .1 n
           (sym (stays i a) ∙ ap (λ (d : ℕ). take K (insert (x, d) (row g P K v))) (far i n) ∙ entered)
 
-      new-row : (b : Bool) → r ≡ b → Was → rowAt ids′ dists′ K v ≡ row g (set P x 1) K v
+      new-row : (b : Bool) → r ≡ b → Was → rowAt ids′ dists′ K v ≡ row g (moreAt P x) K v
       new-row true a i =
           put .row
           ∙ ap (λ (y : List (ℕ × ℕ)). take K (insert (x, l) y)) (now-row i)
@@ -195,7 +199,7 @@ module _ {g : Network} {P s₀ ids₀ dists₀ : List ℕ} {x K : ℕ} (c : CanI
                 let n : y ≢ v = λ q. omega (arith, word-here, ap (λ (m : ℕ). getD ws (0 + m) 0) q) in
                 put .others y n ∙ e .fresh i y h (sym (word-other y h n) ∙ z)
 
-            done : Was → (y : ℕ) → y < nodeCount g → getD ws (0 + y) 0 ≢ 0 → rowAt ids′ dists′ K y ≡ row g (set P x 1) K y
+            done : Was → (y : ℕ) → y < nodeCount g → getD ws (0 + y) 0 ≢ 0 → rowAt ids′ dists′ K y ≡ row g (moreAt P x) K y
             done i y h z =
                 elim (ℕ-discrete y v) [
                   | yes q ↦ rw q (new-row r refl i)
@@ -246,28 +250,28 @@ module _ {g : Network} {P s₀ ids₀ dists₀ : List ℕ} {x K : ℕ} (c : CanI
     most = omega (arith, e .few, e .progress .area .counted)
 
     module _ {ys : List ℕ} (t : Emptied (nodeCount g) xs ys 0 len) where
-      settled-near : Was → (v : ℕ) → Near g (set P x 1) v NONE K x → getD xs (0 + v) 0 ≢ 0
+      settled-near : Was → (v : ℕ) → Gains g P K v x → getD xs (0 + v) 0 ≢ 0
       settled-near i v n =
           let w =
           search-finished ok (e .progress .area) (e .progress .searched) t enters-leads v (record { was = i; near = n })
-          (omega (arith, n .nearer .less, dist-symmetric ok x v))
+          (omega (arith, n .reach, dist-symmetric ok x v))
           in
           omega (arith, w .is)
 
-      pub table-now : Was → IsTable g (set P x 1) K ids dists
+      pub table-now : Was → IsTable g (moreAt P x) K ids dists
       table-now i =
-          rows-table (set P x 1) K ids dists (e .sized)
+          rows-table (moreAt P x) K ids dists (e .sized)
           (λ v h.
           elim (ℕ-discrete (getD xs (0 + v) 0) 0) [
             | yes z ↦ e .fresh i v h z ∙ sym (row-kept ok (c .expand .inside) added K v (λ n. settled-near i v n z))
             | no z ↦ e .done i v h z
           ])
 
-      pub count-all : Was → changed ≡ rowsChanged g P (set P x 1) K
+      pub count-all : Was → changed ≡ rowsChanged g P (moreAt P x) K
       count-all i =
-          let near = near-or-not ok (c .expand .inside) added K in
-          let only : (v : ℕ) → v < nodeCount g → decide (near v) ≡ true → Near g (set P x 1) v NONE K x = λ v h. decide-iff (near v) .0 in
-          let all : (v : ℕ) → v < nodeCount g → Near g (set P x 1) v NONE K x → decide (near v) ≡ true = λ v h. decide-iff (near v) .1 in
+          let near = gains-or-not ok (c .expand .inside) added K in
+          let only : (v : ℕ) → v < nodeCount g → decide (near v) ≡ true → Gains g P K v x = λ v h. decide-iff (near v) .0 in
+          let all : (v : ℕ) → v < nodeCount g → Gains g P K v x → decide (near v) ≡ true = λ v h. decide-iff (near v) .1 in
           e .counted i (λ v. decide (near v))
           (record { only = λ v h a. (settled-near i v (only v h a), only v h a); all = λ v h w n. all v h n })
           ∙ sym (added-changes ok (c .expand .inside) added K (λ v. decide (near v)) only all)

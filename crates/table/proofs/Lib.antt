@@ -1,7 +1,10 @@
 -- The laws of the table's calls, from the bottom up. Of insert: the expansion under way. Of build: rows under way; its steps and room; the arrays
 -- and the scratch. Of remove: its steps; what a short row wants; the rows under way; filling.
+pub mod Append
+pub mod Gains
 pub mod Inserting
 pub mod Building
+pub mod Runs
 pub mod BuildSteps
 pub mod BuildRows
 pub mod BuildRoom

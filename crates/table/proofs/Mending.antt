@@ -6,26 +6,26 @@ use Prim.Native.Nat.{ℕ, zero, suc, _+_, _-_, _≤_, _<_}
 use mathlib.Core.Path.{_≡_, refl, sym, ap, _∙_}
 use mathlib.Core.Logic.{_≢_, _⊎_, inl, inr, ⊎-elim}
 use mathlib.Core.Bool.{true, false, false≢true}
-use mathlib.Core.List.{List, List·Memᴰ, List·Memᴰ·head, Memᴰ·append-left}
+use mathlib.Core.List.{List, List·Memᴰ, Memᴰ·append-left}
 use native.Mathlib.Decide.{ℕ-discrete, decLt}
 use native.Mathlib.Omega.{arith}
 use lib.Dec.{eqb}
 use lib.ListN.{length, getD, set, drop}
 use lib.Seq.{drop-set-lt, getD-set-same, getD-set-other}
-use borrow.Author.Tests.{eq-eqb, ne-eqb}
+use borrow.Author.Tests.{eq-eqb, ne-eqb, eqb-true, lt-ltb, ltb-true}
 use Rattle.network.specs.Network.{Network, Arc, nodeCount, neighboursOf, weightsOf}
 use Rattle.network.specs.Accepted.{Accepted}
 use Rattle.network.specs.Walk.{Walk, step}
 use Rattle.network.specs.Distance.{NONE, dist}
-use Rattle.network.specs.Points.{marked}
-use Rattle.network.specs.Count.{count}
-use Rattle.network.specs.Nearest.{key, nearest, before, Nearer}
+use Rattle.network.specs.Points.{lockers, marked}
+use Rattle.network.specs.Count.{count, bit}
+use Rattle.network.specs.Nearest.{key, insert, nearest, before, Nearer, times}
 use Rattle.network.specs.Rows.{pad, row, rowsChanged}
-use Rattle.network.proofs.Distances.{dist-walk, dist-at-most, dist-next}
+use Rattle.network.proofs.Distances.{dist-walk, dist-at-most, dist-next, dist-self, dist-zero}
 use Rattle.network.proofs.Least.{distance}
 use Rattle.network.proofs.Tests.{bool-cases}
-use Rattle.network.proofs.Rank.{Near, marked-inside}
-use Rattle.network.proofs.Rows.{row-members, near-listed, listed-near, nearest-source, nearest-length}
+use Rattle.network.proofs.Rank.{Near, marked-inside, before-step, before-up}
+use Rattle.network.proofs.Rows.{row-members, near-listed, listed-near, nearest-length, nearest-ordered, nearest-small, nearest-times, nearest-no-more}
 use Rattle.network.proofs.Prefix.{near-next}
 use Rattle.network.proofs.Ranges.{arc-at, arc-place}
 use Rattle.network.proofs.NumberZero.{accepted-ranges}
@@ -34,16 +34,16 @@ use Rattle.expansion.specs.Area.{PutIn}
 use Rattle.expansion.proofs.TagLaws.{entry-same}
 use Rattle.expansion.proofs.EnteredLaws.{entered-held}
 use Rattle.rows.specs.Flat.{rowAt, IsTable}
-use Rattle.rows.specs.Update.{Added}
-use Rattle.rows.specs.Take.{takeOut, hasPoint}
+use Rattle.rows.specs.Update.{Added, Gains}
+use Rattle.rows.specs.Take.{takeOut, takeIf}
 use Rattle.table.specs.Candidate.{Fit, GivesOver}
 use Rattle.table.specs.Offer.{offerOf, arcOffer}
-use Rattle.table.specs.Mend.{isShort, Freed, Seeded, Takes, Refuses, Offered, Wants, Behind, Lead, Mending}
+use Rattle.table.specs.Mend.{isShort, hasAll, Freed, Seeded, Takes, Refuses, Offered, Wants, Behind, Lead, Mending}
 use Rattle.rows.proofs.Laid.{table-rows}
-use Rattle.rows.proofs.Update.{nearest-removed, row-kept}
+use Rattle.rows.proofs.Update.{nearest-removed, row-kept, gains-or-not}
 use Rattle.rows.proofs.Changed.{removed-changes}
-use Rattle.rows.proofs.TakeLaws.{has-member, has-some, take-absent, take-row}
-use Rattle.table.proofs.Wanted.{pad-member, wanted, wants-same, wants-lacks, lacks-rank, taken-whole, short-whole}
+use Rattle.rows.proofs.TakeLaws.{take-row}
+use Rattle.table.proofs.Wanted.{times-pad, times-insert, pad-member, wanted, wants-same, wants-lacks, lacks-rank, taken-whole, short-whole}
 
 -- a row that waits behind another does so while that one is short
 still-behind : {g : Network} {Q xs ys : List ℕ} {K c q : ℕ} (b : Behind g Q xs K c q) → isShort ys (b .to) ≡ true → Behind g Q ys K c q
@@ -58,9 +58,6 @@ lead-walk ok i p d e h m l =
 
 carry : {a b : ℕ} (T : ℕ → Type 0) → a ≡ b → T a → T b
 carry T e v = rw e at v
-
-moved : {z : ℕ × ℕ} {xs ys : List (ℕ × ℕ)} → xs ≡ ys → List·Memᴰ z xs → List·Memᴰ z ys
-moved e m = rw e at m
 
 -- ---- What waits for a short row.
 pub record HeldBefore (Held : ℕ → Type 0) (k : ℕ) : Type 0 where
@@ -106,10 +103,10 @@ module _ {g : Network} (ok : Accepted g) {Q : List ℕ} {K : ℕ} {ids dists xs 
     popped-near = record { inside = low-p; point = popped-walk .1; less = omega (arith, dist-walk ok (popped-walk .0) .some, dist-at-most g i p) }
 
     -- where its row is short and lacks its point, it is what the row wants
-    pub popped-wanted : isShort xs i ≡ true → hasPoint p (rowAt ids dists K i) ≡ false → Wants g Q K i p × (d ≡ dist g i p)
+    pub popped-wanted : isShort xs i ≡ true → times p (rowAt ids dists K i) < lockers Q p → Wants g Q K i p × (d ≡ dist g i p)
     popped-wanted s n =
         let far = dist-walk ok (popped-walk .0) .most in
-        let v = wanted ok Q K i popped-near (lacks-rank ok Q K i popped-near (sym (ap (hasPoint p) (m .lacking i low-i s)) ∙ n)) in
+        let v = wanted ok Q K i popped-near (lacks-rank ok Q K i popped-near (rw (m .lacking i low-i s) at n)) in
         let r = frontier-held (suc (dist g i (v .point))) i (v .point) (omega arith) low-i s (v .wants) in
         let l = o .queue .least (r .entry) (r .held) in
         let f = ok .few in
@@ -125,7 +122,7 @@ module _ {g : Network} (ok : Accepted g) {Q : List ℕ} {K : ℕ} {ids dists xs 
 
     module _ {zs ids′ dists′ : List ℕ} (others : (c : ℕ) → c ≢ i → rowAt ids′ dists′ K c ≡ rowAt ids dists K c) where
       -- it is dropped
-      pub mending-skipped : Refuses ys zs ids dists ids′ dists′ K i p d → Mending g Q K ids′ dists′ zs (len - 1)
+      pub mending-skipped : Refuses Q ys zs ids dists ids′ dists′ K i p d → Mending g Q K ids′ dists′ zs (len - 1)
       mending-skipped t =
           rw (t .words)
           (record {
@@ -160,12 +157,12 @@ module _ {g : Network} (ok : Accepted g) {Q : List ℕ} {K : ℕ} {ids dists xs 
               (λ a.
               ⊎-elim
               (λ b. omega (arith, distance ok i p .limit (omega (arith, w′ .nearer .less)), b))
-              (λ b. false≢true (sym (wants-lacks ok Q K i w′) ∙ ap (hasPoint p) (sym (m .lacking i low-i s′)) ∙ b))
+              (λ b. omega (arith, b, wants-lacks ok Q K i w′, ap (times p) (m .lacking i low-i s′)))
               a)
               (t .why)
 
       -- its row takes it, and offers it on
-      pub mending-taken : {ws : List ℕ} {more : ℕ} → i < length ys → Takes ys zs ids dists ids′ dists′ K i p d
+      pub mending-taken : {ws : List ℕ} {more : ℕ} → i < length ys → Takes Q ys zs ids dists ids′ dists′ K i p d
           → Offered g zs ws (len - 1) more i p d (length (neighboursOf g i)) → Mending g Q K ids′ dists′ ws more
       mending-taken {ws} {more} room t f =
           record {
@@ -260,51 +257,91 @@ module _ {g : Network} (ok : Accepted g) {P Q : List ℕ} {x K : ℕ} (low : x <
   old-row : (i : ℕ) → i < nodeCount g → rowAt ids dists K i ≡ row g P K i
   old-row = table-rows P K ids dists table
 
-  pub had-near : (i : ℕ) → i < nodeCount g → hasPoint x (rowAt ids dists K i) ≡ true → Near g P i NONE K x
-  had-near i h e =
-      let m = has-some x (rowAt ids dists K i) e in
-      row-members ok P K i x (m .far) (omega (arith, ok .few)) .0 (moved (old-row i h) (m .mem)) .near
+  row-times : (B : List ℕ) (p i : ℕ) → p < nodeCount g → times p (row g B K i) ≡ times p (nearest g B i NONE K)
+  unfolding row
+  row-times B p i l = times-pad K p (nearest g B i NONE K) (omega (arith, ok .few))
 
-  pub near-had : (i : ℕ) → i < nodeCount g → Near g P i NONE K x → hasPoint x (rowAt ids dists K i) ≡ true
-  near-had i h r =
-      has-member x (dist g i x) (rowAt ids dists K i)
-      (rw (old-row i h) (row-members ok P K i x (dist g i x) (omega (arith, ok .few)) .1 (record { near = r; far = refl })))
+  -- a row that has all lockers of x has a place for the last of them, and the other way
+  pub had-gains : (i : ℕ) → i < nodeCount g → hasAll ids dists K x (lockers P x) i ≡ true → Gains g Q K i x
+  had-gains i h e =
+      elim (gains-or-not ok low a K i) [
+        | yes r ↦ r
+        | no n ↦
+            absurd
+            (omega (
+              arith,
+              eqb-true (times x (rowAt ids dists K i)) (lockers P x) e,
+              ap (times x) (old-row i h ∙ row-kept ok low a K i n),
+              row-times Q x i low,
+              nearest-no-more ok Q i NONE K x,
+              a .one,
+            ))
+      ]
 
-  pub changed-rows : rowsChanged g P Q K ≡ count (λ i. hasPoint x (rowAt ids dists K i)) (nodeCount g)
-  changed-rows = removed-changes ok low a K (λ i. hasPoint x (rowAt ids dists K i)) had-near near-had
+  kept-times : (i : ℕ) → Gains g Q K i x → times x (nearest g Q i NONE (K - 1)) ≡ lockers Q x
+  kept-times i r =
+      elim (decLt 0 (lockers Q x)) [
+        | no n ↦ omega (arith, nearest-no-more ok Q i NONE (K - 1) x)
+        | yes l ↦
+            let n : Nearer g Q i NONE x = record { inside = low; point = lt-ltb 0 (lockers Q x) l; less = r .reach } in
+            omega (arith, nearest-times ok Q i NONE (K - 1) x n, before-step ok Q i NONE x n, r .room)
+      ]
 
-  -- a row that had x is the nearest of those left without their last; another is whole
-  freed-short : (i : ℕ) → i < nodeCount g → hasPoint x (rowAt ids dists K i) ≡ true → takeOut x (rowAt ids dists K i) ≡ pad K (nearest g Q i NONE (K - 1))
+  removed : (i : ℕ) → Gains g Q K i x → nearest g P i NONE K ≡ insert (x, dist g i x) (nearest g Q i NONE (K - 1))
+  removed i r =
+      let q : suc (K - 1) ≡ K = omega arith in
+      ap (λ n. nearest g P i NONE n) (sym q) ∙ nearest-removed ok low a (K - 1) i (carry (λ n. Gains g Q n i x) (sym q) r)
+
+  pub gains-had : (i : ℕ) → i < nodeCount g → Gains g Q K i x → hasAll ids dists K x (lockers P x) i ≡ true
+  gains-had i h r =
+      eq-eqb (times x (rowAt ids dists K i)) (lockers P x)
+      (omega (
+        arith,
+        ap (times x) (old-row i h),
+        row-times P x i low,
+        ap (times x) (removed i r),
+        times-insert x (x, dist g i x) (nearest g Q i NONE (K - 1)),
+        ap bit (eq-eqb x x refl),
+        kept-times i r,
+        a .one,
+      ))
+
+  pub changed-rows : rowsChanged g P Q K ≡ count (hasAll ids dists K x (lockers P x)) (nodeCount g)
+  changed-rows = removed-changes ok low a K (hasAll ids dists K x (lockers P x)) had-gains gains-had
+
+  -- a row that had all of x is the nearest of those left without their last; another is whole
+  freed-short : (i : ℕ) → i < nodeCount g → hasAll ids dists K x (lockers P x) i ≡ true → takeOut x (rowAt ids dists K i) ≡ pad K (nearest g Q i NONE (K - 1))
   unfolding row
   freed-short i h e =
-      let q : suc (K - 1) ≡ K = omega arith in
-      let r = carry (λ n. Near g P i NONE n x) (sym q) (had-near i h e) in
-      let s = ap (λ n. nearest g P i NONE n) (sym q) ∙ nearest-removed ok low a (K - 1) i r in
-      ap (takeOut x) (old-row i h ∙ ap (pad K) s)
+      ap (takeOut x) (old-row i h ∙ ap (pad K) (removed i (had-gains i h e)))
       ∙ take-row K x (dist g i x) (nearest g Q i NONE (K - 1)) (omega (arith, nearest-length g Q i NONE (K - 1)))
-      (λ y m n. false≢true (sym (a .off) ∙ ap (marked Q) (sym n) ∙ listed-near ok Q i NONE (K - 1) (y .0) (y .1) m .near .nearer .point))
+      (nearest-ordered ok Q i NONE (K - 1)) (omega (arith, ok .few)) (nearest-small ok Q i NONE (K - 1))
+      (λ d m. listed-near ok Q i NONE (K - 1) x d m .far)
 
-  freed-whole : (i : ℕ) → i < nodeCount g → hasPoint x (rowAt ids dists K i) ≡ false → takeOut x (rowAt ids dists K i) ≡ row g Q K i
-  freed-whole i h e =
-      take-absent x (rowAt ids dists K i) e ∙ old-row i h ∙ row-kept ok low a K i (λ r. false≢true (sym e ∙ near-had i h r))
+  freed-whole : (i : ℕ) → i < nodeCount g → hasAll ids dists K x (lockers P x) i ≡ false → rowAt ids dists K i ≡ row g Q K i
+  freed-whole i h e = old-row i h ∙ row-kept ok low a K i (λ r. false≢true (sym e ∙ gains-had i h r))
 
-  module _ {xs ys zs ids′ dists′ : List ℕ} {changed len : ℕ} (blank : (j : ℕ) → getD xs j 0 ≡ 0) (f : Freed xs ys ids dists ids′ dists′ K x (nodeCount g) changed)
+  module _ {xs ys zs ids′ dists′ : List ℕ} {changed len : ℕ} (blank : (j : ℕ) → getD xs j 0 ≡ 0) (f : Freed xs ys ids dists ids′ dists′ K x (lockers P x) (nodeCount g) changed)
       (s : Seeded g Q ys zs ids′ dists′ K (nodeCount g) len) where
     flag : (i : ℕ) → i < nodeCount g → isShort zs i ≡ isShort ys i
     flag i h = ap (λ v. eqb v 1) (s .frame .words i h)
 
-    had-flag : (i : ℕ) → i < nodeCount g → isShort ys i ≡ hasPoint x (rowAt ids dists K i)
+    had-flag : (i : ℕ) → i < nodeCount g → isShort ys i ≡ hasAll ids dists K x (lockers P x) i
     had-flag i h =
         ⊎-elim
         (λ e. eq-eqb (getD ys i 0) 1 (f .flagged i h e) ∙ sym e)
         (λ e. ne-eqb (getD ys i 0) 1 (omega (arith, f .others i h e, blank i)) ∙ sym e)
-        (bool-cases (hasPoint x (rowAt ids dists K i)))
+        (bool-cases (hasAll ids dists K x (lockers P x) i))
 
     lacking : (i : ℕ) → i < nodeCount g → isShort ys i ≡ true → rowAt ids′ dists′ K i ≡ pad K (nearest g Q i NONE (K - 1))
-    lacking i h e = f .freed i h ∙ freed-short i h (sym (had-flag i h) ∙ e)
+    lacking i h e =
+        let b = sym (had-flag i h) ∙ e in
+        f .freed i h ∙ ap (λ v. takeIf v x (rowAt ids dists K i)) b ∙ freed-short i h b
 
     whole : (i : ℕ) → i < nodeCount g → isShort ys i ≡ false → rowAt ids′ dists′ K i ≡ row g Q K i
-    whole i h e = f .freed i h ∙ freed-whole i h (sym (had-flag i h) ∙ e)
+    whole i h e =
+        let b = sym (had-flag i h) ∙ e in
+        f .freed i h ∙ ap (λ v. takeIf v x (rowAt ids dists K i)) b ∙ freed-whole i h b
 
     -- an entry of a row is a reached point, at its distance
     entry : (c p e : ℕ) → c < nodeCount g → marked Q p ≡ true → List·Memᴰ (p, e) (rowAt ids′ dists′ K c) → Nearer g Q c NONE p × (e ≡ dist g c p)
@@ -319,14 +356,15 @@ module _ {g : Network} (ok : Accepted g) {P Q : List ℕ} {x K : ℕ} (low : x <
 
     -- what a neighbour's row gives is the sum of a walk
     given : (i : ℕ) (r : ℕ × ℕ) → i < nodeCount g → GivesOver g Q ids′ dists′ K i (length (neighboursOf g i)) r
-        → Walk g i (r .0) (r .1) × (r .0 < nodeCount g) × (marked Q (r .0) ≡ true) × (hasPoint (r .0) (rowAt ids′ dists′ K i) ≡ false)
+        → Walk g i (r .0) (r .1) × (r .0 < nodeCount g) × (marked Q (r .0) ≡ true) × (times (r .0) (rowAt ids′ dists′ K i) < lockers Q (r .0))
     given i r h v =
         let arc = arc-at (accepted-ranges ok) i h (v .place) (v .low) in
-        let n = entry (getD (neighboursOf g i) (v .place) 0) (v .point) (v .far) (ok .leads-in arc) (v .fit .point) (v .mem) in
+        let mark : marked Q (v .point) ≡ true = lt-ltb 0 (lockers Q (v .point)) (omega (arith, v .fit .lacks)) in
+        let n = entry (getD (neighboursOf g i) (v .place) 0) (v .point) (v .far) (ok .leads-in arc) mark (v .mem) in
         let w = distance ok (getD (neighboursOf g i) (v .place) 0) (v .point) .walk (omega (arith, n .0 .less)) in
         let p : r .0 ≡ v .point = ap (λ (y : ℕ × ℕ). y .0) (v .is) in
         let d : r .1 ≡ getD (weightsOf g i) (v .place) 0 + dist g (getD (neighboursOf g i) (v .place) 0) (v .point) = omega (arith, n .1, ap (λ (y : ℕ × ℕ). y .1) (v .is)) in
-        (rw (p, d) (step arc w), omega (arith, n .0 .inside), rw p (v .fit .point), rw p (v .fit .lacks))
+        (rw (p, d) (step arc w), omega (arith, n .0 .inside), rw p mark, rw p (v .fit .lacks))
 
     leads : (k : ℕ) → Holds (drop (nodeCount g) zs) len k → Lead g Q k
     leads k h =
@@ -341,7 +379,7 @@ module _ {g : Network} (ok : Accepted g) {P Q : List ℕ} {x K : ℕ} (low : x <
         let u = given i r h v in
         let far = dist-walk ok (u .0) in
         let n : Nearer g Q i NONE (r .0) = record { inside = u .1; point = u .2; less = omega (arith, far .some, dist-at-most g i (r .0)) } in
-        let b = wanted ok Q K i n (lacks-rank ok Q K i n (sym (ap (hasPoint (r .0)) (lacking i h e)) ∙ u .3)) in
+        let b = wanted ok Q K i n (lacks-rank ok Q K i n (rw (lacking i h e) at (u .3))) in
         let q = wants-same ok Q K i (b .wants) w in
         omega (arith, b .first, far .most, q, ap (dist g i) q)
 
@@ -353,9 +391,8 @@ module _ {g : Network} (ok : Accepted g) {P Q : List ℕ} {x K : ℕ} (low : x <
         let pl = arc-place (accepted-ranges ok) arc in
         let near : dist g c p ≢ NONE = omega (arith, v .nearer .less, sum) in
         let fit : Fit Q (rowAt ids′ dists′ K i) p (dist g c p) = record {
-          point = v .nearer .point;
           low = distance ok c p .limit near;
-          lacks = ap (hasPoint p) (lacking i h e) ∙ wants-lacks ok Q K i v;
+          lacks = rw (lacking i h e) (wants-lacks ok Q K i v);
         } in
         let l = o .is-best .least (pl .at) p (dist g c p) (pl .low) (rw (pl .leads) mem) fit in
         let few = ok .few in
@@ -378,7 +415,7 @@ module _ {g : Network} (ok : Accepted g) {P Q : List ℕ} {x K : ℕ} (low : x <
     frontier : (i p : ℕ) → i < nodeCount g → isShort ys i ≡ true → Wants g Q K i p → Holds (drop (nodeCount g) zs) len (offerOf i p (dist g i p)) ⊎ Behind g Q zs K i p
     frontier i p h e w =
         let n = dist-next ok i p other (omega (arith, w .nearer .less)) in
-        let k : Near g Q (n .to) NONE K p = near-next ok Q (n .arc) K p (n .sum) (record { nearer = w .nearer; few = omega (arith, w .rank) }) in
+        let k : Near g Q (n .to) NONE K p = near-next ok Q (n .arc) K p (n .sum) (record { nearer = w .nearer; few = omega (arith, w .low) }) in
         let c = ok .leads-in (n .arc) in
         ⊎-elim
         (λ u.
@@ -395,7 +432,11 @@ module _ {g : Network} (ok : Accepted g) {P Q : List ℕ} {x K : ℕ} (low : x <
                 arc = n .arc;
                 sum = n .sum;
                 short = flag (n .to) c ∙ u;
-                wants = record { nearer = k .nearer; rank = omega (arith, k .few) };
+                wants = record {
+                  nearer = k .nearer;
+                  low = omega (arith, k .few);
+                  high = omega (arith, before-step ok Q (n .to) NONE p (k .nearer), ltb-true 0 (lockers Q p) (k .nearer .point));
+                };
               })
         ])
         (λ u.
@@ -404,12 +445,21 @@ module _ {g : Network} (ok : Accepted g) {P Q : List ℕ} {x K : ℕ} (low : x <
         (rw (whole (n .to) c u) (row-members ok Q K (n .to) p (dist g (n .to) p) (omega (arith, k .nearer .inside, ok .few)) .1 (record { near = k; far = refl })))))
         (bool-cases (isShort ys (n .to)))
       where
-        -- i's own point is never what it wants: it stands first
+        -- i's own node is never what a short row wants: its lockers come before the one that was lost
         other : i ≢ p
         other q =
-            let u = nearest-source ok Q i NONE (K - 1) (omega arith) (omega arith) h (rw (sym q) at (w .nearer .point)) in
-            let v = listed-near ok Q i NONE (K - 1) i 0 (rw (u .first) (List·Memᴰ·head refl)) in
-            omega (arith, v .near .few, w .rank, ap (λ z. before g Q i NONE (key (z, dist g i z))) q)
+            let r = had-gains i h (sym (had-flag i h) ∙ e) in
+            let z = dist-self ok i in
+            let up : key (p, dist g i p) ≤ key (x, dist g i x) =
+            elim (ℕ-discrete x i) [
+              | yes y ↦ omega (arith, ap (λ v. key (v, dist g i v)) (sym q), ap (λ v. key (v, dist g i v)) y)
+              | no y ↦
+                  elim (ℕ-discrete (dist g i x) 0) [
+                    | yes o ↦ absurd (y (sym (dist-zero ok i x o)))
+                    | no o ↦ omega (arith, ap (λ v. key (v, dist g i v)) (sym q), z, h, ok .few)
+                  ]
+            ] in
+            omega (arith, w .high, r .room, before-up g Q i NONE (suc (key (p, dist g i p))) (suc (key (x, dist g i x))) (omega (arith, up)))
 
     pub mending-start : Mending g Q K ids′ dists′ zs len
     mending-start =

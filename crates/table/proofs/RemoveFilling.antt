@@ -9,8 +9,9 @@ use mathlib.Core.List.{List}
 use native.Mathlib.Omega.{arith}
 use lib.Dec.{eqb}
 use lib.ListN.{length, getD, set, drop, replicate, length-set, length-replicate}
+use Rattle.network.specs.Points.{lockers}
 use lib.Seq.{drop-set-lt, getD-drop, getD-set-same, getD-set-other}
-use borrow.Author.Tests.{ne-eqb, eqb-true}
+use borrow.Author.Tests.{ne-eqb, lt-ltb, ltb-true}
 use Rattle.network.specs.Network.{Network, nodeCount, arcCount, neighboursOf, weightsOf}
 use Rattle.network.specs.Distance.{LONGEST}
 use Rattle.network.specs.Accepted.{Accepted}
@@ -29,7 +30,7 @@ use Rattle.rows.specs.Update.{Added}
 use Rattle.table.specs.Offer.{offerOf, arcOffer, CanOffer}
 use Rattle.table.specs.Mend.{isShort, CanFree, Freed, CanSeed, Seeded, CanTakeIn, TakenIn, Offered, Entry, Waiting, CanFill, Mending, FillLeft}
 use Rattle.table.specs.Remove.{CanRemove}
-use Rattle.table.specs.Updated.{UpdateLeft}
+use Rattle.table.specs.Updated.{fewerAt, UpdateLeft}
 use Rattle.rows.proofs.Laid.{rows-table}
 use Rattle.rows.proofs.Update.{set-removed}
 use Rattle.table.proofs.RemoveSteps.{freed-few, row-inside}
@@ -51,7 +52,7 @@ waiting-start {g} {Q} {ys} {zs} ok points room s =
             far = v .best .1;
             is = v .is;
             inside = v .low;
-            low = omega (arith, e, marked-inside Q (v .gives .point) (v .gives .fit .point), points);
+            low = omega (arith, e, marked-inside Q (v .gives .point) (lt-ltb 0 (lockers Q (v .gives .point)) (omega (arith, v .gives .fit .lacks))), points);
           };
       room = omega (arith, s .few, left-most ok (isShort zs));
       size = omega (arith, s .frame .size);
@@ -139,24 +140,24 @@ module _ {g : Network} (ok : Accepted g) {xs : List ℕ} {len : ℕ} (w : Waitin
       taken-falls = omega (arith, f .grown, arcs-of, left)
 
 -- ---- The loop.
-pub record Filling (g : Network) (K : ℕ) (xs ids dists : List ℕ) (len : ℕ) (ys ids′ dists′ : List ℕ) (left : ℕ) : Type 0 where
+pub record Filling (g : Network) (P : List ℕ) (K : ℕ) (xs ids dists : List ℕ) (len : ℕ) (ys ids′ dists′ : List ℕ) (left : ℕ) : Type 0 where
   pub size : length ys ≡ length xs
   pub sized : Sized g K ids′ dists′
   pub waiting : Waiting g ys left
-  pub mending : (Q : List ℕ) → Mending g Q K ids dists xs len → Mending g Q K ids′ dists′ ys left
+  pub mending : Mending g P K ids dists xs len → Mending g P K ids′ dists′ ys left
 
 -- what is left to do
 abbrev pub work : Network → List ℕ → ℕ → ℕ
 work g xs left = left + arcsLeft g (isShort xs) (nodeCount g)
 
-pub filling-start : {g : Network} {xs : List ℕ} {len : ℕ} {ids dists : List ℕ} {K : ℕ} → CanFill g xs len ids dists K → Filling g K xs ids dists len xs ids dists len
-filling-start c = record { size = refl; sized = c .sized; waiting = c .waiting; mending = λ Q m. m }
+pub filling-start : (P : List ℕ) {g : Network} {xs : List ℕ} {len : ℕ} {ids dists : List ℕ} {K : ℕ} → CanFill g xs len ids dists K → Filling g P K xs ids dists len xs ids dists len
+filling-start P c = record { size = refl; sized = c .sized; waiting = c .waiting; mending = λ m. m }
 
-module _ {g : Network} {K : ℕ} {xs ids dists : List ℕ} {len : ℕ} (can : CanFill g xs len ids dists K) {ys ids′ dists′ : List ℕ} {left : ℕ}
-    (f : Filling g K xs ids dists len ys ids′ dists′ left) where
-  pub filling-end : left ≤ 0 → FillLeft g xs ys len ids dists ids′ dists′ K
+module _ {g : Network} {P : List ℕ} {K : ℕ} {xs ids dists : List ℕ} {len : ℕ} (can : CanFill g xs len ids dists K) {ys ids′ dists′ : List ℕ} {left : ℕ}
+    (f : Filling g P K xs ids dists len ys ids′ dists′ left) where
+  pub filling-end : left ≤ 0 → FillLeft g P xs ys len ids dists ids′ dists′ K
   filling-end e =
-      record { size = f .size; sized = f .sized; mended = λ Q m. mending-end (can .accepted) (can .some) (f .mending Q m) e }
+      record { size = f .size; sized = f .sized; mended = λ m. mending-end (can .accepted) (can .some) (f .mending m) e }
 
   -- what `take_in` requires of an entry that left the queue
   pub filling-can : {zs : List ℕ} {k : ℕ} (i p d : ℕ) → k ≡ offerOf i p d → PoppedAt ys zs (nodeCount g) left k → 0 < left → i < 65536 → p < 65536
@@ -171,7 +172,7 @@ module _ {g : Network} {K : ℕ} {xs ids dists : List ℕ} {len : ℕ} (can : Ca
       }
 
   module _ {zs : List ℕ} {k : ℕ} (i p d : ℕ) (is : k ≡ offerOf i p d) (popped : PoppedAt ys zs (nodeCount g) left k) (some : 0 < left) (low-i : i < 65536) (low-p : p < 65536)
-      {ws ids″ dists″ : List ℕ} {r : Bool} (t : TakenIn zs ws ids′ dists′ ids″ dists″ K i p d r) where
+      {ws ids″ dists″ : List ℕ} {r : Bool} (t : TakenIn P zs ws ids′ dists′ ids″ dists″ K i p d r) where
     o : PoppedAt ys zs (nodeCount g) left (offerOf i p d)
     o = rw is at popped
 
@@ -184,14 +185,14 @@ module _ {g : Network} {K : ℕ} {xs ids dists : List ℕ} {len : ℕ} (can : Ca
     new-sized : Sized g K ids″ dists″
     new-sized = record { all-ids = t .ids-size ∙ f .sized .all-ids; all-dists = t .dists-size ∙ f .sized .all-dists }
 
-    pub filling-skipped : r ≡ false → Filling g K xs ids dists len ws ids″ dists″ (left - 1)
+    pub filling-skipped : r ≡ false → Filling g P K xs ids dists len ws ids″ dists″ (left - 1)
     filling-skipped e =
         let q = t .refused e in
         record {
           size = t .size ∙ o .size ∙ f .size;
           sized = new-sized;
           waiting = rw (q .words) after;
-          mending = λ Q m. mending-skipped (can .accepted) (can .some) (f .mending Q m) i p d (inside .0) (inside .1) o (t .others) q;
+          mending = λ m. mending-skipped (can .accepted) (can .some) (f .mending m) i p d (inside .0) (inside .1) o (t .others) q;
         }
 
     pub skipped-falls : r ≡ false → work g ws (left - 1) < work g ys left
@@ -207,15 +208,15 @@ module _ {g : Network} {K : ℕ} {xs ids dists : List ℕ} {len : ℕ} (can : Ca
       offered : Offered g (set zs i 0) vs (left - 1) more i p d (length (neighboursOf g i))
       offered = rw (t .taken e .words) at u
 
-      pub filling-taken : Filling g K xs ids dists len vs ids″ dists″ more
+      pub filling-taken : Filling g P K xs ids dists len vs ids″ dists″ more
       filling-taken =
           record {
             size = u .frame .size ∙ t .size ∙ o .size ∙ f .size;
             sized = new-sized;
             waiting = waiting-taken (can .accepted) after (inside .0) (t .taken e .short) d (inside .1) offered;
             mending =
-                λ Q m.
-                mending-taken (can .accepted) (can .some) (f .mending Q m) i p d (inside .0) (inside .1) o (t .others)
+                λ m.
+                mending-taken (can .accepted) (can .some) (f .mending m) i p d (inside .0) (inside .1) o (t .others)
                 (omega (arith, o .size, f .waiting .size, inside .0)) (t .taken e) u;
           }
 
@@ -239,62 +240,70 @@ module _ {g : Network} {P xs ids dists : List ℕ} {x K : ℕ} (can : CanRemove 
         same = can .sized .all-dists ∙ sym (can .sized .all-ids);
       }
 
-  pub new-points : length (set P x 0) ≡ nodeCount g
-  new-points = length-set P x 0 ∙ can .points
+  pub new-points : length (fewerAt P x) ≡ nodeCount g
+  new-points = length-set P x (getD P x 0 - 1) ∙ can .points
 
-  module _ {ys ids′ dists′ : List ℕ} {changed : ℕ} (f : Freed xs ys ids dists ids′ dists′ K x (nodeCount g) changed) where
+  module _ {ys ids′ dists′ : List ℕ} {changed : ℕ} (f : Freed xs ys ids dists ids′ dists′ K x (lockers P x) (nodeCount g) changed) where
     freed-sized : Sized g K ids′ dists′
     freed-sized = record { all-ids = f .ids-size ∙ can .sized .all-ids; all-dists = f .dists-size ∙ can .sized .all-dists }
 
-    -- what `seed` requires; y is the node as an index
-    pub remove-seed : {y : ℕ} → y ≡ x → CanSeed g (set P y 0) ys ids′ dists′ K
-    remove-seed is =
-        rw is
-        (record {
-          accepted = can .accepted;
-          points = new-points;
-          sized = freed-sized;
-          queue =
-              empty-queue (drop (nodeCount g) ys)
-              (λ j. getD-drop (nodeCount g) ys j 0 ∙ f .rest (nodeCount g + j) (omega arith) ∙ can .blank .zero (nodeCount g + j) (omega arith));
-          room = omega (arith, f .size, can .room);
-        })
-
-    module _ {zs : List ℕ} {len y : ℕ} (is : y ≡ x) (seeded : Seeded g (set P y 0) ys zs ids′ dists′ K (nodeCount g) len) where
-      s : Seeded g (set P x 0) ys zs ids′ dists′ K (nodeCount g) len
-      s = rw is at seeded
-
-      -- what `fill` requires
-      pub remove-fill : CanFill g zs len ids′ dists′ K
-      remove-fill =
+    -- what `seed` requires, of any bytes
+    module _ {Q : List ℕ} (points : length Q ≡ nodeCount g) where
+      pub remove-seed : CanSeed g Q ys ids′ dists′ K
+      remove-seed =
           record {
             accepted = can .accepted;
-            some = can .least;
+            points = points;
             sized = freed-sized;
-            waiting = waiting-start (can .accepted) new-points (omega (arith, f .size, can .room)) s;
+            queue =
+                empty-queue (drop (nodeCount g) ys)
+                (λ j. getD-drop (nodeCount g) ys j 0 ∙ f .rest (nodeCount g + j) (omega arith) ∙ can .blank .zero (nodeCount g + j) (omega arith));
+            room = omega (arith, f .size, can .room);
           }
 
-      pub removed : {ws vs ids″ dists″ : List ℕ} → FillLeft g zs ws len ids′ dists′ ids″ dists″ K → vs ≡ replicate (length ws) 0
-          → UpdateLeft g P (set P x 0) (set P y 0) xs vs ids dists ids″ dists″ K changed
+      module _ {zs : List ℕ} {len : ℕ} (s : Seeded g Q ys zs ids′ dists′ K (nodeCount g) len) where
+        -- what `fill` requires
+        pub remove-fill : CanFill g zs len ids′ dists′ K
+        remove-fill =
+            record {
+              accepted = can .accepted;
+              some = can .least;
+              sized = freed-sized;
+              waiting = waiting-start (can .accepted) points (omega (arith, f .size, can .room)) s;
+            }
+
+        pub remove-size : {ws vs ids″ dists″ : List ℕ} → FillLeft g Q zs ws len ids′ dists′ ids″ dists″ K → vs ≡ replicate (length ws) 0 → length vs ≡ length xs
+        remove-size {ws} u z = ap length z ∙ length-replicate (length ws) 0 ∙ u .size ∙ s .frame .size ∙ f .size
+
+    -- what `remove` leaves; y is the node as an index
+    module _ {zs : List ℕ} {len y : ℕ} (is : y ≡ x) (seeded : Seeded g (fewerAt P y) ys zs ids′ dists′ K (nodeCount g) len) where
+      s : Seeded g (fewerAt P x) ys zs ids′ dists′ K (nodeCount g) len
+      s = rw is at seeded
+
+      filled : {ws ids″ dists″ : List ℕ} → FillLeft g (fewerAt P y) zs ws len ids′ dists′ ids″ dists″ K → FillLeft g (fewerAt P x) zs ws len ids′ dists′ ids″ dists″ K
+      filled u = rw is at u
+
+      pub removed : {ws vs ids″ dists″ : List ℕ} → FillLeft g (fewerAt P y) zs ws len ids′ dists′ ids″ dists″ K → vs ≡ replicate (length ws) 0
+          → UpdateLeft g P (fewerAt P x) (fewerAt P y) xs vs ids dists ids″ dists″ K changed
       removed {ws} {vs} {ids″} {dists″} u z =
           record {
-            marks = ap (λ v. set P v 0) is;
+            marks = ap (fewerAt P) is;
             area =
                 record {
-                  frame = record { size = ap length z ∙ length-replicate (length ws) 0 ∙ u .size ∙ s .frame .size ∙ f .size; words = λ i h. absurd (omega arith) };
+                  frame = record { size = remove-size new-points s (filled u) z; words = λ i h. absurd (omega arith) };
                   blank = zero-blank (length ws) 0 z;
                 };
             sized = u .sized;
             most = freed-few f;
             table =
                 λ t.
-                rows-table (set P x 0) K ids″ dists″ (u .sized)
+                rows-table (fewerAt P x) K ids″ dists″ (u .sized)
                 (λ i h.
-                u .mended (set P x 0)
+                filled u .mended
                 (mending-start (can .accepted) (can .inside) added (can .least) new-points t (λ j. can .blank .zero j (omega arith)) f s)
                 i h);
             counted = λ t. f .counted ∙ sym (changed-rows (can .accepted) (can .inside) added (can .least) new-points t);
           }
         where
-          added : Added (set P x 0) P x
-          added = set-removed P x (omega (arith, can .inside, can .points)) (eqb-true (getD P x 0) 1 (can .is-point))
+          added : Added (fewerAt P x) P x
+          added = set-removed P x (getD P x 0 - 1) (omega (arith, can .inside, can .points)) (omega (arith, ltb-true 0 (getD P x 0) (can .is-point)))

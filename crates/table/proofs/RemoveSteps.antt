@@ -4,32 +4,34 @@ use Prim.Native.Nat.{ℕ, _+_, _-_, _*_, _≤_, _<_}
 use mathlib.Core.Path.{_≡_, refl, sym, ap, _∙_}
 use mathlib.Core.Logic.{_≢_, _⊎_, inl, inr, ⊎-elim}
 use mathlib.Core.Bool.{Bool, true, false, false≢true, true≢false}
-use mathlib.Core.List.{List, List·Memᴰ, Memᴰ·cast}
+use mathlib.Core.List.{List, List·Memᴰ}
 use native.Mathlib.Decide.{ℕ-discrete}
 use native.Mathlib.Numerals.{add-one}
 use native.Mathlib.Omega.{arith}
-use lib.ListN.{length, getD, set, take, drop, length-set, List·getD-eq-default}
+use lib.ListN.{length, getD, set, take, drop, length-set}
 use lib.Seq.{getD-set-same, getD-set-other}
-use borrow.Author.Tests.{eq-eqb, ne-eqb}
+use lib.Dec.{eqb, ltb}
+use borrow.Author.Tests.{eq-eqb, lt-ltb, ltb-true, ltb-false}
 use borrow.Rule.Slice.PartMut.{midOf, putMid, mid-len, put-same, set-mid-at}
 use Rattle.network.specs.Network.{Network, nodeCount, neighboursOf, weightsOf}
 use Rattle.network.specs.Distance.{NONE, LONGEST}
 use Rattle.network.specs.Count.{bit, count}
-use Rattle.network.specs.Nearest.{key}
-use Rattle.network.specs.Points.{marked}
-use Rattle.network.proofs.Tests.{bool-cases}
+use Rattle.network.specs.Nearest.{key, times}
+use Rattle.network.specs.Points.{lockers}
 use Rattle.network.proofs.Counts.{count-few}
 use Rattle.network.proofs.Lends.{mid-length, mid-at, row-fits}
 use Rattle.network.proofs.Rank.{marked-inside}
 use Rattle.expansion.specs.Queue.{Queue, PushedAt}
 use Rattle.rows.specs.Flat.{place, rowAt, Sized}
-use Rattle.rows.specs.Take.{takeOut, hasPoint, PointAt, TakenOutOfRow}
+use Rattle.rows.specs.Take.{takeIf, TakenOutOfRow}
+use Rattle.rows.specs.Check.{among}
 use Rattle.table.specs.Candidate.{Fits, Better, Gives, BestOfRow, Fit, GivesOver, BestOf}
 use Rattle.table.specs.Offer.{offerOf}
-use Rattle.table.specs.Mend.{isShort, Freed, SeedOf, Seeded, PutLast, CanTakeIn, TakenIn}
+use Rattle.table.specs.Mend.{isShort, hasAll, Freed, SeedOf, Seeded, PutLast, CanTakeIn, TakenIn}
 use Rattle.rows.proofs.Flat.{place-in, in-place}
+use Rattle.rows.proofs.Laid.{part-places}
+use Rattle.rows.proofs.CheckRows.{times-places}
 use Rattle.rows.proofs.Frame.{row-width, row-long, set-other, set-row}
-use Rattle.rows.proofs.TakeLaws.{has-member, has-some}
 
 count-zero : (t : ℕ → Bool) → count t 0 ≡ 0
 unfolding count
@@ -40,8 +42,8 @@ unfolding count
 count-next t n = rw add-one
 
 -- ---- free: the rows below i are freed.
-pub freed-none : (xs ids dists : List ℕ) (K x : ℕ) → Freed xs xs ids dists ids dists K x 0 0
-freed-none xs ids dists K x =
+pub freed-none : (xs ids dists : List ℕ) (K x all : ℕ) → Freed xs xs ids dists ids dists K x all 0 0
+freed-none xs ids dists K x all =
     record {
       size = refl;
       ids-size = refl;
@@ -51,25 +53,25 @@ freed-none xs ids dists K x =
       rest = λ i h. refl;
       freed = λ i h. absurd (omega arith);
       later = λ i h. refl;
-      counted = sym (count-zero (λ i. hasPoint x (rowAt ids dists K i)));
+      counted = sym (count-zero (hasAll ids dists K x all));
     }
 
-module _ {xs ys ids dists ids′ dists′ ids″ dists″ : List ℕ} {K x i changed : ℕ} {r : Bool} (f : Freed xs ys ids dists ids′ dists′ K x i changed)
-    (t : TakenOutOfRow ids′ dists′ ids″ dists″ K i x r) where
-  had : r ≡ hasPoint x (rowAt ids dists K i)
-  had = t .was ∙ ap (hasPoint x) (f .later i (omega arith))
+module _ {xs ys ids dists ids′ dists′ ids″ dists″ : List ℕ} {K x all i changed : ℕ} {r : Bool} (f : Freed xs ys ids dists ids′ dists′ K x all i changed)
+    (t : TakenOutOfRow ids′ dists′ ids″ dists″ K i x all r) where
+  had : r ≡ hasAll ids dists K x all i
+  had = t .was ∙ ap (λ l. eqb (times x l) all) (f .later i (omega arith))
 
-  new-freed : (j : ℕ) → j < i + 1 → rowAt ids″ dists″ K j ≡ takeOut x (rowAt ids dists K j)
+  new-freed : (j : ℕ) → j < i + 1 → rowAt ids″ dists″ K j ≡ takeIf (hasAll ids dists K x all j) x (rowAt ids dists K j)
   new-freed j h =
       elim (ℕ-discrete j i) [
-        | yes e ↦ rw e (t .row ∙ ap (takeOut x) (f .later i (omega arith)))
+        | yes e ↦ rw e (t .row ∙ ap (λ b. takeIf b x (rowAt ids′ dists′ K i)) had ∙ ap (takeIf (hasAll ids dists K x all i) x) (f .later i (omega arith)))
         | no n ↦ t .others j n ∙ f .freed j (omega arith)
       ]
 
   new-later : (j : ℕ) → i + 1 ≤ j → rowAt ids″ dists″ K j ≡ rowAt ids dists K j
   new-later j h = t .others j (omega arith) ∙ f .later j (omega arith)
 
-  pub freed-had : r ≡ true → i < length ys → Freed xs (set ys i 1) ids dists ids″ dists″ K x (i + 1) (changed + 1)
+  pub freed-had : r ≡ true → i < length ys → Freed xs (set ys i 1) ids dists ids″ dists″ K x all (i + 1) (changed + 1)
   freed-had e low =
       record {
         size = simp length-set (f .size);
@@ -84,16 +86,16 @@ module _ {xs ys ids dists ids′ dists′ ids″ dists″ : List ℕ} {K x i cha
         others =
             λ j h q.
             elim (ℕ-discrete j i) [
-              | yes s ↦ absurd (false≢true (sym q ∙ ap (λ v. hasPoint x (rowAt ids dists K v)) s ∙ sym had ∙ e))
+              | yes s ↦ absurd (false≢true (sym q ∙ ap (hasAll ids dists K x all) s ∙ sym had ∙ e))
               | no n ↦ getD-set-other ys i j 1 0 n ∙ f .others j (omega arith) q
             ];
         rest = λ j h. getD-set-other ys i j 1 0 (omega arith) ∙ f .rest j (omega arith);
         freed = new-freed;
         later = new-later;
-        counted = omega (arith, f .counted, count-next (λ j. hasPoint x (rowAt ids dists K j)) i, ap bit (sym had ∙ e));
+        counted = omega (arith, f .counted, count-next (hasAll ids dists K x all) i, ap bit (sym had ∙ e));
       }
 
-  pub freed-not : r ≡ false → Freed xs ys ids dists ids″ dists″ K x (i + 1) changed
+  pub freed-not : r ≡ false → Freed xs ys ids dists ids″ dists″ K x all (i + 1) changed
   freed-not e =
       record {
         size = f .size;
@@ -102,22 +104,22 @@ module _ {xs ys ids dists ids′ dists′ ids″ dists″ : List ℕ} {K x i cha
         flagged =
             λ j h q.
             elim (ℕ-discrete j i) [
-              | yes s ↦ absurd (false≢true (sym e ∙ had ∙ ap (λ v. hasPoint x (rowAt ids dists K v)) (sym s) ∙ q))
+              | yes s ↦ absurd (false≢true (sym e ∙ had ∙ ap (hasAll ids dists K x all) (sym s) ∙ q))
               | no n ↦ f .flagged j (omega arith) q
             ];
         others = λ j h q. elim (ℕ-discrete j i) [ yes s ↦ f .rest j (omega arith) | no n ↦ f .others j (omega arith) q ];
         rest = λ j h. f .rest j (omega arith);
         freed = new-freed;
         later = new-later;
-        counted = omega (arith, f .counted, count-next (λ j. hasPoint x (rowAt ids dists K j)) i, ap bit (sym had ∙ e));
+        counted = omega (arith, f .counted, count-next (hasAll ids dists K x all) i, ap bit (sym had ∙ e));
       }
 
-pub freed-few : {xs ys ids dists ids′ dists′ : List ℕ} {K x i changed : ℕ} → Freed xs ys ids dists ids′ dists′ K x i changed → changed ≤ i
-freed-few {ids} {dists} {K} {x} {i} f = omega (arith, f .counted, count-few (λ j. hasPoint x (rowAt ids dists K j)) i)
+pub freed-as : {xs ys ids dists ids′ dists′ : List ℕ} {K x all many end changed : ℕ} → all ≡ many → Freed xs ys ids dists ids′ dists′ K x all end changed
+    → Freed xs ys ids dists ids′ dists′ K x many end changed
+freed-as e f = rw e at f
 
--- ---- is_marked: a number that is no node has no mark.
-pub unmarked-outside : (P : List ℕ) (p : ℕ) → length P ≤ p → marked P p ≡ false
-unmarked-outside P p h = ne-eqb (getD P p 0) 1 (omega (arith, List·getD-eq-default P 0 {n = p} h))
+pub freed-few : {xs ys ids dists ids′ dists′ : List ℕ} {K x all i changed : ℕ} → Freed xs ys ids dists ids′ dists′ K x all i changed → changed ≤ i
+freed-few {ids} {dists} {K} {x} {all} {i} f = omega (arith, f .counted, count-few (hasAll ids dists K x all) i)
 
 -- ---- better: the candidate stays, since the other cannot be one or is no better; or the other is new.
 module _ {P own : List ℕ} {p e w : ℕ} (best : ℕ × ℕ) where
@@ -127,18 +129,16 @@ module _ {P own : List ℕ} {p e w : ℕ} (best : ℕ × ℕ) where
   pub better-worse : key best ≤ key (p, e + w) → Better P own best best p e w
   better-worse h = record { most = omega arith; least = λ f. h; from = inl refl }
 
-  pub better-unmarked : marked P p ≡ false → Better P own best best p e w
-  better-unmarked h = record { most = omega arith; least = λ f. absurd (false≢true (sym h ∙ f .point)); from = inl refl }
+  pub better-has : ltb (among own p (length own)) (lockers P p) ≡ false → Better P own best best p e w
+  better-has h =
+      record { most = omega arith; least = λ f. absurd (omega (arith, f .lacks, ltb-false (among own p (length own)) (lockers P p) h)); from = inl refl }
 
-  pub better-stands : {at : ℕ} → PointAt own p at → at < length own → Better P own best best p e w
-  better-stands {at} o h = record { most = omega arith; least = λ f. absurd (f .lacks at h (o .here h)); from = inl refl }
-
-  pub better-new : {at : ℕ} → e ≤ LONGEST → key (p, e + w) < key best → marked P p ≡ true → PointAt own p at → length own ≤ at → Better P own best (p, e + w) p e w
-  better-new {at} low h point o l =
+  pub better-new : e ≤ LONGEST → key (p, e + w) < key best → ltb (among own p (length own)) (lockers P p) ≡ true → Better P own best (p, e + w) p e w
+  better-new low h l =
       record {
         most = omega arith;
         least = λ f. omega arith;
-        from = inr (refl, record { point = point; low = low; lacks = λ j m. o .before j (omega arith) });
+        from = inr (refl, record { low = low; lacks = ltb-true (among own p (length own)) (lockers P p) l });
       }
 
 -- ---- best_of_row: the places below j are tried.
@@ -172,27 +172,17 @@ module _ (P ids dists : List ℕ) (K i : ℕ) (fits : i * K + K ≤ length ids) 
   part-long : length (take K (drop (i * K) ids)) ≡ K
   part-long = mid-length (i * K) K ids fits
 
-  lacks-part : (p : ℕ) → hasPoint p (rowAt ids dists K i) ≡ false → (j : ℕ) → j < length (take K (drop (i * K) ids)) → getD (take K (drop (i * K) ids)) j 0 ≢ p
-  lacks-part p e j h q =
-      let l : j < K = omega (arith, part-long) in
-      let s : getD ids (i * K + j) 0 ≡ p = sym (mid-at (i * K) K ids j l) ∙ q in
-      false≢true (sym e ∙ has-member p (getD dists (i * K + j) 0) (rowAt ids dists K i) (Memᴰ·cast (λ k. (sym s k, getD dists (i * K + j) 0)) (place-in ids dists (i * K) K j l)))
-
-  part-lacks : (p : ℕ) → ((j : ℕ) → j < length (take K (drop (i * K) ids)) → getD (take K (drop (i * K) ids)) j 0 ≢ p) → hasPoint p (rowAt ids dists K i) ≡ false
-  part-lacks p n =
-      ⊎-elim
-      (λ e.
-      let m = has-some p (rowAt ids dists K i) e in
-      let a = in-place ids dists (i * K) K (p, m .far) (m .mem) in
-      absurd (n (a .index) (omega (arith, a .low, part-long)) (mid-at (i * K) K ids (a .index) (a .low) ∙ sym (ap (λ (x : ℕ × ℕ). x .0) (a .is)))))
-      (λ e. e)
-      (bool-cases (hasPoint p (rowAt ids dists K i)))
+  pub part-times : (p : ℕ) → among (take K (drop (i * K) ids)) p (length (take K (drop (i * K) ids))) ≡ times p (rowAt ids dists K i)
+  part-times p =
+      ap (among (take K (drop (i * K) ids)) p) part-long
+      ∙ sym (times-places (take K (drop (i * K) ids)) (take K (drop (i * K) dists)) p K)
+      ∙ ap (times p) (part-places ids dists (i * K) K)
 
   fit-fits : {p e : ℕ} → Fit P (rowAt ids dists K i) p e → Fits P (take K (drop (i * K) ids)) p e
-  fit-fits {p} f = record { point = f .point; low = f .low; lacks = lacks-part p (f .lacks) }
+  fit-fits {p} f = record { low = f .low; lacks = omega (arith, f .lacks, part-times p) }
 
   fits-fit : {p e : ℕ} → Fits P (take K (drop (i * K) ids)) p e → Fit P (rowAt ids dists K i) p e
-  fits-fit {p} f = record { point = f .point; low = f .low; lacks = part-lacks p (f .lacks) }
+  fits-fit {p} f = record { low = f .low; lacks = omega (arith, f .lacks, part-times p) }
 
 pub row-inside : {g : Network} {ids dists : List ℕ} {K i : ℕ} → Sized g K ids dists → i < nodeCount g → (i * K + K ≤ length ids) × (i * K + K ≤ length dists)
 row-inside {g} {K} {i} sized inside =
@@ -274,7 +264,7 @@ pub best-point : {g : Network} {P ids dists : List ℕ} {K i end : ℕ} {r : ℕ
 best-point {g} {P} {ids} {dists} {K} {i} {end} {r} points b n =
     ⊎-elim
     (λ q. absurd (n (ap (λ (x : ℕ × ℕ). x .1) q)))
-    (λ (v : GivesOver g P ids dists K i end r). omega (arith, ap (λ (x : ℕ × ℕ). x .0) (v .is), marked-inside P (v .point) (v .fit .point), points))
+    (λ (v : GivesOver g P ids dists K i end r). omega (arith, ap (λ (x : ℕ × ℕ). x .0) (v .is), marked-inside P (v .point) (lt-ltb 0 (lockers P (v .point)) (omega (arith, v .fit .lacks))), points))
     (b .from)
 
 -- ---- seed: the short rows below i have their best candidates in the queue.
@@ -353,7 +343,7 @@ module _ {g : Network} {P xs ids dists : List ℕ} {K : ℕ} where
             }
 
 -- ---- take_in: what `put_last` leaves of the lent parts, said of the whole arrays.
-module _ {xs ids dists : List ℕ} {K i : ℕ} (can : CanTakeIn xs ids dists K i) where
+module _ (P : List ℕ) {xs ids dists : List ℕ} {K i : ℕ} (can : CanTakeIn xs ids dists K i) where
   ids-long : length (midOf (i * K) ((i * K + K) - i * K) ids) ≡ K
   ids-long = row-long i K ids (can .fits)
 
@@ -365,7 +355,7 @@ module _ {xs ids dists : List ℕ} {K i : ℕ} (can : CanTakeIn xs ids dists K i
       × (1 ≤ length (midOf (i * K) ((i * K + K) - i * K) ids))
   put-last-can = (dists-long ∙ sym ids-long, omega (arith, ids-long, can .some))
 
-  pub not-taken : {p d : ℕ} → (isShort xs i ≡ false) ⊎ ((LONGEST < d) ⊎ (hasPoint p (rowAt ids dists K i) ≡ true)) → TakenIn xs xs ids dists ids dists K i p d false
+  pub not-taken : {p d : ℕ} → (isShort xs i ≡ false) ⊎ ((LONGEST < d) ⊎ (lockers P p ≤ times p (rowAt ids dists K i))) → TakenIn P xs xs ids dists ids dists K i p d false
   not-taken why =
       record {
         size = refl;
@@ -377,8 +367,8 @@ module _ {xs ids dists : List ℕ} {K i : ℕ} (can : CanTakeIn xs ids dists K i
       }
 
   module _ {p d : ℕ} {zs ws : List ℕ} {r : Bool} where
-    pub took-in : PutLast (midOf (i * K) ((i * K + K) - i * K) ids) (midOf (i * K) ((i * K + K) - i * K) dists) zs ws p d r → r ≡ true → getD xs i 0 ≡ 1 → d ≤ LONGEST
-        → TakenIn xs (set xs i 0) ids dists (putMid (i * K) ((i * K + K) - i * K) ids zs) (putMid (i * K) ((i * K + K) - i * K) dists ws) K i p d true
+    pub took-in : PutLast P (midOf (i * K) ((i * K + K) - i * K) ids) (midOf (i * K) ((i * K + K) - i * K) dists) zs ws p d r → r ≡ true → getD xs i 0 ≡ 1 → d ≤ LONGEST
+        → TakenIn P xs (set xs i 0) ids dists (putMid (i * K) ((i * K + K) - i * K) ids zs) (putMid (i * K) ((i * K + K) - i * K) dists ws) K i p d true
     took-in t took short low =
         rw (new-ids, new-dists)
         (record {
@@ -391,7 +381,7 @@ module _ {xs ids dists : List ℕ} {K i : ℕ} (can : CanTakeIn xs ids dists K i
               record {
                 short = eq-eqb (getD xs i 0) 1 short;
                 low = low;
-                lacks = part-lacks xs ids dists K i (can .fits) p (rw (row-width i K) at (t .taken took .0));
+                lacks = omega (arith, rw (row-width i K) at (t .taken took .0), part-times P ids dists K i (can .fits) p);
                 words = refl;
                 row =
                     set-row K i (K - 1) p d ids dists (omega (arith, can .some)) (omega (arith, can .some, can .fits))
@@ -410,17 +400,9 @@ module _ {xs ids dists : List ℕ} {K i : ℕ} (can : CanTakeIn xs ids dists K i
             ap (putMid (i * K) ((i * K + K) - i * K) dists) (t .taken took .2 ∙ ap (λ n. set (midOf (i * K) ((i * K + K) - i * K) dists) (n - 1) d) ids-long)
             ∙ set-mid-at (i * K) ((i * K + K) - i * K) (K - 1) dists d (omega (arith, dists-long, can .some))
 
-    pub left-out : PutLast (midOf (i * K) ((i * K + K) - i * K) ids) (midOf (i * K) ((i * K + K) - i * K) dists) zs ws p d r → r ≡ false
-        → TakenIn xs xs ids dists (putMid (i * K) ((i * K + K) - i * K) ids zs) (putMid (i * K) ((i * K + K) - i * K) dists ws) K i p d false
+    pub left-out : PutLast P (midOf (i * K) ((i * K + K) - i * K) ids) (midOf (i * K) ((i * K + K) - i * K) dists) zs ws p d r → r ≡ false
+        → TakenIn P xs xs ids dists (putMid (i * K) ((i * K + K) - i * K) ids zs) (putMid (i * K) ((i * K + K) - i * K) dists ws) K i p d false
     left-out t gone =
         let q = ap (putMid (i * K) ((i * K + K) - i * K) ids) (t .refused gone .1) ∙ put-same (i * K) ((i * K + K) - i * K) ids in
         let s = ap (putMid (i * K) ((i * K + K) - i * K) dists) (t .refused gone .2) ∙ put-same (i * K) ((i * K + K) - i * K) dists in
-        rw (q, s) (not-taken (inr (inr (stands (t .refused gone .0)))))
-      where
-        stands : (j : ℕ) × (j < length (midOf (i * K) ((i * K + K) - i * K) ids)) × (getD (midOf (i * K) ((i * K + K) - i * K) ids) j 0 ≡ p)
-            → hasPoint p (rowAt ids dists K i) ≡ true
-        stands m =
-            ⊎-elim
-            (λ e. e)
-            (λ e. absurd (lacks-part xs ids dists K i (can .fits) p e (m .0) (rw (row-width i K) at (m .1)) (rw (row-width i K) at (m .2))))
-            (bool-cases (hasPoint p (rowAt ids dists K i)))
+        rw (q, s) (not-taken (inr (inr (omega (arith, rw (row-width i K) at (t .refused gone .0), part-times P ids dists K i (can .fits) p)))))

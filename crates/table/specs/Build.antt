@@ -1,7 +1,7 @@
 -- What `build` and its steps require and leave. Document 01, 'The table': 'Build fills it.' Words of scratch: a row's length for each node, then the
 -- queue. An entry of the queue offers a point to a node's row: its distance, and the tag of point and node.
 -- Assumes nothing.
-use Prim.Native.Nat.{ℕ, _+_, _*_, _≤_, _<_}
+use Prim.Native.Nat.{ℕ, zero, suc, _+_, _-_, _*_, _≤_, _<_, min}
 use mathlib.Core.Path.{_≡_}
 use mathlib.Core.Logic.{_⊎_}
 use mathlib.Core.Bool.{Bool, true, false}
@@ -40,20 +40,31 @@ pub record HasPlaceIs (ids : List ℕ) (size p : ℕ) (r : Bool) : Type 0 where
   pub yes : r ≡ true → HasPlace ids size p
   pub no : r ≡ false → NoPlace ids size p
 
--- the row takes (p, d) behind its entries where it has a place for p; else it stays as it is
-pub record Takes (ids ids′ dists dists′ : List ℕ) (size p d : ℕ) : Type 0 where
+-- a list with v at the n places from `at` on
+unfoldable pub run : List ℕ → ℕ → ℕ → ℕ → List ℕ
+run xs at zero v = xs
+run xs at (suc n) v = set (run xs at n v) (at + n) v
+
+-- how often a row of K places and `size` entries takes a point with so many lockers: once for each, or as often as there is room for (Ask 8: 'Rows
+-- [..] repeat a node for each locker, and a row is still cut after K places')
+abbrev pub often : ℕ → ℕ → ℕ → ℕ
+often K size all = min all (K - size)
+
+-- the row takes (p, d) so often behind its entries where it has a place for p, and has `end` entries then; else it stays as it is
+pub record Takes (ids ids′ dists dists′ : List ℕ) (size p d all end : ℕ) : Type 0 where
   pub place : HasPlace ids size p
-  pub new-ids : ids′ ≡ set ids size p
-  pub new-dists : dists′ ≡ set dists size d
+  pub count : end ≡ size + often (length ids) size all
+  pub new-ids : ids′ ≡ run ids size (often (length ids) size all) p
+  pub new-dists : dists′ ≡ run dists size (often (length ids) size all) d
 
 pub record Refuses (ids ids′ dists dists′ : List ℕ) (size p : ℕ) : Type 0 where
   pub place : NoPlace ids size p
   pub new-ids : ids′ ≡ ids
   pub new-dists : dists′ ≡ dists
 
-pub record Appended (ids ids′ dists dists′ : List ℕ) (size p d : ℕ) (r : Bool) : Type 0 where
-  pub taken : r ≡ true → Takes ids ids′ dists dists′ size p d
-  pub refused : r ≡ false → Refuses ids ids′ dists dists′ size p
+pub record Appended (ids ids′ dists dists′ : List ℕ) (size p d all end : ℕ) : Type 0 where
+  pub taken : size < end → Takes ids ids′ dists dists′ size p d all end
+  pub refused : end ≤ size → Refuses ids ids′ dists dists′ size p
 
 -- the same of node i's row, from place i * K on, whose size is the node's word of scratch
 pub record CanLook (xs ids : List ℕ) (K i : ℕ) : Type 0 where
@@ -72,16 +83,17 @@ pub record HasPlaceAtIs (xs ids : List ℕ) (K i p : ℕ) (r : Bool) : Type 0 wh
   pub yes : r ≡ true → HasPlaceAt xs ids K i p
   pub no : r ≡ false → NoPlaceAt xs ids K i p
 
-pub record CanAppend (xs ids dists : List ℕ) (K i : ℕ) : Type 0 where
+pub record CanAppend (xs ids dists : List ℕ) (K i all : ℕ) : Type 0 where
   pub look : CanLook xs ids K i
   pub places : K ≤ 17
   pub dists-room : i * K + K ≤ length dists
+  pub some : 0 < all
 
-pub record TakesAt (xs ys ids ids′ dists dists′ : List ℕ) (K i p d : ℕ) : Type 0 where
+pub record TakesAt (xs ys ids ids′ dists dists′ : List ℕ) (K i p d all : ℕ) : Type 0 where
   pub place : HasPlaceAt xs ids K i p
-  pub words : ys ≡ set xs i (getD xs i 0 + 1)
-  pub new-ids : ids′ ≡ set ids (i * K + getD xs i 0) p
-  pub new-dists : dists′ ≡ set dists (i * K + getD xs i 0) d
+  pub words : ys ≡ set xs i (getD xs i 0 + often K (getD xs i 0) all)
+  pub new-ids : ids′ ≡ run ids (i * K + getD xs i 0) (often K (getD xs i 0) all) p
+  pub new-dists : dists′ ≡ run dists (i * K + getD xs i 0) (often K (getD xs i 0) all) d
 
 pub record RefusesAt (xs ys ids ids′ dists dists′ : List ℕ) (K i p : ℕ) : Type 0 where
   pub place : NoPlaceAt xs ids K i p
@@ -89,8 +101,8 @@ pub record RefusesAt (xs ys ids ids′ dists dists′ : List ℕ) (K i p : ℕ) 
   pub new-ids : ids′ ≡ ids
   pub new-dists : dists′ ≡ dists
 
-pub record AppendedAt (xs ys ids ids′ dists dists′ : List ℕ) (K i p d : ℕ) (r : Bool) : Type 0 where
-  pub taken : r ≡ true → TakesAt xs ys ids ids′ dists dists′ K i p d
+pub record AppendedAt (xs ys ids ids′ dists dists′ : List ℕ) (K i p d all : ℕ) (r : Bool) : Type 0 where
+  pub taken : r ≡ true → TakesAt xs ys ids ids′ dists dists′ K i p d all
   pub refused : r ≡ false → RefusesAt xs ys ids ids′ dists dists′ K i p
 
 -- what offering (p, d), of the row of v, over v's arcs requires: the distance and the queue have room, and each node's row can be looked at

@@ -3,23 +3,21 @@
 -- Assumes nothing.
 use Prim.Native.Nat.{ℕ, _+_, _≤_, _<_}
 use mathlib.Core.Path.{_≡_}
-use mathlib.Core.Logic.{_≢_, _⊎_}
-use mathlib.Core.Bool.{true, false}
+use mathlib.Core.Logic.{_⊎_}
 use mathlib.Core.List.{List, List·Memᴰ}
 use lib.ListN.{length, getD}
 use Rattle.network.specs.Network.{Network, nodeCount, neighboursOf, weightsOf}
 use Rattle.network.specs.Accepted.{Accepted}
 use Rattle.network.specs.Distance.{NONE, LONGEST}
-use Rattle.network.specs.Points.{marked}
-use Rattle.network.specs.Nearest.{key}
+use Rattle.network.specs.Points.{lockers}
+use Rattle.network.specs.Nearest.{key, times}
 use Rattle.rows.specs.Flat.{rowAt, Sized}
-use Rattle.rows.specs.Take.{hasPoint}
+use Rattle.rows.specs.Check.{among}
 
--- (p, e) of a neighbour's row may go into a row: p is a point that the row lacks, and e can be a distance
+-- (p, e) of a neighbour's row may go into a row: the row lacks a locker of p, and e can be a distance
 pub record Fits (P own : List ℕ) (p e : ℕ) : Type 0 where
-  pub point : marked P p ≡ true
   pub low : e ≤ LONGEST
-  pub lacks : (j : ℕ) → j < length own → getD own j 0 ≢ p
+  pub lacks : among own p (length own) < lockers P p
 
 -- r is the better of a candidate and (p, e) over an arc of weight w
 pub record Better (P own : List ℕ) (best r : ℕ × ℕ) (p e w : ℕ) : Type 0 where
@@ -48,9 +46,8 @@ pub record CanChoose (g : Network) (ids dists : List ℕ) (K i : ℕ) : Type 0 w
 
 -- the same of rows as lists: (p, e) of the row of a neighbour may go into the row
 pub record Fit (P : List ℕ) (own : List (ℕ × ℕ)) (p e : ℕ) : Type 0 where
-  pub point : marked P p ≡ true
   pub low : e ≤ LONGEST
-  pub lacks : hasPoint p own ≡ false
+  pub lacks : times p own < lockers P p
 
 -- the row of a neighbour, by an arc of i before place `end`, gives r
 pub record GivesOver (g : Network) (P ids dists : List ℕ) (K i end : ℕ) (r : ℕ × ℕ) : Type 0 where

@@ -1,7 +1,7 @@
 -- A table whose rows are freed of a point and filled again: what the steps of `remove` require and leave. Words of scratch: short flags n | queue. An
 -- entry of the queue offers a point to a short row: its distance, and the tag of point and node. Any contents of the table are allowed.
 -- Assumes nothing.
-use Prim.Native.Nat.{ℕ, _+_, _-_, _*_, _≤_, _<_}
+use Prim.Native.Nat.{ℕ, suc, _+_, _-_, _*_, _≤_, _<_}
 use mathlib.Core.Path.{_≡_}
 use mathlib.Core.Logic.{_≢_, _⊎_}
 use mathlib.Core.Bool.{Bool, true, false}
@@ -12,15 +12,16 @@ use Rattle.network.specs.Network.{Network, Arc, nodeCount, arcCount, neighbours
 use Rattle.network.specs.Accepted.{Accepted}
 use Rattle.network.specs.Walk.{Walk}
 use Rattle.network.specs.Distance.{NONE, LONGEST, dist}
-use Rattle.network.specs.Points.{marked}
+use Rattle.network.specs.Points.{lockers, marked}
 use Rattle.network.specs.Count.{count}
-use Rattle.network.specs.Nearest.{key, nearest, Nearer, before}
+use Rattle.network.specs.Nearest.{key, nearest, Nearer, before, times}
 use Rattle.network.specs.Rows.{pad, row}
 use Rattle.expansion.specs.Queue.{Holds, Queue}
 use Rattle.expansion.specs.Area.{Kept, Entered}
 use Rattle.expansion.specs.Room.{arcsLeft}
 use Rattle.rows.specs.Flat.{rowAt, Sized}
-use Rattle.rows.specs.Take.{takeOut, hasPoint}
+use Rattle.rows.specs.Take.{takeIf}
+use Rattle.rows.specs.Check.{among}
 use Rattle.table.specs.Candidate.{GivesOver, BestOf}
 use Rattle.table.specs.Offer.{offerOf, arcOffer}
 
@@ -36,17 +37,21 @@ pub record CanFree (xs ids dists : List ℕ) (n K : ℕ) : Type 0 where
   pub fits : n * K ≤ length ids
   pub same : length dists ≡ length ids
 
--- x is taken out of the rows below `end`, those that had it are flagged, and they are `changed`
-pub record Freed (xs ys ids dists ids′ dists′ : List ℕ) (K x end changed : ℕ) : Type 0 where
+-- row i has all lockers of x
+abbrev pub hasAll : List ℕ → List ℕ → ℕ → ℕ → ℕ → ℕ → Bool
+hasAll ids dists K x all i = eqb (times x (rowAt ids dists K i)) all
+
+-- one of x is taken out of the rows below `end` that have all, these are flagged, and they are `changed`
+pub record Freed (xs ys ids dists ids′ dists′ : List ℕ) (K x all end changed : ℕ) : Type 0 where
   pub size : length ys ≡ length xs
   pub ids-size : length ids′ ≡ length ids
   pub dists-size : length dists′ ≡ length dists
-  pub flagged : (i : ℕ) → i < end → hasPoint x (rowAt ids dists K i) ≡ true → getD ys i 0 ≡ 1
-  pub others : (i : ℕ) → i < end → hasPoint x (rowAt ids dists K i) ≡ false → getD ys i 0 ≡ getD xs i 0
+  pub flagged : (i : ℕ) → i < end → hasAll ids dists K x all i ≡ true → getD ys i 0 ≡ 1
+  pub others : (i : ℕ) → i < end → hasAll ids dists K x all i ≡ false → getD ys i 0 ≡ getD xs i 0
   pub rest : (i : ℕ) → end ≤ i → getD ys i 0 ≡ getD xs i 0
-  pub freed : (i : ℕ) → i < end → rowAt ids′ dists′ K i ≡ takeOut x (rowAt ids dists K i)
+  pub freed : (i : ℕ) → i < end → rowAt ids′ dists′ K i ≡ takeIf (hasAll ids dists K x all i) x (rowAt ids dists K i)
   pub later : (i : ℕ) → end ≤ i → rowAt ids′ dists′ K i ≡ rowAt ids dists K i
-  pub counted : changed ≡ count (λ i. hasPoint x (rowAt ids dists K i)) end
+  pub counted : changed ≡ count (hasAll ids dists K x all) end
 
 -- ---- The first offers.
 -- an empty queue behind the flags, with room for an entry for each row
@@ -81,10 +86,10 @@ pub record Seeded (g : Network) (P xs ys ids dists : List ℕ) (K end len : ℕ)
   pub all : (i : ℕ) → i < end → isShort xs i ≡ true → HasSeed g P ids dists K i (Holds (drop (nodeCount g) ys) len)
 
 -- ---- Taking an offer.
--- (p, d) is put at the last place of a row that lacks p; else the row stays as it is. r says which
-pub record PutLast (ids dists ids′ dists′ : List ℕ) (p d : ℕ) (r : Bool) : Type 0 where
-  pub taken : r ≡ true → ((j : ℕ) → j < length ids → getD ids j 0 ≢ p) × (ids′ ≡ set ids (length ids - 1) p) × (dists′ ≡ set dists (length ids - 1) d)
-  pub refused : r ≡ false → ((j : ℕ) × (j < length ids) × (getD ids j 0 ≡ p)) × (ids′ ≡ ids) × (dists′ ≡ dists)
+-- (p, d) is put at the last place of a row that lacks a locker of p; else the row stays as it is. r says which
+pub record PutLast (P ids dists ids′ dists′ : List ℕ) (p d : ℕ) (r : Bool) : Type 0 where
+  pub taken : r ≡ true → (among ids p (length ids) < lockers P p) × (ids′ ≡ set ids (length ids - 1) p) × (dists′ ≡ set dists (length ids - 1) d)
+  pub refused : r ≡ false → (lockers P p ≤ among ids p (length ids)) × (ids′ ≡ ids) × (dists′ ≡ dists)
 
 -- row i has a flag, and lies in both arrays
 pub record CanTakeIn (xs ids dists : List ℕ) (K i : ℕ) : Type 0 where
@@ -94,26 +99,26 @@ pub record CanTakeIn (xs ids dists : List ℕ) (K i : ℕ) : Type 0 where
   pub same : length dists ≡ length ids
 
 -- short row i takes (p, d) at its last place and is short no more; or it stays as it is, for one of three reasons
-pub record Takes (xs ys ids dists ids′ dists′ : List ℕ) (K i p d : ℕ) : Type 0 where
+pub record Takes (P xs ys ids dists ids′ dists′ : List ℕ) (K i p d : ℕ) : Type 0 where
   pub short : isShort xs i ≡ true
   pub low : d ≤ LONGEST
-  pub lacks : hasPoint p (rowAt ids dists K i) ≡ false
+  pub lacks : times p (rowAt ids dists K i) < lockers P p
   pub words : ys ≡ set xs i 0
   pub row : rowAt ids′ dists′ K i ≡ set (rowAt ids dists K i) (K - 1) (p, d)
 
-pub record Refuses (xs ys ids dists ids′ dists′ : List ℕ) (K i p d : ℕ) : Type 0 where
+pub record Refuses (P xs ys ids dists ids′ dists′ : List ℕ) (K i p d : ℕ) : Type 0 where
   pub words : ys ≡ xs
   pub row : rowAt ids′ dists′ K i ≡ rowAt ids dists K i
-  pub why : (isShort xs i ≡ false) ⊎ ((LONGEST < d) ⊎ (hasPoint p (rowAt ids dists K i) ≡ true))
+  pub why : (isShort xs i ≡ false) ⊎ ((LONGEST < d) ⊎ (lockers P p ≤ times p (rowAt ids dists K i)))
 
 -- one of both, by r; the other rows are as they were
-pub record TakenIn (xs ys ids dists ids′ dists′ : List ℕ) (K i p d : ℕ) (r : Bool) : Type 0 where
+pub record TakenIn (P xs ys ids dists ids′ dists′ : List ℕ) (K i p d : ℕ) (r : Bool) : Type 0 where
   pub size : length ys ≡ length xs
   pub ids-size : length ids′ ≡ length ids
   pub dists-size : length dists′ ≡ length dists
   pub others : (c : ℕ) → c ≢ i → rowAt ids′ dists′ K c ≡ rowAt ids dists K c
-  pub taken : r ≡ true → Takes xs ys ids dists ids′ dists′ K i p d
-  pub refused : r ≡ false → Refuses xs ys ids dists ids′ dists′ K i p d
+  pub taken : r ≡ true → Takes P xs ys ids dists ids′ dists′ K i p d
+  pub refused : r ≡ false → Refuses P xs ys ids dists ids′ dists′ K i p d
 
 -- ---- Offering it on.
 -- the arcs of v before place `end` have each put in an entry, or lead to a row that is not short
@@ -145,10 +150,11 @@ pub record CanFill (g : Network) (xs : List ℕ) (len : ℕ) (ids dists : List �
   pub sized : Sized g K ids dists
   pub waiting : Waiting g xs len
 
--- i wants p: p is the point of Q with K - 1 before it, the entry that a short row lacks
+-- i wants p: place K - 1 of its row is for a locker of p, the entry that a short row lacks
 pub record Wants (g : Network) (Q : List ℕ) (K i p : ℕ) : Type 0 where
   pub nearer : Nearer g Q i NONE p
-  pub rank : before g Q i NONE (key (p, dist g i p)) ≡ K - 1
+  pub low : before g Q i NONE (key (p, dist g i p)) ≤ K - 1
+  pub high : K - 1 < before g Q i NONE (suc (key (p, dist g i p)))
 
 -- the next node of a shortest way from i to p is short and wants p too
 pub record Behind (g : Network) (Q xs : List ℕ) (K i p : ℕ) : Type 0 where
@@ -180,8 +186,8 @@ pub record Mending (g : Network) (Q : List ℕ) (K : ℕ) (ids dists xs : List �
       (i p : ℕ) → i < nodeCount g → isShort xs i ≡ true → Wants g Q K i p
       → Holds (drop (nodeCount g) xs) len (offerOf i p (dist g i p)) ⊎ Behind g Q xs K i p
 
--- filling leaves arrays of the same lengths, and a table that is being mended for Q becomes the table of Q
-pub record FillLeft (g : Network) (xs ys : List ℕ) (len : ℕ) (ids dists ids′ dists′ : List ℕ) (K : ℕ) : Type 0 where
+-- filling leaves arrays of the same lengths, and a table that is being mended for P becomes the table of P
+pub record FillLeft (g : Network) (P xs ys : List ℕ) (len : ℕ) (ids dists ids′ dists′ : List ℕ) (K : ℕ) : Type 0 where
   pub size : length ys ≡ length xs
   pub sized : Sized g K ids′ dists′
-  pub mended : (Q : List ℕ) → Mending g Q K ids dists xs len → (i : ℕ) → i < nodeCount g → rowAt ids′ dists′ K i ≡ row g Q K i
+  pub mended : Mending g P K ids dists xs len → (i : ℕ) → i < nodeCount g → rowAt ids′ dists′ K i ≡ row g P K i

@@ -1,5 +1,5 @@
--- What `remove` requires. Document 01, 'The table': 'remove clears one'. What it leaves is `UpdateLeft` of the marks without the node. Words of
--- scratch: short flags n | queue.
+-- What `remove` requires. Document 01, 'The table', with Ask 8: 'remove takes one'. What it leaves is `UpdateLeft` of the bytes with one less.
+-- Words of scratch: short flags n | queue.
 -- Assumes nothing.
 use Prim.Native.Nat.{ℕ, _+_, _*_, _≤_, _<_}
 use mathlib.Core.Path.{_≡_}

@@ -1,8 +1,8 @@
-// Build: source 000, Fig. 8. Every point is offered to its own node's row; the least offer by distance, point and node is taken out, and where the row
-// has a free place and lacks the point it takes it, and those neighbours whose rows have a place for it are offered it in turn. Document 01, 'The
-// table': 'Build fills it.'
+// Build: source 000, Fig. 8. Every point is offered to its own node's row; the least offer by distance, point and node is taken out, and where the
+// row has a free place and lacks the point it takes it, once for each of its lockers or as often as there is room for, and those neighbours whose
+// rows have a place for it are offered it in turn. Document 01, 'The table': 'Build fills it.'
 ghost use mathlib.Core.Path.{_≡_};
-ghost use Prim.Native.Nat.{_≤_};
+ghost use Prim.Native.Nat.{_≤_, _<_};
 ghost use lib.ListN.{length, replicate};
 ghost use Rattle.network.specs.Network.{network, neighboursOf};
 ghost use Rattle.network.specs.Distance.{NONE};
@@ -13,6 +13,7 @@ use expansion::words;
 use network::arcs;
 use network::arcs::wide;
 use network::distance::Distance;
+use network::points::lockers_at;
 use rows::rows::row_of;
 
 // Makes every place empty.
@@ -64,20 +65,33 @@ fn has_place_at(s: &[u32], ids: &[u32], places: usize, node: u32, p: u32) -> boo
     has_place(ids_row, wide(size), p)
 }
 
-// Puts (p, d) behind the `size` entries of a row, where it has a place for p. Returns whether it did.
-fn append(ids_row: &mut [u32], distances_row: &mut [u32], size: usize, p: u32, d: u32) -> bool
-    requires { ⌜ (length (now «distances_row») ≡ length (now «ids_row»)) × (size ≤ length (now «ids_row»)) ⌝ }
-    ensures { λ r. ⌜ Appended (now («ids_row» .entry)) (now («ids_row» .exit)) (now («distances_row» .entry)) (now («distances_row» .exit)) size p d r ⌝ }
+// Puts (p, d) behind the `size` entries of a row where it has a place for p, once for each of p's lockers or as often as there is room for. Returns
+// how many entries the row has then.
+fn append(
+    ids_row: &mut [u32],
+    distances_row: &mut [u32],
+    size: usize,
+    p: u32,
+    d: u32,
+    all: usize,
+) -> usize
+    requires { ⌜ (length (now «distances_row») ≡ length (now «ids_row»)) × (size ≤ length (now «ids_row»)) × (0 < all) ⌝ }
+    ensures { λ r. ⌜ Appended (now («ids_row» .entry)) (now («ids_row» .exit)) (now («distances_row» .entry)) (now («distances_row» .exit)) size p d all r ⌝ }
 {
-    if has_place(ids_row, size, p) {
-        ids_row[size] = p;
-        distances_row[size] = d;
-        return true;
+    if !has_place(ids_row, size, p) {
+        return size;
     }
-    false
+    let end = size + words::lesser(all, ids_row.len() - size);
+    let mut at = size;
+    while at < end {
+        ids_row[at] = p;
+        distances_row[at] = d;
+        at += 1;
+    }
+    at
 }
 
-// The same of a node's row, lent as the part of both arrays that it is. Its size is the node's word of scratch.
+// The same of a node's row, lent as the part of both arrays that it is. Its size is the node's word of scratch. Returns whether it took p.
 fn append_at(
     s: &mut [u32],
     ids: &mut [u32],
@@ -86,29 +100,32 @@ fn append_at(
     node: u32,
     p: u32,
     d: u32,
+    all: usize,
 ) -> bool
-    requires { ⌜ CanAppend (now s) (now ids) (now distances) places node ⌝ }
-    ensures { λ r. ⌜ AppendedAt (now (s .entry)) (now (s .exit)) (now (ids .entry)) (now (ids .exit)) (now (distances .entry)) (now (distances .exit)) places node p d r ⌝ }
+    requires { ⌜ CanAppend (now s) (now ids) (now distances) places node all ⌝ }
+    ensures { λ r. ⌜ AppendedAt (now (s .entry)) (now (s .exit)) (now (ids .entry)) (now (ids .exit)) (now (distances .entry)) (now (distances .exit)) places node p d all r ⌝ }
 {
     let at = wide(node);
     let from = at * places;
     let end = from + places;
-    let size = s[at];
-    let taken = append(
+    let size = wide(s[at]);
+    let then = append(
         &mut ids[from..end],
         &mut distances[from..end],
-        wide(size),
+        size,
         p,
         d,
+        all,
     );
-    if taken {
-        s[at] = size + 1;
+    if size < then {
+        s[at] = then as u32;
+        return true;
     }
-    taken
+    false
 }
 
-// Offers a point of a node's row to the nodes that its arcs lead to, at the distance over the arc, where their rows have a place for it: a row that has
-// none now has none later, and would refuse the offer. Returns the queue's length then.
+// Offers a point of a node's row to the nodes that its arcs lead to, at the distance over the arc, where their rows have a place for it: a row that
+// has none now has none later, and would refuse the offer. Returns the queue's length then.
 fn offer(
     starts: &[u32],
     neighbours: &[u32],
@@ -154,7 +171,7 @@ fn seed(points: &[u8], s: &mut [u32]) -> usize
         let node = v as u32;
         let mark = points[v];
         v += 1;
-        if mark == 1 {
+        if 0 < mark {
             let tag = tags::tag_of(node, node);
             queue::push_at(s, n, len, 0, tag);
             len += 1;
@@ -188,7 +205,8 @@ fn spread(
         let tag = e.tag;
         let p = tags::tag_node(tag);
         let node = tags::tag_parent(tag);
-        if append_at(s, ids, distances, places, node, p, d) {
+        let all = lockers_at(points, p);
+        if append_at(s, ids, distances, places, node, p, d, all) {
             left = offer(
                 starts,
                 neighbours,

@@ -1,15 +1,14 @@
 // Insert: document 01, 'The table'. An expansion from the new point that stops behind a row that does not take it.
-ghost use lib.ListN.{set};
 ghost use Rattle.network.specs.Network.{network};
 ghost use Rattle.table.specs.Insert.{CanInsert};
-ghost use Rattle.table.specs.Updated.{UpdateLeft};
+ghost use Rattle.table.specs.Updated.{moreAt, UpdateLeft};
 use expansion::step;
 use expansion::step::Taken;
 use network::arcs::wide;
 use rows::put;
 
-// Marks a node and brings the table up to date. Returns how many rows changed. All words are 0 before and after. The mark comes last: no row is read
-// from the marks.
+// Adds a locker to a node and brings the table up to date. Returns how many rows changed. All words are 0 before and after. The mark comes last: no
+// row is read from the marks.
 pub fn insert(
     starts: &[u32],
     neighbours: &[u32],
@@ -22,7 +21,7 @@ pub fn insert(
     k: usize,
 ) -> u32
     requires { ⌜ CanInsert (network (now starts) (now neighbours) (now weights)) (now points) (now s) (now ids) (now distances) x k ⌝ }
-    ensures { λ r. ⌜ UpdateLeft (network (now (starts .entry)) (now (neighbours .entry)) (now (weights .entry))) (now (points .entry)) (set (now (points .entry)) x 1) (now (points .exit)) (now (s .entry)) (now (s .exit)) (now (ids .entry)) (now (distances .entry)) (now (ids .exit)) (now (distances .exit)) k r ⌝ }
+    ensures { λ r. ⌜ UpdateLeft (network (now (starts .entry)) (now (neighbours .entry)) (now (weights .entry))) (now (points .entry)) (moreAt (now (points .entry)) x) (now (points .exit)) (now (s .entry)) (now (s .exit)) (now (ids .entry)) (now (distances .entry)) (now (ids .exit)) (now (distances .exit)) k r ⌝ }
 {
     let n = starts.len() - 1;
     step::start(s, 0, n, x);
@@ -39,7 +38,7 @@ pub fn insert(
         } = taken
         else {
             step::clear(s, 0, n, settled, 0);
-            points[wide(x)] = 1;
+            points[wide(x)] += 1;
             return changed;
         };
         let took = put::put_in_row(ids, distances, k, wide(node), x, label);

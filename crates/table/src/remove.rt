@@ -1,22 +1,25 @@
-// Remove: document 01, 'The table'. All rows are freed of the point before the first is filled. A freed row is short: it wants one entry, the best
-// that its neighbours' rows hold and it lacks. The least offer by distance, point and node is taken out; a short row that lacks its point takes it, is
-// short no more, and offers it to its short neighbours. Words of scratch: short flags n | queue.
+// Remove: document 01, 'The table'. One locker of the node is taken out of every row that shows all of them before the first is filled. Such a row is
+// short: it wants one entry, the best that its neighbours' rows hold and it lacks. The least offer by distance, point and node is taken out; a short
+// row that lacks a locker of its point takes it, is short no more, and offers it to its short neighbours. Words of scratch: short flags n | queue.
 ghost use Prim.Native.Nat.{_≤_, _<_};
 ghost use mathlib.Core.Path.{_≡_};
-ghost use lib.ListN.{length, set};
+ghost use lib.ListN.{length};
 ghost use Rattle.network.specs.Network.{network, nodeCount, neighboursOf};
-ghost use Rattle.network.specs.Points.{marked};
+ghost use lib.Dec.{ltb};
+ghost use Rattle.network.specs.Points.{lockers};
+ghost use Rattle.rows.specs.Check.{among};
 ghost use Rattle.table.specs.Candidate.{Better, BestOfRow, CanChoose, BestOf};
 ghost use Rattle.table.specs.Offer.{CanOffer};
 ghost use Rattle.table.specs.Mend.{CanFree, Freed, CanSeed, Seeded, PutLast, CanTakeIn, TakenIn, Offered, CanFill, FillLeft};
 ghost use Rattle.table.specs.Remove.{CanRemove};
-ghost use Rattle.table.specs.Updated.{UpdateLeft};
+ghost use Rattle.table.specs.Updated.{fewerAt, UpdateLeft};
 use expansion::queue;
 use expansion::tags;
 use expansion::words;
 use network::arcs;
 use network::arcs::wide;
 use network::distance::Distance;
+use network::points::lockers_at;
 use rows::take;
 
 // An entry that a short row may take. A distance of NONE stands for none.
@@ -25,15 +28,23 @@ struct Candidate {
     distance: u32,
 }
 
-// Takes a point out of every row, and flags the rows that had it. Returns how many.
-fn free(s: &mut [u32], ids: &mut [u32], distances: &mut [u32], n: usize, k: usize, x: u32) -> u32
+// Takes one locker of a node out of every row that has all of them, and flags these rows. Returns how many.
+fn free(
+    s: &mut [u32],
+    ids: &mut [u32],
+    distances: &mut [u32],
+    n: usize,
+    k: usize,
+    x: u32,
+    all: usize,
+) -> u32
     requires { ⌜ CanFree (now s) (now ids) (now distances) n k ⌝ }
-    ensures { λ r. ⌜ Freed (now (s .entry)) (now (s .exit)) (now (ids .entry)) (now (distances .entry)) (now (ids .exit)) (now (distances .exit)) k x n r ⌝ }
+    ensures { λ r. ⌜ Freed (now (s .entry)) (now (s .exit)) (now (ids .entry)) (now (distances .entry)) (now (ids .exit)) (now (distances .exit)) k x all n r ⌝ }
 {
     let mut changed = 0;
     let mut i = 0;
     while i < n {
-        let was = take::take_out_of_row(ids, distances, k, i, x);
+        let was = take::take_out_of_row(ids, distances, k, i, x, all);
         if was {
             s[i] = 1;
             changed += 1;
@@ -43,16 +54,13 @@ fn free(s: &mut [u32], ids: &mut [u32], distances: &mut [u32], n: usize, k: usiz
     changed
 }
 
-// Whether a node is a point.
-fn is_marked(points: &[u8], p: u32) -> bool
-    ensures { λ r. ⌜ r ≡ marked (now (points .entry)) p ⌝ }
+// Whether a row lacks a locker of a node: it shows fewer than the node has, which are none where the word is no node.
+fn lacks(points: &[u8], own: &[u32], p: u32) -> bool
+    ensures { λ r. ⌜ r ≡ ltb (among (now (own .entry)) p (length (now (own .entry)))) (lockers (now (points .entry)) p) ⌝ }
 {
-    let at = wide(p);
-    if points.len() <= at {
-        return false;
-    }
-    let mark = points[at];
-    mark == 1
+    let all = lockers_at(points, p);
+    let c = rows::rows::among(own, p, own.len());
+    c < all
 }
 
 // The better of a candidate and what an entry (p, e) of a neighbour's row gives over an arc of weight w: a point that the row lacks, at a distance
@@ -70,11 +78,7 @@ fn better(points: &[u8], own: &[u32], best: Candidate, p: u32, e: u32, w: u32) -
     if least <= key {
         return best;
     }
-    let at = take::place_of_point(own, p);
-    if at < own.len() {
-        return best;
-    }
-    if is_marked(points, p) {
+    if lacks(points, own, p) {
         return Candidate {
             point: p,
             distance: d,
@@ -184,23 +188,23 @@ fn seed(
     len
 }
 
-// Puts (p, d) at the last place of a row that lacks p. Returns whether it did.
-fn put_last(ids: &mut [u32], distances: &mut [u32], p: u32, d: u32) -> bool
+// Puts (p, d) at the last place of a row that lacks a locker of p. Returns whether it did.
+fn put_last(points: &[u8], ids: &mut [u32], distances: &mut [u32], p: u32, d: u32) -> bool
     requires { ⌜ (length (now distances) ≡ length (now ids)) × (1 ≤ length (now ids)) ⌝ }
-    ensures { λ r. ⌜ PutLast (now (ids .entry)) (now (distances .entry)) (now (ids .exit)) (now (distances .exit)) p d r ⌝ }
+    ensures { λ r. ⌜ PutLast (now (points .entry)) (now (ids .entry)) (now (distances .entry)) (now (ids .exit)) (now (distances .exit)) p d r ⌝ }
 {
     let size = ids.len();
-    let at = take::place_of_point(ids, p);
-    if at < size {
-        return false;
+    if lacks(points, ids, p) {
+        ids[size - 1] = p;
+        distances[size - 1] = d;
+        return true;
     }
-    ids[size - 1] = p;
-    distances[size - 1] = d;
-    true
+    false
 }
 
 // A short row takes (p, d), where it lacks p and d can be a distance; it is short no more. Its last place is free: it lost one. Returns whether it did.
 fn take_in(
+    points: &[u8],
     s: &mut [u32],
     ids: &mut [u32],
     distances: &mut [u32],
@@ -210,7 +214,7 @@ fn take_in(
     d: u32,
 ) -> bool
     requires { ⌜ CanTakeIn (now s) (now ids) (now distances) k i ⌝ }
-    ensures { λ r. ⌜ TakenIn (now (s .entry)) (now (s .exit)) (now (ids .entry)) (now (distances .entry)) (now (ids .exit)) (now (distances .exit)) k i p d r ⌝ }
+    ensures { λ r. ⌜ TakenIn (now (points .entry)) (now (s .entry)) (now (s .exit)) (now (ids .entry)) (now (distances .entry)) (now (ids .exit)) (now (distances .exit)) k i p d r ⌝ }
 {
     let flag = s[i];
     if flag != 1 {
@@ -221,7 +225,7 @@ fn take_in(
     }
     let a = i * k;
     let e = a + k;
-    let took = put_last(&mut ids[a..e], &mut distances[a..e], p, d);
+    let took = put_last(points, &mut ids[a..e], &mut distances[a..e], p, d);
     if took {
         s[i] = 0;
         return true;
@@ -267,6 +271,7 @@ fn fill(
     starts: &[u32],
     neighbours: &[u32],
     weights: &[u32],
+    points: &[u8],
     s: &mut [u32],
     len: usize,
     ids: &mut [u32],
@@ -274,7 +279,7 @@ fn fill(
     k: usize,
 )
     requires { ⌜ CanFill (network (now starts) (now neighbours) (now weights)) (now s) len (now ids) (now distances) k ⌝ }
-    ensures { λ _. ⌜ FillLeft (network (now (starts .entry)) (now (neighbours .entry)) (now (weights .entry))) (now (s .entry)) (now (s .exit)) len (now (ids .entry)) (now (distances .entry)) (now (ids .exit)) (now (distances .exit)) k ⌝ }
+    ensures { λ _. ⌜ FillLeft (network (now (starts .entry)) (now (neighbours .entry)) (now (weights .entry))) (now (points .entry)) (now (s .entry)) (now (s .exit)) len (now (ids .entry)) (now (distances .entry)) (now (ids .exit)) (now (distances .exit)) k ⌝ }
 {
     let n = starts.len() - 1;
     let mut left = len;
@@ -285,14 +290,14 @@ fn fill(
         let tag = entry.tag;
         let p = tags::tag_node(tag);
         let i = wide(tags::tag_parent(tag));
-        let took = take_in(s, ids, distances, k, i, p, d);
+        let took = take_in(points, s, ids, distances, k, i, p, d);
         if took {
             left = offer(starts, neighbours, weights, s, left, i, p, d);
         }
     }
 }
 
-// Clears the mark of a node and brings the table up to date. Returns how many rows changed. All words are 0 before and after.
+// Takes one locker of a node away and brings the table up to date. Returns how many rows changed. All words are 0 before and after.
 pub fn remove(
     starts: &[u32],
     neighbours: &[u32],
@@ -305,13 +310,26 @@ pub fn remove(
     k: usize,
 ) -> u32
     requires { ⌜ CanRemove (network (now starts) (now neighbours) (now weights)) (now points) (now s) (now ids) (now distances) x k ⌝ }
-    ensures { λ r. ⌜ UpdateLeft (network (now (starts .entry)) (now (neighbours .entry)) (now (weights .entry))) (now (points .entry)) (set (now (points .entry)) x 0) (now (points .exit)) (now (s .entry)) (now (s .exit)) (now (ids .entry)) (now (distances .entry)) (now (ids .exit)) (now (distances .exit)) k r ⌝ }
+    ensures { λ r. ⌜ UpdateLeft (network (now (starts .entry)) (now (neighbours .entry)) (now (weights .entry))) (now (points .entry)) (fewerAt (now (points .entry)) x) (now (points .exit)) (now (s .entry)) (now (s .exit)) (now (ids .entry)) (now (distances .entry)) (now (ids .exit)) (now (distances .exit)) k r ⌝ }
 {
     let n = starts.len() - 1;
-    points[wide(x)] = 0;
-    let changed = free(s, ids, distances, n, k, x);
+    let all = lockers_at(points, x);
+    let at = wide(x);
+    let byte = points[at];
+    points[at] = byte - 1;
+    let changed = free(s, ids, distances, n, k, x, all);
     let len = seed(starts, neighbours, weights, points, s, ids, distances, k);
-    fill(starts, neighbours, weights, s, len, ids, distances, k);
+    fill(
+        starts,
+        neighbours,
+        weights,
+        points,
+        s,
+        len,
+        ids,
+        distances,
+        k,
+    );
     words::zero(s);
     changed
 }

@@ -74,10 +74,7 @@ roomy c =
 -- where a point is noted, only words before the area change
 beside : (c : tie.After-note Inv-loop μ-loop) → Beside (c .before .before .before .before .«open» .last .1 .1 .1 .0) (c .note .last .1 .0) (2 * start-of (loop-of (taken-of (c .before .before .before .before))) .args .k)
 beside c =
-    let o = c .before .before .before .before in
-    let t = taken-of o in
-    let l = loop-of t in
-    noted-beside (o .«open» .last .1 .1 .1 .0) (start-of l .args .k) (l .loop .found) (t .taken .given .0 .1 .0) (t .taken .given .0 .0) (place t) (roomy o) (c .note .ensures)
+    noted-beside (c .note .ensures)
 
 sub-n : tie.Need-sub-n Inv-loop μ-loop
 sub-n c = search needs
@@ -157,7 +154,7 @@ note-requires : tie.Need-note-requires Inv-loop μ-loop
 note-requires c κs =
     let o = c .before .before .before in
     let t = taken-of o in
-    (omega (arith, took t .inside, start-of (loop-of t) .pre .points), place t, omega (arith, place t, roomy o))
+    (place t, omega (arith, roomy o))
 
 loop-less : tie.Need-loop-less Inv-loop μ-loop
 loop-less c =

@@ -1,69 +1,91 @@
--- `nearest::note` meets its contract: the byte that it tests is the mark of the node.
+-- `expansion::nearest::note` meets its contract. The invariant: the node is written from `found` up to `at`. The measure is what is left of the places.
 -- Assumes nothing.
-use Prim.Native.Nat.{ℕ}
-use lib.ListN.{getD}
-use mathlib.Core.Path.{_≡_, refl, sym, ap, _∙_}
-use mathlib.Core.Bool.{false≢true}
-use borrow.Author.Tests.{eq-eqb, ne-eqb}
+use Prim.Native.Nat.{_-_, _≤_, _+_}
+use native.Mathlib.Omega.{arith}
+use lib.ListN.{length}
+use Rattle.expansion.specs.Found.{Written}
+use Rattle.expansion.proofs.FoundLaws.{written-none, written-more, second-fits}
 use borrow.Author.Needs.{needs}
 use Rattle.expansion.proofs.nearest.note.Statement.{statement}
 use Rattle.expansion.proofs.nearest.note.Tie as tie
 
--- the byte that is read is that of the node
-read : (c : tie.After-shared-slice-known2) → getD (c .before .before .before .before .args .points .now) (c .before .wide .result) 0 ≡ getD (c .before .before .before .before .args .points .now) (c .before .before .before .before .args .node) 0
-read c = ap (λ (i : ℕ). getD (c .before .before .before .before .args .points .now) i 0) (c .before .wide .ensures)
+abbrev Inv-loop : tie.InvT-loop
+Inv-loop points s₀ k found node label all end at₀ s at = (found ≤ at) × (at ≤ end) × (end ≤ k) × Written s₀ s k found node label at
 
-wide-requires : tie.Need-wide-requires
-wide-requires c κs = search needs
+abbrev μ-loop : tie.MeasureT-loop
+μ-loop points s₀ k found node label all end at₀ s at = end - at
 
-shared-slice-read-mark : tie.Need-shared-slice-read-mark
-shared-slice-read-mark c = search needs
+abbrev start-of : tie.At-loop Inv-loop μ-loop → tie.Start Inv-loop μ-loop
+start-of l = l .before .before .before .before .before
 
-mul-s : tie.Need-mul-s
+-- the words have room for 2 k
+wide-enough : (l : tie.At-loop Inv-loop μ-loop) → start-of l .args .k + start-of l .args .k ≤ length (l .loop .s)
+wide-enough l = omega (arith, start-of l .pre .1, l .loop .inv .3 .size)
+
+lockers-at-requires : tie.Need-lockers-at-requires Inv-loop μ-loop
+lockers-at-requires c κs = search needs
+
+add-lesser : tie.Need-add-lesser Inv-loop μ-loop
+add-lesser c = omega (arith, c .lockers-at .ensures .1)
+
+lesser-requires : tie.Need-lesser-requires Inv-loop μ-loop
+lesser-requires c κs = search needs
+
+loop-holds : tie.Need-loop-holds Inv-loop μ-loop
+loop-holds c = (search needs, omega (arith, c .lesser .ensures), omega (arith, c .lesser .ensures), written-none _ _ _ _ _)
+
+mul-s : tie.Need-mul-s Inv-loop μ-loop
 mul-s c = search needs
 
-slice-write-s : tie.Need-slice-write-s
+slice-write-s : tie.Need-slice-write-s Inv-loop μ-loop
 slice-write-s c = search needs
 
-add-s : tie.Need-add-s
+add-s : tie.Need-add-s Inv-loop μ-loop
 add-s c = search needs
 
-mul-s-2 : tie.Need-mul-s-2
+mul-s-2 : tie.Need-mul-s-2 Inv-loop μ-loop
 mul-s-2 c = search needs
 
-slice-write-s-2 : tie.Need-slice-write-s-2
-slice-write-s-2 c = search needs
+slice-write-s-2 : tie.Need-slice-write-s-2 Inv-loop μ-loop
+slice-write-s-2 c = let l = c .before in second-fits (l .loop .s) (start-of l .args .k) (l .loop .at) (start-of l .args .node) (omega (arith, l .loop .inv .2)) (wide-enough l)
 
-add-result : tie.Need-add-result
-add-result c = search needs
+add-at : tie.Need-add-at Inv-loop μ-loop
+add-at c = search needs
 
-same-length : tie.Need-same-length
+loop-less : tie.Need-loop-less Inv-loop μ-loop
+loop-less c = search needs
+
+loop-again : tie.Need-loop-again Inv-loop μ-loop
+loop-again c = let l = c .before in (search needs, search needs, search needs, written-more (l .loop .inv .3) (l .loop .inv .0) (omega (arith, l .loop .inv .2)) (wide-enough l))
+
+same-length : tie.Need-same-length Inv-loop μ-loop
 same-length c = search needs
 
-returns : tie.Need-returns
+returns : tie.Need-returns Inv-loop μ-loop
 returns c =
-    let s = c .before .before .before .before .before in
-    let m = eq-eqb (getD (s .args .points .now) (s .args .node) 0) 1 (sym (read (c .before)) ∙ c .if1 .taken) in
-    record { point = λ _. (refl, refl); other = λ n. absurd (false≢true (sym n ∙ m)) }
-
-returns-2 : tie.Need-returns-2
-returns-2 c =
-    let s = c .before .before .before .before .before in
-    let m = ne-eqb (getD (s .args .points .now) (s .args .node) 0) 1 (λ e. c .if1 .left (read (c .before) ∙ e)) in
-    record { point = λ n. absurd (false≢true (sym m ∙ n)); other = λ _. (refl, refl) }
+    let l = c .before in
+    record {
+      count = omega (arith, l .loop .inv .1, c .loop-test .left, l .before .lesser .ensures, l .before .before .lockers-at .ensures .0);
+      written = l .loop .inv .3;
+    }
 
 pub note-spec : {M : Type 1} → statement M
 note-spec =
     tie.close
     (tie.spec
-    wide-requires
-    shared-slice-read-mark
+    Inv-loop
+    μ-loop
+    lockers-at-requires
+    add-lesser
+    lesser-requires
+    loop-holds
     mul-s
     slice-write-s
     add-s
     mul-s-2
     slice-write-s-2
-    add-result
+    add-at
+    loop-less
+    loop-again
     same-length
-    returns
-    returns-2)
+    returns)

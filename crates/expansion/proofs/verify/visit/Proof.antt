@@ -2,6 +2,7 @@
 -- way; and the tally counts the other points that it has settled, below the present label and at it, where every node nearer than the present
 -- label is settled, and q is not. The measure is the expansion's room, which falls with each node that is settled.
 -- Assumes nothing.
+use Prim.Native.Nat.{_+_, _*_, _≤_}
 use mathlib.Core.Path.{refl}
 use native.Mathlib.Omega.{arith}
 use lib.ListN.{length}
@@ -10,13 +11,11 @@ use borrow.Author.Needs.{needs}
 use borrow.Author.Tests.{eqb-true, eqb-false}
 use Rattle.network.specs.Network.{Network, network, nodeCount, neighboursOf}
 use Rattle.network.specs.Accepted.{Accepted}
-use Rattle.network.proofs.Counts.{bit-most}
 use Rattle.expansion.specs.Area.{Kept, Took, Followed}
-use Rattle.expansion.specs.Visited.{isOther}
 use Rattle.expansion.proofs.AreaLaws.{room, settledAs, kept-less, kept-trans, area-left}
 use Rattle.expansion.proofs.AreaSearch.{label-back}
 use Rattle.expansion.proofs.Progress.{All, all-leads, Progress, progress-start, progress-nodes, took-area, took-place, took-fits, took-follow, room-falls, frame-settled, progress-settled}
-use Rattle.expansion.proofs.VisitLaws.{Counted, counted-few, counted-start, labels-exact, came, came-label, counted-next, answer-taken, answer-none}
+use Rattle.expansion.proofs.VisitLaws.{Counted, came-sum, counted-start, labels-exact, came, came-label, counted-next, answer-taken, answer-none}
 use Rattle.expansion.proofs.verify.visit.Statement.{statement}
 use Rattle.expansion.proofs.verify.visit.Tie as tie
 
@@ -25,6 +24,7 @@ Inv-loop starts neighbours weights points s₀ b p q k n tally₀ settled₀ len
     Kept s₀ s b
     × Progress (network starts neighbours weights) p All All s b settled len
     × Counted (network starts neighbours weights) points p q s b (tally .label) (tally .below) (tally .level)
+    × (tally .below + tally .level ≤ 255 * settled)
 
 abbrev μ-loop : tie.MeasureT-loop
 μ-loop starts neighbours weights points s₀ b p q k n tally₀ settled₀ len₀ s tally settled len = room (network starts neighbours weights) s b len
@@ -92,6 +92,7 @@ loop-holds c =
       record { size = refl; words = λ i h. refl },
       progress-start (p .accepted) (p .blank) (p .size) (p .inside) begun,
       counted-start (network (s .args .starts .now) (s .args .neighbours .now) (s .args .weights .now)) (s .args .points .now) (s .args .p) (s .args .q) (s .pre .inside) (p .blank) begun,
+      omega arith,
     )
 
 next-requires : tie.Need-next-requires Inv-loop μ-loop
@@ -123,7 +124,9 @@ returns c =
     }
 
 come-to-requires : tie.Need-come-to-requires Inv-loop μ-loop
-come-to-requires c κs = let l = loop-of (c .before) in omega (arith, counted-few (accepted l) (l .loop .inv .2))
+come-to-requires c κs =
+    let l = loop-of (c .before) in
+    omega (arith, l .loop .inv .3, took-place (accepted l) (l .loop .inv .1) (took (c .before)), accepted l .few)
 
 same-length-2 : tie.Need-same-length-2 Inv-loop μ-loop
 same-length-2 c = search needs
@@ -144,21 +147,21 @@ returns-2 c =
     }
 
 counts-requires : tie.Need-counts-requires Inv-loop μ-loop
-counts-requires c κs =
-    let d = c .before .before .before in
-    omega (arith, took (taken-of d) .inside, start-of (loop-of (taken-of d)) .pre .points)
+counts-requires c κs = search needs
 
 add-tally : tie.Need-add-tally Inv-loop μ-loop
 add-tally c =
     let d = c .before .before .before .before .before in
-    let s = start-of (loop-of (taken-of d)) in
+    let l = loop-of (taken-of d) in
     record {
       fits =
           omega (
             arith,
-            counted-few (accepted (loop-of (taken-of d))) (counted d),
-            c .before .counts .ensures,
-            bit-most (isOther (s .args .points .now) (s .args .p) (taken-of d .taken .given .0 .1 .0)),
+            l .loop .inv .3,
+            came-sum (d .come-to .ensures),
+            took-place (accepted l) (l .loop .inv .1) (took (taken-of d)),
+            accepted l .few,
+            c .before .counts .ensures .1,
           );
     }
 
@@ -200,7 +203,8 @@ loop-again c =
       kept-trans (l .loop .inv .0) (frame-settled ok e (took t) (followed o .frame)),
       progress-settled ok e (took t) (all-leads ok _) (followed o),
       counted-next ok e (took t) (start-of l .pre .inside) (eqb-false (t .taken .given .0 .1 .0) (start-of l .args .q) (r .before .if2 .left)) (counted d) (followed o)
-          (came-label ok e (took t) (start-of l .pre .inside) (l .loop .inv .2) (d .come-to .ensures)) (r .counts .ensures),
+          (came-label ok e (took t) (start-of l .pre .inside) (l .loop .inv .2) (d .come-to .ensures)) (r .counts .ensures .0),
+      omega (arith, l .loop .inv .3, came-sum (d .come-to .ensures), r .counts .ensures .1),
     )
 
 pub visit-spec : {M : Type 1} → statement M

@@ -11,10 +11,10 @@ use Rattle.lazy_searches.proofs.lazy.count_visited.Statement.{statement
 use Rattle.lazy_searches.proofs.lazy.count_visited.Tie as tie
 
 abbrev Inv-loop : tie.InvT-loop
-Inv-loop s₀ n b settled label i₀ s i = (i ≤ settled) × CountedAll n s₀ s b i label
+Inv-loop s₀ n b settled label lockers i₀ s i = (i ≤ settled) × CountedAll n s₀ s b i label lockers
 
 abbrev μ-loop : tie.MeasureT-loop
-μ-loop s₀ n b settled label i₀ s i = settled - i
+μ-loop s₀ n b settled label lockers i₀ s i = settled - i
 
 loop-holds : tie.Need-loop-holds Inv-loop μ-loop
 loop-holds c = (omega arith, counted-none)

@@ -1,9 +1,10 @@
 -- `lazy_searches::lazy::discover` meets its contract: the verification over the words before the search's area, the counts, and the area cleared.
 -- Assumes nothing.
-use mathlib.Core.Path.{_≡_, sym}
+use Prim.Native.Nat.{_<_}
+use mathlib.Core.Path.{_≡_, sym, _∙_}
 use mathlib.Core.List.{_++_}
 use native.Mathlib.Omega.{arith}
-use lib.ListN.{length, getD, drop, length-set}
+use lib.ListN.{length, drop, length-set}
 use Rattle.lazy_searches.proofs.Discovery.{part-length, discovered-none, can-visit, can-count, count-part, area-still, clear-size, discovered-yes, discovered-no}
 use borrow.Author.Needs.{needs}
 use Rattle.lazy_searches.proofs.lazy.discover.Statement.{statement}
@@ -21,9 +22,9 @@ visit-of t = t .before .before .before .before
 abbrev count-of : tie.After-clear → tie.After-count-visited
 count-of e = e .before .before .before .before
 
--- the node is a point
-point : (v : tie.After-visit) → let a = start-of (wide-of v) .args in getD (a .points .now) (a .node) 0 ≡ 1
-point v = rw (wide-of v .wide .ensures) at (v .before .before .if1 .left)
+-- its lockers
+abbrev lockers-of : tie.After-visit → tie.After-lockers-at
+lockers-of v = v .before .before .before
 
 sized : (e : tie.After-clear)
     → let a = start-of (wide-of (visit-of (count-of e))) .args in
@@ -39,13 +40,11 @@ sub-n c = search needs
 wide-requires : tie.Need-wide-requires
 wide-requires c κs = search needs
 
-shared-slice-read-mark : tie.Need-shared-slice-read-mark
-shared-slice-read-mark c = search needs
+lockers-at-requires : tie.Need-lockers-at-requires
+lockers-at-requires c κs = search needs
 
 returns : tie.Need-returns
-returns c =
-    let w = c .before .before in
-    discovered-none (start-of w .pre) (rw (w .wide .ensures) at (c .if1 .taken))
+returns c = discovered-none (start-of (c .before .before) .pre) (sym (c .before .lockers-at .ensures .0) ∙ c .if1 .taken)
 
 mul-a : tie.Need-mul-a
 mul-a c = search needs
@@ -59,10 +58,13 @@ slice-aggregate-visit c = sym (part-length (start-of (c .before .before .before)
 visit-requires : tie.Need-visit-requires
 visit-requires c κs = can-visit (start-of (c .before .before .before) .pre)
 
+cast-count-visited : tie.Need-cast-count-visited
+cast-count-visited c = omega (arith, lockers-of (c .before .before .before) .lockers-at .ensures .1)
+
 count-visited-requires : tie.Need-count-visited-requires
 count-visited-requires c κs =
     let v = c .before .before .before in
-    can-count (start-of (wide-of v) .pre) (v .visit .ensures)
+    can-count (start-of (wide-of v) .pre) (v .visit .ensures) (lockers-of v .lockers-at .ensures .1)
 
 slice-relend-prefix-clear : tie.Need-slice-relend-prefix-clear
 slice-relend-prefix-clear c = search needs
@@ -79,11 +81,22 @@ clear-requires c κs =
     let v = visit-of t in
     area-still (start-of (wide-of v) .pre) (v .visit .ensures) (t .count-visited .ensures)
 
+-- the place of its flag
+flag-low : (e : tie.After-clear) → let w = wide-of (visit-of (count-of e)) in w .wide .result < 65536
+flag-low e =
+    let w = wide-of (visit-of (count-of e)) in
+    let p = start-of w .pre in
+    omega (arith, p .inside, p .accepted .few, w .wide .ensures)
+
 add-s : tie.Need-add-s
-add-s c = search needs
+add-s c =
+    let e = c .before .before .before in
+    record { fits = omega (arith, flag-low e, start-of (wide-of (visit-of (count-of e))) .pre .accepted .few) }
 
 mul-s : tie.Need-mul-s
-mul-s c = search needs
+mul-s c =
+    let e = c .before .before .before in
+    record { fits = omega (arith, flag-low e, start-of (wide-of (visit-of (count-of e))) .pre .accepted .few) }
 
 slice-write-s : tie.Need-slice-write-s
 slice-write-s c =
@@ -101,7 +114,7 @@ returns-2 c =
     let t = count-of e in
     let v = visit-of t in
     let w = wide-of v in
-    rw (w .wide .ensures) (discovered-yes (start-of w .pre) (v .visit .ensures) (t .count-visited .ensures) (e .clear .ensures) (point v) (c .if2 .taken))
+    rw (w .wide .ensures) (discovered-yes (start-of w .pre) (v .visit .ensures) (t .count-visited .ensures) (e .clear .ensures) (lockers-of v .lockers-at .ensures) (v .before .before .if1 .left) (c .if2 .taken))
 
 same-length-2 : tie.Need-same-length-2
 same-length-2 c = sized (c .before .before .before)
@@ -111,7 +124,7 @@ returns-3 c =
     let e = c .before .before .before in
     let t = count-of e in
     let v = visit-of t in
-    discovered-no (start-of (wide-of v) .pre) (v .visit .ensures) (t .count-visited .ensures) (e .clear .ensures) (point v) (c .if2 .left)
+    discovered-no (start-of (wide-of v) .pre) (v .visit .ensures) (t .count-visited .ensures) (e .clear .ensures) (lockers-of v .lockers-at .ensures) (c .if2 .left)
 
 pub discover-spec : {M : Type 1} → statement M
 discover-spec =
@@ -119,12 +132,13 @@ discover-spec =
     (tie.spec
     sub-n
     wide-requires
-    shared-slice-read-mark
+    lockers-at-requires
     returns
     mul-a
     slice-relend-prefix-visit
     slice-aggregate-visit
     visit-requires
+    cast-count-visited
     count-visited-requires
     slice-relend-prefix-clear
     slice-aggregate-clear

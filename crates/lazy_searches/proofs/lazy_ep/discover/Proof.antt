@@ -1,12 +1,12 @@
 -- `lazy_searches::lazy_ep::discover` meets its contract: the byte that it tests is the mark of the node; a point is verified, and comes into its own
 -- row.
 -- Assumes nothing.
-use mathlib.Core.Path.{_≡_, sym, ap, _∙_}
+use mathlib.Core.Path.{_≡_, sym, ap}
 use mathlib.Core.Bool.{true}
 use native.Mathlib.Omega.{arith}
 use lib.ListN.{getD}
 use lib.Seq.{length-take-le}
-use borrow.Author.Tests.{eq-eqb, ne-eqb}
+use borrow.Author.Tests.{lt-ltb, le-ltb}
 use Rattle.network.specs.Points.{marked}
 use Rattle.lazy_searches.proofs.LazyEpLaws.{no-point, can-verify, can-admit, discovered}
 use borrow.Author.Needs.{needs}
@@ -24,7 +24,7 @@ mark : (c : tie.Else1) → marked (start-of (c .before .before) .args .points .n
 mark c =
     let w = c .before .before in
     let a = start-of w .args in
-    eq-eqb (getD (a .points .now) (a .v) 0) 1 (ap (λ i. getD (a .points .now) i 0) (sym (w .wide .ensures)) ∙ c .if1 .left)
+    lt-ltb 0 (getD (a .points .now) (a .v) 0) (omega (arith, ap (λ i. getD (a .points .now) i 0) (w .wide .ensures), c .if1 .left))
 
 wide-requires : tie.Need-wide-requires
 wide-requires c κs = search needs
@@ -37,7 +37,7 @@ returns c =
     let w = c .before .before in
     let a = start-of w .args in
     no-point (start-of w .pre)
-    (ne-eqb (getD (a .points .now) (a .v) 0) 1 (λ e. c .if1 .taken (ap (λ i. getD (a .points .now) i 0) (w .wide .ensures) ∙ e)))
+    (le-ltb 0 (getD (a .points .now) (a .v) 0) (omega (arith, ap (λ i. getD (a .points .now) i 0) (w .wide .ensures), c .if1 .taken)))
 
 verify-point-requires : tie.Need-verify-point-requires
 verify-point-requires c κs =

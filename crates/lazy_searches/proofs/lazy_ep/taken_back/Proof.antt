@@ -48,7 +48,7 @@ returns-3 : tie.Need-returns-3
 returns-3 c =
     let d = c .before .before in
     let w = d .before in
-    let a = w .before .before .before .before .args in
+    let a = w .before .before .before .before .before .args in
     λ e.
     inr
     (record {

@@ -1,4 +1,4 @@
--- `overlap::numbers::bad_byte` meets its contract. The invariant: no byte before i is above 1. The measure is what is left of the bytes.
+-- `overlap::numbers::bad_byte` meets its contract. The invariant: no byte before i is above 15. The measure is what is left of the bytes.
 -- Assumes nothing.
 use Prim.Native.Nat.{ℕ, _-_, _≤_, _<_}
 use mathlib.Core.Path.{_≡_}
@@ -16,13 +16,13 @@ use Rattle.overlap.proofs.numbers.bad_byte.Tie as tie
 
 -- the test at byte i, from what the code compares there
 module _ (P : List ℕ) (i : ℕ) where
-  byte-high : 1 < getD P i 0 → badByteAt P i ≡ true
+  byte-high : 15 < getD P i 0 → badByteAt P i ≡ true
   unfolding badByteAt
-  byte-high h = lt-ltb 1 (getD P i 0) h
+  byte-high h = lt-ltb 15 (getD P i 0) h
 
-  byte-good : getD P i 0 ≤ 1 → badByteAt P i ≡ false
+  byte-good : getD P i 0 ≤ 15 → badByteAt P i ≡ false
   unfolding badByteAt
-  byte-good h = le-ltb 1 (getD P i 0) h
+  byte-good h = le-ltb 15 (getD P i 0) h
 
 abbrev Inv-loop : tie.InvT-loop
 Inv-loop points i₀ i = (i ≤ length points) × (any (badByteAt points) i ≡ false)
@@ -33,8 +33,8 @@ abbrev μ-loop : tie.MeasureT-loop
 loop-holds : tie.Need-loop-holds Inv-loop μ-loop
 loop-holds c = (search needs, any-start _)
 
-shared-slice-read-mark : tie.Need-shared-slice-read-mark Inv-loop μ-loop
-shared-slice-read-mark c = search needs
+shared-slice-read-lockers : tie.Need-shared-slice-read-lockers Inv-loop μ-loop
+shared-slice-read-lockers c = search needs
 
 returns : tie.Need-returns Inv-loop μ-loop
 returns c = found _ _ _ (c .before .before .loop-test .taken) (byte-high _ _ (omega (arith, c .if1 .taken)))
@@ -58,7 +58,7 @@ bad-byte-spec =
     Inv-loop
     μ-loop
     loop-holds
-    shared-slice-read-mark
+    shared-slice-read-lockers
     returns
     add-i
     loop-less

@@ -3,7 +3,6 @@
 use Prim.Native.Nat.{_<_}
 use mathlib.Core.Path.{sym, ap, _∙_}
 use native.Mathlib.Omega.{arith}
-use lib.ListN.{length}
 use Rattle.network.specs.Network.{Network, network, nodeCount}
 use Rattle.overlap.specs.declared.updated.Kind.{Kind}
 use Rattle.overlap.specs.Build.{TableReady}
@@ -25,9 +24,6 @@ ready c =
     let n = c .before in
     let s = start n in
     table-node-ready (G s) (s .args .points .now) (s .args .node) (s .args .places) (s .args .ids .now) (s .args .distances .now) (sym (n .table-node-number .ensures) ∙ c .if1 .left)
-
-inside : (c : tie.Else1) → let s = start (c .before) in s .args .node < length (s .args .points .now)
-inside c = let r = ready c in omega (arith, r .0, r .1 .points)
 
 table-node-number-requires : tie.Need-table-node-number-requires
 table-node-number-requires c κs = search needs
@@ -51,14 +47,14 @@ returns-2 c =
 enum-told : tie.Need-enum-told
 enum-told c = search needs
 
-marked-number-requires : tie.Need-marked-number-requires
-marked-number-requires c κs = inside (c .before .before .before .before)
+full-number-requires : tie.Need-full-number-requires
+full-number-requires c κs = search needs
 
 enum-told-2 : tie.Need-enum-told-2
 enum-told-2 c = search needs
 
 unmarked-number-requires : tie.Need-unmarked-number-requires
-unmarked-number-requires c κs = inside (c .before .before .before .before)
+unmarked-number-requires c κs = search needs
 
 returns-3 : tie.Need-returns-3
 unfolding changeNumber
@@ -69,7 +65,7 @@ returns-3 c =
     let s = start (d .before) in
     first-later _ _ _ _ (d .before .table-node-number .ensures) (d .if1 .left)
     (first-later _ _ _ _ (e .before .scratch-number .ensures) (e .if2 .left)
-    (first-last _ _ (c .marked-number .ensures ∙ ap (λ (k : Kind). kindNumber k (s .args .points .now) (s .args .node)) (sym (t .enum-told .given .1)))))
+    (first-last _ _ (c .full-number .ensures ∙ ap (λ (k : Kind). kindNumber k (s .args .points .now) (s .args .node)) (sym (t .enum-told .given .1)))))
 
 returns-4 : tie.Need-returns-4
 unfolding changeNumber
@@ -92,7 +88,7 @@ change-number-spec =
     scratch-number-requires
     returns-2
     enum-told
-    marked-number-requires
+    full-number-requires
     enum-told-2
     unmarked-number-requires
     returns-3

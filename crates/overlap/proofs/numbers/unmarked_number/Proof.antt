@@ -1,32 +1,29 @@
 -- `overlap::numbers::unmarked_number` meets its contract: each return is what its test says.
 -- Assumes nothing.
-use mathlib.Core.Path.{sym, ap, _∙_}
-use lib.ListN.{getD}
-use borrow.Author.Tests.{eq-eqb, ne-eqb}
+use native.Mathlib.Omega.{arith}
+use borrow.Author.Tests.{lt-ltb, le-ltb}
+use Rattle.network.specs.Points.{lockers}
 use Rattle.overlap.specs.Numbers.{unmarkedNumber}
 use borrow.Author.Needs.{needs}
 use Rattle.overlap.proofs.numbers.unmarked_number.Statement.{statement}
 use Rattle.overlap.proofs.numbers.unmarked_number.Tie as tie
 
-wide-requires : tie.Need-wide-requires
-wide-requires c κs = search needs
-
-shared-slice-read-mark : tie.Need-shared-slice-read-mark
-shared-slice-read-mark c = search needs
+lockers-at-requires : tie.Need-lockers-at-requires
+lockers-at-requires c κs = search needs
 
 returns : tie.Need-returns
 unfolding unmarkedNumber
 returns c =
-    let w = c .before .before in
-    let s = w .before .before in
-    rw (eq-eqb (getD (s .args .points .now) (s .args .p) 0) 1 (ap (λ i. getD (s .args .points .now) i 0) (sym (w .wide .ensures)) ∙ c .if1 .taken))
+    let l = c .before in
+    let a = l .before .before .args in
+    rw (lt-ltb 0 (lockers (a .points .now) (a .p)) (omega (arith, l .lockers-at .ensures .0, c .if1 .taken)))
 
 returns-2 : tie.Need-returns-2
 unfolding unmarkedNumber
 returns-2 c =
-    let w = c .before .before in
-    let s = w .before .before in
-    rw (ne-eqb (getD (s .args .points .now) (s .args .p) 0) 1 (λ e. c .if1 .left (ap (λ i. getD (s .args .points .now) i 0) (w .wide .ensures) ∙ e)))
+    let l = c .before in
+    let a = l .before .before .args in
+    rw (le-ltb 0 (lockers (a .points .now) (a .p)) (omega (arith, l .lockers-at .ensures .0, c .if1 .left)))
 
 pub unmarked-number-spec : {M : Type 1} → statement M
-unmarked-number-spec = tie.close (tie.spec wide-requires shared-slice-read-mark returns returns-2)
+unmarked-number-spec = tie.close (tie.spec lockers-at-requires returns returns-2)

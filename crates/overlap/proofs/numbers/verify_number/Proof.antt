@@ -1,10 +1,8 @@
 -- `overlap::numbers::verify_number` meets its contract: behind each test its number is 0, and the first that is not is returned.
 -- Assumes nothing.
-use Prim.Native.Nat.{_<_}
-use mathlib.Core.Path.{_≡_, sym, _∙_}
+use mathlib.Core.Path.{sym, _∙_}
 use native.Mathlib.Omega.{arith}
-use lib.ListN.{length}
-use Rattle.network.specs.Network.{Network, network, nodeCount}
+use Rattle.network.specs.Network.{Network, network}
 use Rattle.network.specs.Accepted.{Accepted}
 use Rattle.overlap.specs.Verify.{verifyNumber}
 use Rattle.overlap.proofs.Ready.{first-is, first-later, first-last, k-ready, site-ready}
@@ -18,9 +16,9 @@ G s = network (s .args .starts .now) (s .args .neighbours .now) (s .args .weight
 abbrev start : tie.After-site-number → tie.Start
 start c = c .before .before .before .before .before .before
 
--- behind the first test the network is accepted, and p one of the nodes that have a byte
-ready : (c : tie.Else1) → let s = start (c .before) in Accepted (G s) × (length (s .args .points .now) ≡ nodeCount (G s)) × (s .args .p < nodeCount (G s))
-ready c = let n = c .before in let s = start n in site-ready (G s) (s .args .points .now) (s .args .p) (sym (n .site-number .ensures) ∙ c .if1 .left)
+-- behind the first test the network is accepted
+ready : (c : tie.Else1) → let s = start (c .before) in Accepted (G s)
+ready c = let n = c .before in let s = start n in site-ready (G s) (s .args .points .now) (s .args .p) (sym (n .site-number .ensures) ∙ c .if1 .left) .0
 
 site-number-requires : tie.Need-site-number-requires
 site-number-requires c κs = search needs
@@ -30,7 +28,7 @@ unfolding verifyNumber
 returns c = first-is _ _ _ (c .before .site-number .ensures) (c .if1 .taken)
 
 sub-n : tie.Need-sub-n
-sub-n c = omega (arith, ready c .0 .some)
+sub-n c = omega (arith, ready c .some)
 
 node-number-requires : tie.Need-node-number-requires
 node-number-requires c κs = search needs
@@ -53,7 +51,7 @@ returns-3 c =
 
 scratch-number-requires : tie.Need-scratch-number-requires
 scratch-number-requires c κs =
-    let ok = ready (c .before .before .before .before) .0 in
+    let ok = ready (c .before .before .before .before) in
     (ok .few, ok .few-arcs, omega (arith, k-ready _ (sym (c .before .k-number .ensures) ∙ c .if3 .left) .1))
 
 returns-4 : tie.Need-returns-4
@@ -65,7 +63,7 @@ returns-4 c =
     (first-is _ _ _ (c .before .scratch-number .ensures) (c .if4 .taken))))
 
 unmarked-number-requires : tie.Need-unmarked-number-requires
-unmarked-number-requires c κs = let r = ready (c .before .before .before .before .before .before) in omega (arith, r .1, r .2)
+unmarked-number-requires c κs = search needs
 
 returns-5 : tie.Need-returns-5
 unfolding verifyNumber

@@ -6,12 +6,11 @@ use mathlib.Core.List.{List}
 use native.Mathlib.Omega.{arith}
 use lib.ListN.{length, length-take}
 use Rattle.network.specs.Network.{Network, network, nodeCount, arcCount}
-use Rattle.network.specs.Points.{marked}
 use Rattle.expansion.specs.Area.{Blank}
 use Rattle.overlap.specs.declared.updated.Kind.{Kind}
 use Rattle.overlap.specs.declared.updated.Kind.the-variants.{Insert, Remove}
 use Rattle.overlap.specs.Build.{TableReady}
-use Rattle.overlap.specs.Updated.{kindMark, CanChange}
+use Rattle.overlap.specs.Updated.{KindReady, CanChange}
 use Rattle.overlap.proofs.Ready.{ready-same}
 use Rattle.overlap.proofs.Scratch.{zero-length, part-blank, part-wiped, words-enough}
 use borrow.Author.Needs.{needs}
@@ -19,21 +18,21 @@ use Rattle.overlap.proofs.updated.run.Statement.{statement}
 use Rattle.overlap.proofs.updated.run.Tie as tie
 
 -- what the work asks, of either kind
-can-change : (kind : Kind) (g : Network) (P xs ids distances : List ℕ) (node K : ℕ) → node < nodeCount g → TableReady g P K ids distances → marked P node ≡ kindMark kind
+can-change : (kind : Kind) (g : Network) (P xs ids distances : List ℕ) (node K : ℕ) → node < nodeCount g → TableReady g P K ids distances → KindReady kind P node
     → Blank xs 0 → 3 * nodeCount g + 2 * (arcCount g + 1) ≤ length xs → CanChange kind g P xs ids distances node K
-can-change Insert g P xs ids distances node K inside r mark blank room =
+can-change Insert g P xs ids distances node K inside r byte blank room =
     record {
       expand = record { accepted = r .accepted; inside = inside; blank = blank; size = omega arith };
       points = r .points;
-      unmarked = mark;
+      room = byte;
       sized = r .sized;
     }
-can-change Remove g P xs ids distances node K inside r mark blank room =
+can-change Remove g P xs ids distances node K inside r byte blank room =
     record {
       accepted = r .accepted;
       points = r .points;
       inside = inside;
-      is-point = mark;
+      is-point = byte;
       least = r .least;
       most = r .most;
       sized = r .sized;
@@ -95,7 +94,7 @@ change-requires c κs =
     can-change (s .args .kind) (G s) (s .args .points .now) _ (s .args .ids .now) (s .args .distances .now) (s .args .node) (c .wide .result)
     (p .inside)
     (ready-same (c .wide .ensures) (p .ready))
-    (s .pre .mark)
+    (s .pre .byte)
     (part-blank (length (s .args .scratch .now)) (used s) (z .zero .ensures))
     (simp length-take (omega (arith, fits s, long z)))
 

@@ -28,7 +28,7 @@ wide-of d = wide-at (else-of d)
 inside : (e : tie.Else3) → let a = start-of (wide-at e) .args in a .p < nodeCount (network (a .starts .now) (a .neighbours .now) (a .weights .now))
 inside e = omega (arith, e .before .before .before .before .if1 .left, wide-at e .wide .ensures)
 
-mark : (e : tie.Else3) → let a = start-of (wide-at e) .args in getD (a .points .now) (a .p) 0 ≡ 1
+mark : (e : tie.Else3) → let a = start-of (wide-at e) .args in 0 < getD (a .points .now) (a .p) 0
 mark e =
     let m = rw (wide-at e .wide .ensures) at (e .before .before .if2 .left) in
     omega (arith, m)

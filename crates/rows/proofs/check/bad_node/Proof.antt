@@ -10,7 +10,7 @@ use Rattle.rows.proofs.check.bad_node.Tie as tie
 -- the code tests row i, which is lent as the parts that it is
 row-tested : (c : tie.After-bad-row)
     → let a = c .before .before .before .before .before .before .before .before .before .args in
-    badRow (rowPart (a .places) (a .i) (a .ids .now)) (rowPart (a .places) (a .i) (a .distances .now)) ≡ c .bad-row .result
+    badRow (a .points .now) (rowPart (a .places) (a .i) (a .ids .now)) (rowPart (a .places) (a .i) (a .distances .now)) ≡ c .bad-row .result
 row-tested c = rw (← (c .before .before .row-of .ensures), ← (c .before .row-of2 .ensures)) (sym (c .bad-row .ensures))
 
 own-tested : (c : tie.After-lacks-own)

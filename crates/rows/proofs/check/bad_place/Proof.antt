@@ -1,7 +1,6 @@
--- `rows::check::bad_place` meets its contract: each return is a case of the definition.
+-- `rows::check::bad_place` meets its contract: the place is padding or an entry.
 -- Assumes nothing.
-use mathlib.Core.Path.{sym, _∙_}
-use Rattle.rows.proofs.CheckTests.{place-padding, place-repeated, place-first, place-later}
+use Rattle.rows.proofs.CheckTests.{place-padding, place-entry}
 use borrow.Author.Needs.{needs}
 use Rattle.rows.proofs.check.bad_place.Statement.{statement}
 use Rattle.rows.proofs.check.bad_place.Tie as tie
@@ -12,41 +11,19 @@ mul-p c = search needs
 shared-slice-read-p : tie.Need-shared-slice-read-p
 shared-slice-read-p c = search needs
 
-mul-d : tie.Need-mul-d
-mul-d c = search needs
-
-shared-slice-read-d : tie.Need-shared-slice-read-d
-shared-slice-read-d c = search needs
+bad-padding-requires : tie.Need-bad-padding-requires
+bad-padding-requires c κs = search needs
 
 returns : tie.Need-returns
-returns c = place-padding _ _ _ (c .if1 .taken)
+returns c = place-padding _ _ _ _ _ (c .before .if1 .taken) (c .bad-padding .ensures)
 
-stands-among-requires : tie.Need-stands-among-requires
-stands-among-requires c κs = search needs
+bad-entry-requires : tie.Need-bad-entry-requires
+bad-entry-requires c κs = search needs
 
 returns-2 : tie.Need-returns-2
-returns-2 c = place-repeated _ _ _ (c .before .before .if1 .left) (sym (c .before .stands-among .ensures) ∙ c .if2 .taken)
-
-returns-3 : tie.Need-returns-3
-returns-3 c = place-first _ _ _ (c .before .before .before .if1 .left) (sym (c .before .before .stands-among .ensures) ∙ c .before .if2 .left) (c .if3 .taken)
-
-follows-requires : tie.Need-follows-requires
-follows-requires c κs = search needs
-
-returns-4 : tie.Need-returns-4
-returns-4 c = place-later _ _ _ (c .before .before .before .before .if1 .left) _ (sym (c .before .before .before .stands-among .ensures) ∙ c .before .before .if2 .left) (c .before .if3 .left) (c .follows .ensures)
+returns-2 c = place-entry _ _ _ _ _ (c .before .if1 .left) (c .bad-entry .ensures)
 
 pub bad-place-spec : {M : Type 1} → statement M
 bad-place-spec =
     tie.close
-    (tie.spec
-    mul-p
-    shared-slice-read-p
-    mul-d
-    shared-slice-read-d
-    returns
-    stands-among-requires
-    returns-2
-    returns-3
-    follows-requires
-    returns-4)
+    (tie.spec mul-p shared-slice-read-p bad-padding-requires returns bad-entry-requires returns-2)

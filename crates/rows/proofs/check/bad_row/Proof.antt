@@ -12,10 +12,10 @@ use Rattle.rows.proofs.check.bad_row.Statement.{statement}
 use Rattle.rows.proofs.check.bad_row.Tie as tie
 
 abbrev Inv-loop : tie.InvT-loop
-Inv-loop ids distances j₀ j = (j ≤ length ids) × (any (badPlace ids distances) j ≡ false)
+Inv-loop points ids distances j₀ j = (j ≤ length ids) × (any (badPlace points ids distances) j ≡ false)
 
 abbrev μ-loop : tie.MeasureT-loop
-μ-loop ids distances j₀ j = length ids - j
+μ-loop points ids distances j₀ j = length ids - j
 
 loop-holds : tie.Need-loop-holds Inv-loop μ-loop
 loop-holds c = (search needs, any-start _)

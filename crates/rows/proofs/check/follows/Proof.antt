@@ -1,9 +1,19 @@
--- `rows::check::follows` meets its contract: the place before is padding, or its entry is compared.
+-- `rows::check::follows` meets its contract: the place before is padding, or the node is new, or it repeats.
 -- Assumes nothing.
-use Rattle.rows.proofs.CheckTests.{follows-padding, follows-entry}
+use Rattle.rows.proofs.CheckTests.{follows-padding, follows-new, follows-again}
+use mathlib.Core.Path.{_≡_, sym, _∙_}
+use lib.ListN.{getD}
+use Rattle.rows.specs.Check.{among}
 use borrow.Author.Needs.{needs}
 use Rattle.rows.proofs.check.follows.Statement.{statement}
 use Rattle.rows.proofs.check.follows.Tie as tie
+
+-- how often the node stands before the place
+abbrev start-of : tie.Else1 → tie.Start
+start-of e = e .before .before .before .before .before
+
+counted : (e : tie.Else1) → let a = start-of e .args in a .c ≡ among (a .ids .now) (getD (a .ids .now) (a .j) 0) (a .j)
+counted e = start-of e .pre .3
 
 sub-q : tie.Need-sub-q
 sub-q c = search needs
@@ -14,41 +24,20 @@ mul-q c = search needs
 shared-slice-read-q : tie.Need-shared-slice-read-q
 shared-slice-read-q c = search needs
 
-sub-long : tie.Need-sub-long
-sub-long c = search needs
-
-mul-long : tie.Need-mul-long
-mul-long c = search needs
-
-shared-slice-read-long : tie.Need-shared-slice-read-long
-shared-slice-read-long c = search needs
-
-long-requires : tie.Need-long-requires
-long-requires c κs = search needs
-
-mul-p : tie.Need-mul-p
-mul-p c = search needs
-
-shared-slice-read-p : tie.Need-shared-slice-read-p
-shared-slice-read-p c = search needs
-
-mul-long-2 : tie.Need-mul-long-2
-mul-long-2 c = search needs
-
-shared-slice-read-long-2 : tie.Need-shared-slice-read-long-2
-shared-slice-read-long-2 c = search needs
-
-long-requires-2 : tie.Need-long-requires-2
-long-requires-2 c κs = search needs
-
 returns : tie.Need-returns
-returns c = follows-padding _ _ _ (c .if1 .taken)
+returns c = follows-padding _ _ _ _ (c .if1 .taken)
 
-precedes-requires : tie.Need-precedes-requires
-precedes-requires c κs = search needs
+begins-requires : tie.Need-begins-requires
+begins-requires c κs = search needs
 
 returns-2 : tie.Need-returns-2
-returns-2 c = follows-entry _ _ _ _ (c .before .if1 .left) (rw (c .before .before .before .before .before .long .ensures, c .before .before .long2 .ensures) at (c .precedes .ensures))
+returns-2 c = follows-new _ _ _ _ _ (c .before .before .if1 .left) (sym (counted (c .before .before)) ∙ c .before .if2 .taken) (c .begins .ensures)
+
+repeats-requires : tie.Need-repeats-requires
+repeats-requires c κs = search needs
+
+returns-3 : tie.Need-returns-3
+returns-3 c = follows-again _ _ _ _ _ (c .before .before .if1 .left) (λ z. c .before .if2 .left (counted (c .before .before) ∙ z)) (c .repeats .ensures)
 
 pub follows-spec : {M : Type 1} → statement M
 follows-spec =
@@ -57,15 +46,8 @@ follows-spec =
     sub-q
     mul-q
     shared-slice-read-q
-    sub-long
-    mul-long
-    shared-slice-read-long
-    long-requires
-    mul-p
-    shared-slice-read-p
-    mul-long-2
-    shared-slice-read-long-2
-    long-requires-2
     returns
-    precedes-requires
-    returns-2)
+    begins-requires
+    returns-2
+    repeats-requires
+    returns-3)

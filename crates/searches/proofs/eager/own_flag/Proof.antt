@@ -1,7 +1,7 @@
 -- `searches::eager::own_flag` meets its contract: each return is a case of the test.
 -- Assumes nothing.
 use lib.ListN.{getD}
-use borrow.Author.Tests.{eq-eqb, ne-eqb}
+use borrow.Author.Tests.{lt-ltb, le-ltb}
 use borrow.Author.Needs.{needs}
 use Rattle.searches.proofs.eager.own_flag.Statement.{statement}
 use Rattle.searches.proofs.eager.own_flag.Tie as tie
@@ -15,12 +15,12 @@ shared-slice-read-mark c = search needs
 returns : tie.Need-returns
 returns c =
     let s = c .before .before .before .before in
-    rw (eq-eqb (getD (s .args .points .now) (s .args .q) 0) 1 (rw (c .before .before .wide .ensures) at (c .if1 .taken)))
+    rw (lt-ltb 0 (getD (s .args .points .now) (s .args .q) 0) (rw (c .before .before .wide .ensures) at (c .if1 .taken)))
 
 returns-2 : tie.Need-returns-2
 returns-2 c =
     let s = c .before .before .before .before in
-    rw (ne-eqb (getD (s .args .points .now) (s .args .q) 0) 1 (rw (c .before .before .wide .ensures) at (c .if1 .left)))
+    rw (le-ltb 0 (getD (s .args .points .now) (s .args .q) 0) (rw (c .before .before .wide .ensures) at (c .if1 .left)))
 
 pub own-flag-spec : {M : Type 1} → statement M
 own-flag-spec = tie.close (tie.spec wide-requires shared-slice-read-mark returns returns-2)

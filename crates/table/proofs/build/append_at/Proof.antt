@@ -1,11 +1,12 @@
 -- `table::build::append_at` meets its contract: what `append` ensures of the lent parts, said of the whole arrays. The row starts at node * places.
 -- Assumes nothing.
-use Prim.Native.Nat.{ℕ, _+_, _*_, _≤_}
-use mathlib.Core.Path.{_≡_, refl, sym, ap, _∙_}
+use Prim.Native.Nat.{ℕ, _+_, _-_, _*_, _≤_}
+use mathlib.Core.Path.{_≡_, refl, ap}
 use mathlib.Core.Bool.{false≢true, true≢false}
 use native.Mathlib.Omega.{arith}
-use lib.ListN.{getD}
-use borrow.Rule.Slice.PartMut.{mid-len}
+use mathlib.Core.List.{List}
+use lib.ListN.{length, getD}
+use borrow.Rule.Slice.PartMut.{midOf, mid-len}
 use Rattle.table.proofs.BuildRows.{takes-at, refuses-at}
 use borrow.Author.Needs.{needs}
 use Rattle.table.proofs.build.append_at.Statement.{statement}
@@ -14,14 +15,31 @@ use Rattle.table.proofs.build.append_at.Tie as tie
 abbrev start : tie.After-wide → tie.Start
 start c = c .before .before .before .before
 
--- the row starts at node * places, and the node's word is its size
+-- the row starts at node * places and has so many, and the node's word is its size
 from : (c : tie.After-wide) → c .wide .result * start c .args .places ≡ start c .args .node * start c .args .places
 from c = ap (λ (x : ℕ). x * start c .args .places) (c .wide .ensures)
 
-small : (c : tie.After-wide2) → c .wide2 .result ≤ start (c .before .before .before .before) .args .places
+small : (c : tie.After-wide2) → c .wide2 .result ≤ start (c .before .before) .args .places
 small c =
-    let w = c .before .before .before .before in
+    let w = c .before .before in
     omega (arith, c .wide2 .ensures, ap (λ (x : ℕ). getD (start w .args .s .now) x 0) (w .wide .ensures), start w .pre .look .size)
+
+module _ (c : tie.After-wide2) where
+  abbrev w : tie.After-wide
+  w = c .before .before
+
+  abbrev at : ℕ
+  at = w .wide .result * start w .args .places
+
+  long : (xs : List ℕ) → start w .args .node * start w .args .places + start w .args .places ≤ length xs
+      → length (midOf at (at + start w .args .places - at) xs) ≡ start w .args .places
+  long xs h = omega (arith, mid-len at (at + start w .args .places) xs (omega (arith, from w)))
+
+  long-ids : length (midOf at (at + start w .args .places - at) (start w .args .ids .now)) ≡ start w .args .places
+  long-ids = long (start w .args .ids .now) (start w .pre .look .ids-room)
+
+  long-dists : length (midOf at (at + start w .args .places - at) (start w .args .distances .now)) ≡ start w .args .places
+  long-dists = long (start w .args .distances .now) (start w .pre .dists-room)
 
 wide-requires : tie.Need-wide-requires
 wide-requires c κs = search needs
@@ -32,14 +50,17 @@ mul-from c = omega (arith, from c, start c .pre .look .ids-room)
 add-end : tie.Need-add-end
 add-end c = omega (arith, from c, start c .pre .look .ids-room)
 
-mul-size : tie.Need-mul-size
-mul-size c = search needs
+mul-wide : tie.Need-mul-wide
+mul-wide c = search needs
 
-slice-read-size : tie.Need-slice-read-size
-slice-read-size c = search needs
+slice-read-wide : tie.Need-slice-read-wide
+slice-read-wide c = search needs
+
+wide-requires-2 : tie.Need-wide-requires-2
+wide-requires-2 c κs = search needs
 
 mul-append : tie.Need-mul-append
-mul-append c = let w = c .before in omega (arith, from w, start w .pre .look .ids-room)
+mul-append c = let w = c .before .before in omega (arith, from w, start w .pre .look .ids-room)
 
 sub-append : tie.Need-sub-append
 sub-append c = search needs
@@ -48,10 +69,10 @@ part-append-start : tie.Need-part-append-start
 part-append-start c = search needs
 
 part-append-end : tie.Need-part-append-end
-part-append-end c = let w = c .before in omega (arith, from w, start w .pre .look .ids-room)
+part-append-end c = let w = c .before .before in omega (arith, from w, start w .pre .look .ids-room)
 
 mul-append-2 : tie.Need-mul-append-2
-mul-append-2 c = let w = c .before .before in omega (arith, from w, start w .pre .dists-room)
+mul-append-2 c = let w = c .before .before .before in omega (arith, from w, start w .pre .dists-room)
 
 sub-append-2 : tie.Need-sub-append-2
 sub-append-2 c = search needs
@@ -60,24 +81,16 @@ part-append-start-2 : tie.Need-part-append-start-2
 part-append-start-2 c = search needs
 
 part-append-end-2 : tie.Need-part-append-end-2
-part-append-end-2 c = let w = c .before .before in omega (arith, from w, start w .pre .dists-room)
-
-wide-requires-2 : tie.Need-wide-requires-2
-wide-requires-2 c κs = search needs
+part-append-end-2 c = let w = c .before .before .before in omega (arith, from w, start w .pre .dists-room)
 
 append-requires : tie.Need-append-requires
-append-requires c κs =
-    let w = c .before .before .before .before in
-    let a = w .wide .result * start w .args .places in
-    let e = a + start w .args .places in
-    let k = mid-len a e (start w .args .ids .now) (omega (arith, from w, start w .pre .look .ids-room)) in
-    let l = mid-len a e (start w .args .distances .now) (omega (arith, from w, start w .pre .dists-room)) in
-    (omega arith, omega (arith, small c))
+append-requires c κs = let u = c .before .before in (omega (arith, long-ids u, long-dists u), omega (arith, small u, long-ids u), start (u .before .before) .pre .some)
 
-add-s : tie.Need-add-s
-add-s c =
-    let a = c .before .before .before .before .before .before in
-    omega (arith, small a, a .wide2 .ensures, start (a .before .before .before .before) .pre .places)
+cast-s : tie.Need-cast-s
+cast-s c =
+    let a = c .before .before .before .before .before in
+    let u = a .before .before .before in
+    omega (arith, a .append .ensures .taken (c .if1 .taken) .count, small u, long-ids u, start (u .before .before) .pre .places)
 
 mul-s : tie.Need-mul-s
 mul-s c = search needs
@@ -97,14 +110,15 @@ same-length-3 c = search needs
 returns : tie.Need-returns
 returns c =
     let a = c .before .before .before .before .before in
-    let w = a .before .before .before .before .before in
+    let u = a .before .before .before in
+    let w = u .before .before in
     let s = start w in
     record {
       taken =
           λ e.
-          takes-at (s .pre) (w .wide .result * s .args .places) (w .wide .result * s .args .places + s .args .places) (w .wide .result) (a .before .wide2 .result) (s .args .p) (s .args .d) (from w) refl (w .wide .ensures) (a .before .wide2 .ensures)
+          takes-at (s .pre) (w .wide .result * s .args .places) (w .wide .result * s .args .places + s .args .places) (w .wide .result) (u .wide2 .result) (s .args .p) (s .args .d) (from w) refl (w .wide .ensures) (u .wide2 .ensures)
           (a .append .ensures .taken (c .if1 .taken));
-      refused = λ e. absurd (true≢false (sym (c .if1 .taken) ∙ e));
+      refused = λ e. absurd (true≢false e);
     }
 
 same-length-4 : tie.Need-same-length-4
@@ -116,13 +130,14 @@ same-length-5 c = search needs
 returns-2 : tie.Need-returns-2
 returns-2 c =
     let a = c .before .before .before .before .before in
-    let w = a .before .before .before .before .before in
+    let u = a .before .before .before in
+    let w = u .before .before in
     let s = start w in
     record {
-      taken = λ e. absurd (false≢true (sym (c .if1 .left) ∙ e));
+      taken = λ e. absurd (false≢true e);
       refused =
           λ e.
-          refuses-at (s .pre) (w .wide .result * s .args .places) (w .wide .result * s .args .places + s .args .places) (w .wide .result) (a .before .wide2 .result) (s .args .p) (s .args .d) (from w) refl (w .wide .ensures) (a .before .wide2 .ensures)
+          refuses-at (s .pre) (w .wide .result * s .args .places) (w .wide .result * s .args .places + s .args .places) (w .wide .result) (u .wide2 .result) (s .args .p) (s .args .d) (from w) refl (w .wide .ensures) (u .wide2 .ensures)
           (a .append .ensures .refused (c .if1 .left));
     }
 
@@ -133,8 +148,9 @@ append-at-spec =
     wide-requires
     mul-from
     add-end
-    mul-size
-    slice-read-size
+    mul-wide
+    slice-read-wide
+    wide-requires-2
     mul-append
     sub-append
     part-append-start
@@ -143,9 +159,8 @@ append-at-spec =
     sub-append-2
     part-append-start-2
     part-append-end-2
-    wide-requires-2
     append-requires
-    add-s
+    cast-s
     mul-s
     slice-write-s
     same-length

@@ -2,10 +2,10 @@
 -- nodes.
 -- Assumes nothing.
 use Prim.Native.Nat.{_-_, _≤_}
-use mathlib.Core.Path.{_≡_, refl}
+use mathlib.Core.Path.{_≡_}
 use native.Mathlib.Omega.{arith}
-use lib.ListN.{length}
-use borrow.Author.Tests.{eqb-true}
+use lib.ListN.{length, getD}
+use borrow.Author.Tests.{lt-ltb, ltb-true}
 use Rattle.expansion.proofs.EnteredLaws.{entered-none, entered-passed, entered-pushed}
 use Rattle.table.specs.Build.{Seeded}
 use Rattle.table.proofs.BuildSteps.{seed-queue}
@@ -50,7 +50,7 @@ loop-again c =
     let i = c .before .before .before .before .before .before .before in
     let b = c .before .before .before .before .before in
     let e = c .before .before .before .before .tag-of .ensures in
-    (omega arith, entered-pushed (i .before .loop .inv .1) (rw (b .if1 .taken) refl) (rw e at (c .before .before .push-at .ensures)))
+    (omega arith, entered-pushed (i .before .loop .inv .1) (lt-ltb 0 _ (b .if1 .taken)) (rw e at (c .before .before .push-at .ensures)))
 
 loop-less-2 : tie.Need-loop-less-2 Inv-loop μ-loop
 loop-less-2 c = search needs
@@ -58,7 +58,7 @@ loop-less-2 c = search needs
 loop-again-2 : tie.Need-loop-again-2 Inv-loop μ-loop
 loop-again-2 c =
     let i = c .before .before in
-    (omega arith, entered-passed (i .before .loop .inv .1) (λ e. c .if1 .left (eqb-true _ 1 e)))
+    (omega arith, entered-passed (i .before .loop .inv .1) (λ e. absurd (omega (arith, ltb-true 0 (getD (i .before .before .before .before .args .points .now) (i .before .loop .v) 0) e, c .if1 .left))))
 
 same-length : tie.Need-same-length Inv-loop μ-loop
 same-length c = search needs

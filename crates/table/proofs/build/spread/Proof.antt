@@ -93,27 +93,37 @@ tag-node-requires c κs = search needs
 tag-parent-requires : tie.Need-tag-parent-requires Inv-loop μ-loop
 tag-parent-requires c κs = search needs
 
+lockers-at-requires : tie.Need-lockers-at-requires Inv-loop μ-loop
+lockers-at-requires c κs = search needs
+
+abbrev at-point : tie.After-lockers-at Inv-loop μ-loop → tie.After-tag-parent Inv-loop μ-loop
+at-point l = l .before
+
 append-at-requires : tie.Need-append-at-requires Inv-loop μ-loop
 append-at-requires c κs =
-    let t = c .before .before .before in
+    let l = c .before .before .before in
+    let t = at-point l in
     let s = start-of (turn t) in
-    can-append (s .pre .can .accepted) (some t) (turn t .loop .inv .1) (more t) (node t) (point t) (far t) (node-fits t) (point-fits t) (popped t) (s .pre .can .most)
+    rw (l .lockers-at .ensures .0)
+    (can-append (s .pre .can .accepted) (some t) (turn t .loop .inv .1) (more t) (node t) (point t) (far t) (node-fits t) (point-fits t) (popped t) (s .pre .can .most))
 
 offer-requires : tie.Need-offer-requires Inv-loop μ-loop
 offer-requires c κs =
     let a = c .before .before .before .before .before .before .before .before .before in
-    let t = a .before .before .before .before in
+    let l = a .before .before .before .before in
+    let t = at-point l in
     let s = start-of (turn t) in
-    can-offer (s .pre .can .accepted) (some t) (turn t .loop .inv .1) (more t) (node t) (point t) (far t) (node-fits t) (point-fits t) (popped t) (a .append-at .ensures .taken (c .before .before .if1 .taken))
+    can-offer (s .pre .can .accepted) (some t) (turn t .loop .inv .1) (more t) (node t) (point t) (far t) (node-fits t) (point-fits t) (popped t) (rw (l .lockers-at .ensures .0) at (a .append-at .ensures .taken (c .before .before .if1 .taken)))
 
 loop-less : tie.Need-loop-less Inv-loop μ-loop
 loop-less c =
     let o = c .before .before in
     let i = o .before .before .before in
     let a = i .before .before .before .before .before .before .before in
-    let t = a .before .before .before .before in
+    let l = a .before .before .before .before in
+    let t = at-point l in
     let s = start-of (turn t) in
-    let r = a .append-at .ensures .taken (i .if1 .taken) in
+    let r = rw (l .lockers-at .ensures .0) at (a .append-at .ensures .taken (i .if1 .taken)) in
     taken-less (s .pre .can .accepted) (some t) (turn t .loop .inv .1) (more t) (node t) (point t) (far t) (node-fits t) (point-fits t) (popped t) r (o .offer .ensures)
 
 loop-again : tie.Need-loop-again Inv-loop μ-loop
@@ -121,9 +131,10 @@ loop-again c =
     let o = c .before .before in
     let i = o .before .before .before in
     let a = i .before .before .before .before .before .before .before in
-    let t = a .before .before .before .before in
+    let l = a .before .before .before .before in
+    let t = at-point l in
     let s = start-of (turn t) in
-    let r = a .append-at .ensures .taken (i .if1 .taken) in (
+    let r = rw (l .lockers-at .ensures .0) at (a .append-at .ensures .taken (i .if1 .taken)) in (
       taken-size (s .pre .can .accepted) (some t) (turn t .loop .inv .1) (more t) (node t) (point t) (far t) (node-fits t) (point-fits t) (popped t) r (o .offer .ensures) ∙ turn t .loop .inv .0,
       filling-taken (s .pre .can .accepted) (some t) (turn t .loop .inv .1) (more t) (node t) (point t) (far t) (node-fits t) (point-fits t) (popped t) r (o .offer .ensures),
     )
@@ -131,7 +142,8 @@ loop-again c =
 loop-less-2 : tie.Need-loop-less-2 Inv-loop μ-loop
 loop-less-2 c =
     let a = c .before .before .before .before .before .before .before in
-    let t = a .before .before .before .before in
+    let l = a .before .before .before .before in
+    let t = at-point l in
     let s = start-of (turn t) in
     let r = a .append-at .ensures .refused (c .if1 .left) in
     refused-less (s .pre .can .accepted) (some t) (turn t .loop .inv .1) (more t) (node t) (point t) (far t) (node-fits t) (point-fits t) (popped t) r
@@ -139,7 +151,8 @@ loop-less-2 c =
 loop-again-2 : tie.Need-loop-again-2 Inv-loop μ-loop
 loop-again-2 c =
     let a = c .before .before .before .before .before .before .before in
-    let t = a .before .before .before .before in
+    let l = a .before .before .before .before in
+    let t = at-point l in
     let s = start-of (turn t) in
     let r = a .append-at .ensures .refused (c .if1 .left) in
     (ap length (r .words) ∙ popped t .size ∙ turn t .loop .inv .0, filling-refused (s .pre .can .accepted) (some t) (turn t .loop .inv .1) (more t) (node t) (point t) (far t) (node-fits t) (point-fits t) (popped t) r)
@@ -171,6 +184,7 @@ spread-spec =
     sub-left
     tag-node-requires
     tag-parent-requires
+    lockers-at-requires
     append-at-requires
     offer-requires
     loop-less

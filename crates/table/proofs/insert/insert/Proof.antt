@@ -4,7 +4,8 @@
 -- Assumes nothing.
 use mathlib.Core.Path.{_≡_, refl, ap, _∙_}
 use native.Mathlib.Omega.{arith}
-use lib.ListN.{length, length-set}
+use Prim.Native.Nat.{_<_}
+use lib.ListN.{length, getD, length-set}
 use borrow.Author.Needs.{needs}
 use borrow.Author.Tests.{not-true, not-false}
 use Rattle.network.specs.Network.{Network, network, nodeCount, neighboursOf}
@@ -104,15 +105,33 @@ clear-requires c κs =
 wide-requires : tie.Need-wide-requires Inv-loop μ-loop
 wide-requires c κs = search needs
 
-slice-write-points : tie.Need-slice-write-points Inv-loop μ-loop
-slice-write-points c =
+-- the byte of x is as it was, and there is room for one more
+at-x : (c : tie.After-wide Inv-loop μ-loop) → let l = c .before .before .before .before .before .before .before .before .before .before .before in
+    c .wide .result < length (l .loop .points)
+at-x c =
     let l = c .before .before .before .before .before .before .before .before .before .before .before in
     let p = start-of l .pre in
     omega (arith, c .wide .ensures, p .expand .inside, p .points, ap length (l .loop .inv .0))
 
+byte-low : (c : tie.After-wide Inv-loop μ-loop) → let l = c .before .before .before .before .before .before .before .before .before .before .before in
+    getD (l .loop .points) (c .wide .result) 0 < 15
+byte-low c =
+    let l = c .before .before .before .before .before .before .before .before .before .before .before in
+    let p = start-of l .pre in
+    rw (l .loop .inv .0, c .wide .ensures) (p .room)
+
+slice-read-points : tie.Need-slice-read-points Inv-loop μ-loop
+slice-read-points c = at-x (c .before)
+
+add-points : tie.Need-add-points Inv-loop μ-loop
+add-points c = omega (arith, byte-low (c .before))
+
+slice-write-points : tie.Need-slice-write-points Inv-loop μ-loop
+slice-write-points c = at-x (c .before)
+
 same-length : tie.Need-same-length Inv-loop μ-loop
 same-length c =
-    let l = c .before .before .before .before .before .before .before .before .before .before .before in
+    let l = c .before .before .before .before .before .before .before .before .before .before .before .before in
     simp length-set (ap length (l .loop .inv .0))
 
 same-length-2 : tie.Need-same-length-2 Inv-loop μ-loop
@@ -126,7 +145,7 @@ same-length-4 c = search needs
 
 returns : tie.Need-returns Inv-loop μ-loop
 returns c =
-    let w = c .before .before .before in
+    let w = c .before .before .before .before in
     let n = w .before .before .before .before .before .before in
     let l = n .before .before in
     let e = l .loop .inv .2 in
@@ -134,7 +153,7 @@ returns c =
     let t = rw (w .before .before .enum-told .given .1) at (n .next .ensures) in
     let size = t .leaves .frame .size ∙ l .loop .inv .1 ∙ begun-of l .start .ensures .frame .size in
     record {
-      marks = rw (c .wide .ensures, l .loop .inv .0);
+      marks = rw (c .before .wide .ensures, l .loop .inv .0);
       area = wiped-after (record { size = size; words = λ i h. absurd (omega arith) }) (w .clear .ensures);
       sized = e .sized;
       most = omega (arith, most p e);
@@ -230,6 +249,8 @@ insert-spec =
     enum-told
     clear-requires
     wide-requires
+    slice-read-points
+    add-points
     slice-write-points
     same-length
     same-length-2

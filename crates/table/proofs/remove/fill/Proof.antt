@@ -13,13 +13,13 @@ use Rattle.table.proofs.remove.fill.Statement.{statement}
 use Rattle.table.proofs.remove.fill.Tie as tie
 
 abbrev Inv-loop : tie.InvT-loop
-Inv-loop starts neighbours weights s₀ len ids₀ distances₀ k n left₀ s ids distances left = Filling (network starts neighbours weights) k s₀ ids₀ distances₀ len s ids distances left
+Inv-loop starts neighbours weights points s₀ len ids₀ distances₀ k n left₀ s ids distances left = Filling (network starts neighbours weights) points k s₀ ids₀ distances₀ len s ids distances left
 
 abbrev μ-loop : tie.MeasureT-loop
-μ-loop starts neighbours weights s₀ len ids₀ distances₀ k n left₀ s ids distances left = work (network starts neighbours weights) s left
+μ-loop starts neighbours weights points s₀ len ids₀ distances₀ k n left₀ s ids distances left = work (network starts neighbours weights) s left
 
 abbrev start : tie.After-wide Inv-loop μ-loop → tie.Start Inv-loop μ-loop
-start c = c .before .before .before .before .before .before .before .before .before .before .before .before .before .before .before
+start c = c .before .before .before .before .before .before .before .before .before .before .before .before .before .before .before .before
 
 abbrev in-loop : tie.After-wide Inv-loop μ-loop → tie.In-loop Inv-loop μ-loop
 in-loop c = c .before .before .before .before .before .before .before
@@ -42,7 +42,7 @@ sub-n : tie.Need-sub-n Inv-loop μ-loop
 sub-n c = search needs
 
 loop-holds : tie.Need-loop-holds Inv-loop μ-loop
-loop-holds c = filling-start (c .before .before .before .before .before .before .pre)
+loop-holds c = let s = c .before .before .before .before .before .before .before in filling-start (s .args .points .now) (s .pre)
 
 pop-at-requires : tie.Need-pop-at-requires Inv-loop μ-loop
 pop-at-requires c κs = (c .before .before .loop .inv .waiting .queue, c .before .loop-test .taken)
@@ -105,13 +105,13 @@ same-length : tie.Need-same-length Inv-loop μ-loop
 same-length c = c .before .loop .inv .size
 
 same-length-2 : tie.Need-same-length-2 Inv-loop μ-loop
-same-length-2 c = c .before .loop .inv .sized .all-ids ∙ sym (c .before .before .before .before .before .before .before .before .pre .sized .all-ids)
+same-length-2 c = c .before .loop .inv .sized .all-ids ∙ sym (c .before .before .before .before .before .before .before .before .before .pre .sized .all-ids)
 
 same-length-3 : tie.Need-same-length-3 Inv-loop μ-loop
-same-length-3 c = c .before .loop .inv .sized .all-dists ∙ sym (c .before .before .before .before .before .before .before .before .pre .sized .all-dists)
+same-length-3 c = c .before .loop .inv .sized .all-dists ∙ sym (c .before .before .before .before .before .before .before .before .before .pre .sized .all-dists)
 
 returns : tie.Need-returns Inv-loop μ-loop
-returns c = filling-end (c .before .before .before .before .before .before .before .before .pre) (c .before .loop .inv) (omega (arith, c .loop-test .left))
+returns c = filling-end (c .before .before .before .before .before .before .before .before .before .pre) (c .before .loop .inv) (omega (arith, c .loop-test .left))
 
 pub fill-spec : {M : Type 1} → statement M
 fill-spec =

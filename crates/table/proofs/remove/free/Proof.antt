@@ -12,13 +12,13 @@ use Rattle.table.proofs.remove.free.Statement.{statement}
 use Rattle.table.proofs.remove.free.Tie as tie
 
 abbrev Inv-loop : tie.InvT-loop
-Inv-loop s₀ ids₀ distances₀ n k x changed₀ i₀ s ids distances changed i = (i ≤ n) × Freed s₀ s ids₀ distances₀ ids distances k x i changed
+Inv-loop s₀ ids₀ distances₀ n k x all changed₀ i₀ s ids distances changed i = (i ≤ n) × Freed s₀ s ids₀ distances₀ ids distances k x all i changed
 
 abbrev μ-loop : tie.MeasureT-loop
-μ-loop s₀ ids₀ distances₀ n k x changed₀ i₀ s ids distances changed i = n - i
+μ-loop s₀ ids₀ distances₀ n k x all changed₀ i₀ s ids distances changed i = n - i
 
 loop-holds : tie.Need-loop-holds Inv-loop μ-loop
-loop-holds c = let a = c .before .before .before .args in (omega arith, freed-none (a .s .now) (a .ids .now) (a .distances .now) (a .k) (a .x))
+loop-holds c = let a = c .before .before .before .args in (omega arith, freed-none (a .s .now) (a .ids .now) (a .distances .now) (a .k) (a .x) (a .all))
 
 take-out-of-row-requires : tie.Need-take-out-of-row-requires Inv-loop μ-loop
 take-out-of-row-requires c κs =

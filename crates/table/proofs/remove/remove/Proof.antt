@@ -1,48 +1,75 @@
 -- `table::remove::remove` meets its contract: what the steps leave, one after the other (`removed`).
 -- Assumes nothing.
-use mathlib.Core.Path.{sym, _∙_}
+use Prim.Native.Nat.{_<_}
+use mathlib.Core.Path.{_≡_, sym, ap, _∙_}
+use lib.ListN.{length, getD, length-set}
+use borrow.Author.Tests.{ltb-true}
 use native.Mathlib.Omega.{arith}
-use Rattle.table.proofs.RemoveFilling.{remove-free, remove-seed, remove-fill, removed}
+use Rattle.table.proofs.RemoveSteps.{freed-as}
+use Rattle.table.proofs.RemoveFilling.{remove-free, remove-seed, remove-fill, remove-size, removed}
 use borrow.Author.Needs.{needs}
 use Rattle.table.proofs.remove.remove.Statement.{statement}
 use Rattle.table.proofs.remove.remove.Tie as tie
 
 abbrev start : tie.After-wide → tie.Start
-start c = c .before .before .before .before .before .before .before .before
+start c = c .before .before .before .before .before .before .before .before .before .before
 
 abbrev wide : tie.After-free → tie.After-wide
-wide c = c .before .before .before .before
+wide c = c .before .before .before .before .before
 
 abbrev free : tie.After-seed → tie.After-free
 free c = c .before .before .before .before .before .before .before .before .before .before .before
 
 abbrev seed : tie.After-fill → tie.After-seed
-seed c = c .before .before .before .before .before .before
+seed c = c .before .before .before .before .before .before .before
 
 sub-n : tie.Need-sub-n
 sub-n c = search needs
 
+lockers-at-requires : tie.Need-lockers-at-requires
+lockers-at-requires c κs = search needs
+
 wide-requires : tie.Need-wide-requires
 wide-requires c κs = search needs
 
+-- the byte of x, of which there is one at least
+at-x : (c : tie.After-wide) → c .wide .result < length (start c .args .points .now)
+at-x c = let s = start c in omega (arith, c .wide .ensures, s .pre .inside, s .pre .points)
+
+byte-some : (c : tie.After-wide) → 0 < getD (start c .args .points .now) (c .wide .result) 0
+byte-some c =
+    let s = start c in
+    let q = ap (λ v. getD (s .args .points .now) v 0) (c .wide .ensures) in
+    omega (arith, q, ltb-true 0 (getD (s .args .points .now) (s .args .x) 0) (s .pre .is-point))
+
+slice-read-byte : tie.Need-slice-read-byte
+slice-read-byte c = at-x (c .before)
+
+sub-points : tie.Need-sub-points
+sub-points c = omega (arith, byte-some (c .before))
+
 slice-write-points : tie.Need-slice-write-points
-slice-write-points c = let s = start c in omega (arith, c .wide .ensures, s .pre .inside, s .pre .points)
+slice-write-points c = at-x (c .before)
+
+-- the number that `free` is handed is that of the lockers at x
+all-is : (e : tie.After-free) → wide e .before .lockers-at .result ≡ getD (start (wide e) .args .points .now) (start (wide e) .args .x) 0
+all-is e = wide e .before .lockers-at .ensures .0
 
 free-requires : tie.Need-free-requires
-free-requires c κs = remove-free (start (c .before .before .before) .pre)
+free-requires c κs = remove-free (start (c .before .before .before .before) .pre)
 
 seed-requires : tie.Need-seed-requires
 seed-requires c κs =
     let e = c .before .before .before .before .before .before .before .before .before .before in
     let w = wide e in
-    remove-seed (start w .pre) (e .free .ensures) (w .wide .ensures)
+    remove-seed (start w .pre) (freed-as (all-is e) (e .free .ensures)) (simp length-set (start w .pre .points))
 
 fill-requires : tie.Need-fill-requires
 fill-requires c κs =
-    let s = c .before .before .before .before .before in
+    let s = c .before .before .before .before .before .before in
     let e = free s in
     let w = wide e in
-    remove-fill (start w .pre) (e .free .ensures) (w .wide .ensures) (s .seed .ensures)
+    remove-fill (start w .pre) (freed-as (all-is e) (e .free .ensures)) (simp length-set (start w .pre .points)) (s .seed .ensures)
 
 zero-requires : tie.Need-zero-requires
 zero-requires c κs = search needs
@@ -56,8 +83,8 @@ same-length-2 c =
     let s = seed f in
     let e = free s in
     let w = wide e in
-    let r = removed (start w .pre) (e .free .ensures) (w .wide .ensures) (s .seed .ensures) (f .fill .ensures) (c .before .before .zero .ensures) in
-    r .area .frame .size
+    remove-size (start w .pre) (freed-as (all-is e) (e .free .ensures)) (simp length-set (start w .pre .points)) (s .seed .ensures) (f .fill .ensures)
+    (c .before .before .zero .ensures)
 
 same-length-3 : tie.Need-same-length-3
 same-length-3 c =
@@ -73,14 +100,17 @@ returns c =
     let s = seed f in
     let e = free s in
     let w = wide e in
-    removed (start w .pre) (e .free .ensures) (w .wide .ensures) (s .seed .ensures) (f .fill .ensures) (c .before .before .zero .ensures)
+    removed (start w .pre) (freed-as (all-is e) (e .free .ensures)) (w .wide .ensures) (s .seed .ensures) (f .fill .ensures) (c .before .before .zero .ensures)
 
 pub remove-spec : {M : Type 1} → statement M
 remove-spec =
     tie.close
     (tie.spec
     sub-n
+    lockers-at-requires
     wide-requires
+    slice-read-byte
+    sub-points
     slice-write-points
     free-requires
     seed-requires
