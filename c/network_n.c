@@ -5,16 +5,17 @@
  *     cc -std=c11 -Wall -Wextra -Wpedantic -Werror -Iinclude c/network_n.c target/staticlib/liboverlap.a -o target/network_n
  *     target/network_n
  *
- * The gate compares the output with network_n.expected, which is worked out from document 01.
+ * The gate compares the output with network_n.expected, which is worked out from document 01 and Ask 8 of document 02.
  *
  * What a caller lends, by the names of overlap.h. n is the number of nodes, A that of arcs; a road is two arcs, one from each end:
  *
  *     starts                n + 1 words; the arcs of node i are those from starts[i] up to, not including, starts[i + 1]
  *     neighbours, weights   A words each: the node that the arc leads to, ascending within a node, and its weight, 1 to 65,535
- *     points                n bytes: 1 is a point, 0 none
+ *     points                n bytes: the number of points (lockers) on each node, 0 to 15
  *     scratch               SCRATCH_LEN (below) words or more, of any contents; a call that is accepted leaves them all 0
  *     answers               n words or more; the list stands in the first `length`, distances fill n
- *     ids, distances        of nearest k words each or more; of a table n x K words each, row i from i x K on, and `places` is K
+ *     ids, distances        of nearest k words each or more; of a table n x K words each, row i from i x K on, and `places` is K; a node with
+ *                           several lockers comes as often, as far as there is room
  *
  * The library allocates nothing and keeps nothing between calls. A pointer is valid for its length, and not null where that is 0. An array
  * that is not const is lent to one call alone and overlaps no other array of it. What the arrays hold is tested by the call. From C++,
@@ -27,12 +28,12 @@
  *      3  a neighbour is n or more, is its own node, or doesn't rise strictly within a node
  *      4  a weight is 0 or above 65,535
  *      5  an arc lacks its return of equal weight
- *      6  points has not n entries, or a byte above 1
+ *      6  points has not n entries, or a byte above 15
  *      7  a node given is n or more
  *      8  K not 2 to 17, or a table array not n x K long
  *      9  k is 0 or above 16; by table, above K - 1
  *     10  scratch shorter than SCRATCH_LEN, or an array for answers shorter than n (nearest: than k)
- *     11  insert on a marked node; remove or verify of an unmarked one
+ *     11  insert at 15 lockers; remove or verify at none
  *     12  eager: the expanded count would exceed the limit
  *
  * Insert, remove and table query don't test the table that they are lent: lend one that build has written and insert and remove have
@@ -275,6 +276,13 @@ static void print_table(void)
     printf("remove 0: %u rows changed\n", (unsigned)update.changed);
     print_rows(ids, distances, 1);
     print_check(points, ids, distances);
+
+    /* A second locker on node 2. */
+    update = overlap_insert(LEND_NETWORK(n), LEND(points), 2, 2, LEND_SCRATCH, LEND(ids), LEND(distances));
+    expect_accepted(update.number);
+    printf("insert 2: %u rows changed\n", (unsigned)update.changed);
+    print_rows(ids, distances, 4);
+    print_check(points, ids, distances);
 }
 
 static void print_number(uint32_t number, const char *example)
@@ -301,21 +309,21 @@ static void print_network_numbers(void)
     print_number(overlap_network_check(LEND_NETWORK(no_return)), "0 to 1 of 4, 1 to 0 of 5");
 }
 
-/* The examples of numbers 6 to 12, on network N. */
+/* The examples of numbers 6 to 12, on network N; 6 and 11 by Ask 8. */
 static void print_other_numbers(void)
 {
-    static const uint8_t byte_2[NODES] = { 0, 0, 2, 0, 1, 1 };
+    static const uint8_t byte_16[NODES] = { 0, 0, 16, 0, 1, 1 };
     uint8_t points[NODES] = { 0, 0, 1, 0, 1, 1 };
     uint32_t answers[NODES], ids[NODES * 2], distances[NODES * 2];
     expect_accepted(overlap_build(LEND_NETWORK(n), LEND(points), 2, LEND_SCRATCH, LEND(ids), LEND(distances)));
-    print_number(overlap_short_query(LEND_NETWORK(n), LEND(byte_2), 0, LEND_SCRATCH, LEND(answers)).number, "N, byte 2");
+    print_number(overlap_short_query(LEND_NETWORK(n), LEND(byte_16), 0, LEND_SCRATCH, LEND(answers)).number, "N, byte 16");
     print_number(overlap_distances(LEND_NETWORK(n), 6, LEND_SCRATCH, LEND(answers)), "N, node 6");
     print_number(overlap_table_check(LEND_NETWORK(n), LEND(points), 2, ids, 11, LEND(distances)).number, "N, K = 2, 11 ids");
     print_number(overlap_table_query(LEND_NETWORK(n), LEND(points), 0, 2, 2, LEND(ids), LEND(distances), LEND_SCRATCH,
                                      LEND(answers)).number, "K = 2, k = 2");
     print_number(overlap_distances(LEND_NETWORK(n), 0, LEND_SCRATCH, answers, 5), "N, 5 answer places");
-    print_number(overlap_insert(LEND_NETWORK(n), LEND(points), 2, 2, LEND_SCRATCH, LEND(ids), LEND(distances)).number,
-                 "N, insert 2");
+    print_number(overlap_remove(LEND_NETWORK(n), LEND(points), 0, 2, LEND_SCRATCH, LEND(ids), LEND(distances)).number,
+                 "N, remove 0");
     print_number(overlap_eager(LEND_NETWORK(n), LEND(points), 0, 2, 3, LEND_SCRATCH, LEND(answers)).number,
                  "N, q = 0, k = 2, limit 3");
 }

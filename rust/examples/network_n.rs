@@ -1,6 +1,6 @@
 //! Network N of document 01 through every call. It prints what `c/network_n.c` prints, and
 //! `tests/network_n.rs` compares the output with `c/network_n.expected`, which is worked out from
-//! document 01.
+//! document 01 and Ask 8 of document 02.
 //!
 //! Run it with `cargo run --release --example network_n`.
 
@@ -153,7 +153,10 @@ fn print_table(network: &Network, points: &Points, out: &mut impl Write) -> Done
     writeln!(out, "insert 0: {} rows changed", table.insert(0)?)?;
     print_rows(&table, 0..6, out)?;
     writeln!(out, "remove 0: {} rows changed", table.remove(0)?)?;
-    print_rows(&table, 0..1, out)
+    print_rows(&table, 0..1, out)?;
+    // A second locker on node 2.
+    writeln!(out, "insert 2: {} rows changed", table.insert(2)?)?;
+    print_rows(&table, 0..4, out)
 }
 
 /// The number of a call: 0, or that of its refusal.
@@ -185,23 +188,23 @@ fn print_network_numbers(out: &mut impl Write) -> Done {
     Ok(())
 }
 
-/// The examples of numbers 6 to 12, on network N. The engine owns enough answer places, so that of
-/// 10 is a thin call.
+/// The examples of numbers 6 to 12, on network N, 6 and 11 by Ask 8 of document 02. The engine owns
+/// enough answer places, so that of 10 is a thin call.
 fn print_other_numbers(engine: &mut Engine, points: &Points, out: &mut impl Write) -> Done {
     let network = engine.network().clone();
     let mut table = Table::build(&network, points.clone(), 2)?;
     let (ids, distances) = (vec![0; 11], vec![0; 12]);
     let mut scratch = vec![0; network.scratch_len(1)];
     let short = calls::distances(network.lend(), 0, &mut scratch, &mut [0; 5]);
-    let byte_2 = Points::from_marks(&network, vec![0, 0, 2, 0, 1, 1]);
+    let byte_16 = Points::from_marks(&network, vec![0, 0, 16, 0, 1, 1]);
     let eleven_ids = Table::from_arrays(&network, points.clone(), 2, ids, distances);
     for (number, example) in [
-        (number(byte_2), "N, byte 2"),
+        (number(byte_16), "N, byte 16"),
         (number(engine.distances(6)), "N, node 6"),
         (number(eleven_ids), "N, K = 2, 11 ids"),
         (number(table.query(0, 2)), "K = 2, k = 2"),
         (short, "N, 5 answer places"),
-        (number(table.insert(2)), "N, insert 2"),
+        (number(table.remove(0)), "N, remove 0"),
         (
             number(engine.eager(points, 0, 2, 3)),
             "N, q = 0, k = 2, limit 3",

@@ -68,7 +68,7 @@ impl<'a> Distances<'a> {
 
 /// Points of a node with their distances, by distance then node: the answer of
 /// [`Engine::nearest`](crate::Engine::nearest), or a row of a [`Table`](crate::Table) without its
-/// empty places.
+/// empty places. Document 02 (Ask 8): "Rows and the nearest call repeat a node for each locker".
 ///
 /// ```
 /// use overlap::{Network, Points, Table};
@@ -100,7 +100,7 @@ impl<'a> Nearest<'a> {
         }
     }
 
-    /// The points, each named by its node.
+    /// The points, each named by its node; a node with several lockers comes as often.
     ///
     /// ```
     /// use overlap::{Engine, Network, Points, NONE};
@@ -231,9 +231,10 @@ impl<'a> IntoIterator for Nearest<'a> {
 /// ```
 #[derive(Clone, Copy, Debug, PartialEq, Eq)]
 pub struct Listed<'a> {
-    /// The points that are listed. "Lists are ascending by node."
+    /// The nodes whose points are listed. "Lists are ascending by node." Document 02 (Ask 8): "A
+    /// node is listed once, as its lockers fare alike."
     pub points: &'a [u32],
     /// "the number of nodes m that can be reached from q and have fewer than k points p (one on m
-    /// included) with d(m, p) < d(m, q)".
+    /// included) with d(m, p) < d(m, q)". Each locker of a node is a point here.
     pub expanded: u32,
 }

@@ -13,7 +13,9 @@ use crate::{Distances, Listed, Nearest, Network, Points, Refusal};
 ///
 /// Document 01: "For query node q and k, point p is listed if it can be reached from q and fewer
 /// than k other points p' have d(p, p') < d(p, q). The point p itself doesn't count. A point on q
-/// is listed. Lists are ascending by node."
+/// is listed. Lists are ascending by node." Document 02 (Ask 8): "Each counts, so a locker has its
+/// companions on the node as others at distance 0. A node is listed once, as its lockers fare
+/// alike."
 ///
 /// ```
 /// use overlap::{Engine, Network, Points};
@@ -106,7 +108,8 @@ impl Engine {
     }
 
     /// Document 01: "Nearest: the points p with d(node, p) < e, e any 32-bit number, by distance
-    /// then node, cut after the first k".
+    /// then node, cut after the first k". Document 02 (Ask 8): "Rows and the nearest call repeat a
+    /// node for each locker".
     ///
     /// With e = [`NONE`](crate::NONE) all points that can be reached come into question.
     ///
@@ -123,6 +126,12 @@ impl Engine {
     ///
     /// // Point 4 has distance 8, which is not below 8.
     /// assert!(engine.nearest(&points, 0, 8, 2)?.iter().eq([(2, 7)]));
+    ///
+    /// // Three lockers on node 2, of which the second list has room for two.
+    /// let points = Points::on(&network, [2, 2, 2, 4, 5])?;
+    /// let four = engine.nearest(&points, 0, NONE, 4)?;
+    /// assert!(four.iter().eq([(2, 7), (2, 7), (2, 7), (4, 8)]));
+    /// assert!(engine.nearest(&points, 0, NONE, 2)?.iter().eq([(2, 7), (2, 7)]));
     /// # Ok(())
     /// # }
     /// ```
@@ -150,7 +159,7 @@ impl Engine {
     }
 
     /// Document 01: "Verify: for a marked p and q, yes or no by the rule above", the rule of the
-    /// list for q and k.
+    /// list for q and k. p is marked where it has a locker; the answer is the same for each there.
     ///
     /// ```
     /// use overlap::{Engine, Network, Points, Refusal};
@@ -166,7 +175,15 @@ impl Engine {
     /// assert!(!engine.verify(&points, 4, 0, 1)?);
     /// assert!(engine.verify(&points, 4, 0, 2)?);
     ///
-    /// // Node 3 is not marked.
+    /// // With two lockers on node 2, each has the other at distance 0, nearer than site 0.
+    /// let two = Points::on(&network, [2, 2, 4, 5])?;
+    /// assert!(engine.verify(&points, 2, 0, 1)?);
+    /// assert!(!engine.verify(&two, 2, 0, 1)?);
+    /// assert!(engine.verify(&two, 2, 0, 2)?);
+    /// // No locker is nearer to them than a site on node 2 itself.
+    /// assert!(engine.verify(&two, 2, 2, 1)?);
+    ///
+    /// // Node 3 has no locker.
     /// assert_eq!(engine.verify(&points, 3, 0, 1), Err(Refusal::Mark));
     /// # Ok(())
     /// # }
@@ -184,7 +201,7 @@ impl Engine {
     /// strictly nearer than q. It takes a 32-bit limit and returns the list and the count of nodes
     /// expanded."
     ///
-    /// A limit of n or more is never exceeded.
+    /// All lockers of a node count as points here. A limit of n or more is never exceeded.
     ///
     /// ```
     /// use overlap::{Engine, Network, Points, Refusal};

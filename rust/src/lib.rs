@@ -3,12 +3,13 @@
 //! The engine works on a network of junctions and roads on which lockers stand, and answers which
 //! lockers have a new site among their k nearest, by road distance. It is written in Rattle and
 //! proved: each call of it meets a contract that says what document 01, the requirements of the
-//! build, says. Each item of this crate quotes the sentence of document 01 that it is.
+//! build, says, with what Ask 8 of document 02 changed: several lockers at one junction. Each item
+//! of this crate quotes the sentence that it is.
 //!
 //! | Type | What it is |
 //! |---|---|
 //! | [`Network`] | junctions and roads; only networks that the network check accepts exist |
-//! | [`Points`] | the lockers: one mark a node |
+//! | [`Points`] | the lockers: how many stand on each node, 0 to 15 |
 //! | [`Engine`] | the calls without a table, on one network: [distances](Engine::distances), [nearest](Engine::nearest), [verify](Engine::verify), [eager](Engine::eager), [the short query](Engine::short_query), [lazy](Engine::lazy), [lazy-EP](Engine::lazy_ep) |
 //! | [`Table`] | the K nearest points of each node, with the points that it stands for: [build](Table::build), [insert](Table::insert), [remove](Table::remove), [query](Table::query), [check](Table::check) |
 //! | [`Refusal`] | why a call was refused: one case for each of document 01's numbers |
@@ -36,6 +37,10 @@
 //! assert!(table.row(0)?.iter().eq([(2, 7), (4, 8)]));
 //! assert_eq!(table.insert(0)?, 4);
 //! assert!(table.row(2)?.iter().eq([(2, 0), (0, 7)]));
+//!
+//! // A second locker on node 0 changes its own row alone, as the others are cut after two places.
+//! assert_eq!(table.insert(0)?, 1);
+//! assert!(table.row(0)?.iter().eq([(0, 0), (0, 0)]));
 //!
 //! // N has no node 6.
 //! assert_eq!(table.query(6, 1), Err(Refusal::Node));

@@ -33,7 +33,8 @@ pub enum Refusal {
     Weights = 4,
     /// 5: "an arc lacks its return of equal weight".
     Returns = 5,
-    /// 6: "points has not n entries, or a byte above 1".
+    /// 6: points has not n entries, or a byte above 15. Document 02 (Ask 8): "6 allows bytes up to
+    /// 15".
     Points = 6,
     /// 7: "a node given is n or more".
     Node = 7,
@@ -45,7 +46,8 @@ pub enum Refusal {
     /// Only the functions of [`calls`](crate::calls) can meet it: the types at the root own arrays
     /// that are long enough.
     Short = 10,
-    /// 11: "insert on a marked node; remove or verify of an unmarked one".
+    /// 11: insert at 15 lockers; remove or verify at none. Document 02 (Ask 8): "11 means insert at
+    /// 15, remove or verify at 0".
     Mark = 11,
     /// 12: "eager: the expanded count would exceed the limit".
     Limit = 12,
@@ -101,7 +103,7 @@ impl Refusal {
         self as u32
     }
 
-    /// The condition, in the wording of document 01.
+    /// The condition, in the wording of document 01, for 6 and 11 with the bounds of Ask 8.
     ///
     /// ```
     /// assert_eq!(overlap::Refusal::Node.condition(), "a node given is n or more");
@@ -119,14 +121,14 @@ impl Refusal {
             }
             Self::Weights => "a weight is 0 or above 65,535",
             Self::Returns => "an arc lacks its return of equal weight",
-            Self::Points => "points has not n entries, or a byte above 1",
+            Self::Points => "points has not n entries, or a byte above 15",
             Self::Node => "a node given is n or more",
             Self::Table => "K not 2 to 17, or a table array not n × K long",
             Self::K => "k is 0 or above 16; by table, above K - 1",
             Self::Short => {
                 "scratch shorter than S, or an array for answers shorter than n (nearest: than k)"
             }
-            Self::Mark => "insert on a marked node; remove or verify of an unmarked one",
+            Self::Mark => "insert at 15 lockers; remove or verify at none",
             Self::Limit => "eager: the expanded count would exceed the limit",
         }
     }

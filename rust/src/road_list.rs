@@ -1,15 +1,15 @@
 //! Networks and points from plain text.
 //!
 //! A road list has one road a line: its two junctions and its weight, in base ten, with spaces or
-//! tabs between them. A list of points has one point a line: its junction. Blank lines, what follows
-//! a `#`, and a byte order mark before the first line are left out. A line ends with or without a
-//! carriage return.
+//! tabs between them. A list of points has one locker a line: its junction. A junction that comes
+//! again has one locker more, 15 at most. Blank lines, what follows a `#`, and a byte order mark
+//! before the first line are left out. A line ends with or without a carriage return.
 //!
 //! The junctions of a road list are 0 to the largest that it names; those between that no road names
 //! are junctions without a road. A line `nodes n` before the first road says that they are 0 to
 //! n - 1, so that the last ones may have no road either.
 //!
-//! A list that is no network, or no set of points of it, is turned away with its first bad line:
+//! A list that is no network, or no points of it, is turned away with its first bad line:
 //!
 //! ```
 //! use overlap::road_list::{read_network, read_points};
@@ -26,7 +26,7 @@
 //! # }
 //! ```
 
-use crate::{Network, Points, Road};
+use crate::{Network, Points, Refusal, Road};
 use std::collections::HashMap;
 use std::error::Error;
 use std::fmt;
@@ -94,13 +94,8 @@ pub enum Fault {
         /// How many the network has.
         nodes: u32,
     },
-    /// A junction that is a point already.
-    PointTwice {
-        /// The junction.
-        node: u32,
-        /// The line of the first one.
-        first: usize,
-    },
+    /// A junction that has 15 lockers already.
+    FullNode(u32),
     /// The end of a road list that names no junction.
     NoJunctions,
 }
@@ -141,8 +136,11 @@ impl fmt::Display for Fault {
                     nodes.saturating_sub(1)
                 )
             }
-            Self::PointTwice { node, first } => {
-                write!(f, "the point {node} stands on line {first} already")
+            Self::FullNode(node) => {
+                write!(
+                    f,
+                    "junction {node} has 15 lockers already, and a junction has at most 15"
+                )
             }
             Self::NoJunctions => write!(f, "the list ends without a road or a `nodes` line"),
         }
@@ -198,9 +196,13 @@ pub fn read_network(text: &str) -> Result<Network, BadLine> {
 /// let network = Network::from_roads(3, &[(0, 1, 4)])?;
 /// assert!(read_points("2\n0\n", &network)?.iter().eq([0, 2]));
 ///
-/// let message = |text| read_points(text, &network).unwrap_err().to_string();
+/// // Three lockers on junction 1.
+/// assert_eq!(read_points("1\n1\n1\n", &network)?.count(1), 3);
+///
+/// let message = |text: &str| read_points(text, &network).unwrap_err().to_string();
 /// assert_eq!(message("0\n3\n"), "line 2: there is no junction 3: they are 0 to 2");
-/// assert_eq!(message("1\n1\n"), "line 2: the point 1 stands on line 1 already");
+/// let full = message(&"1\n".repeat(16));
+/// assert_eq!(full, "line 16: junction 1 has 15 lockers already, and a junction has at most 15");
 /// # Ok(())
 /// # }
 /// ```
@@ -210,9 +212,8 @@ pub fn read_network(text: &str) -> Result<Network, BadLine> {
 /// The first line that can't be taken.
 pub fn read_points(text: &str, network: &Network) -> Result<Points, BadLine> {
     let mut points = Points::none(network);
-    let mut first_lines = HashMap::new();
     for (line, fields) in lines(text) {
-        let taken = take_point(line, &fields, &mut points, &mut first_lines);
+        let taken = take_point(&fields, &mut points);
         taken.map_err(|fault| BadLine { line, fault })?;
     }
     Ok(points)
@@ -304,13 +305,8 @@ impl RoadList {
     }
 }
 
-/// Marks the point of one line.
-fn take_point(
-    line: usize,
-    fields: &[&str],
-    points: &mut Points,
-    first_lines: &mut HashMap<u32, usize>,
-) -> Result<(), Fault> {
+/// Adds the locker of one line.
+fn take_point(fields: &[&str], points: &mut Points) -> Result<(), Fault> {
     let [field] = *fields else {
         return Err(Fault::Fields {
             found: fields.len(),
@@ -318,15 +314,12 @@ fn take_point(
         });
     };
     let node = number(field)?;
-    if let Some(&first) = first_lines.get(&node) {
-        return Err(Fault::PointTwice { node, first });
-    }
     let nodes = points.marks().len() as u32;
-    // A point twice has been turned away, so the one refusal left is 7.
     let inserted = points.insert(node);
-    inserted.map_err(|_| Fault::NoNode { node, nodes })?;
-    first_lines.insert(node, line);
-    Ok(())
+    inserted.map_err(|refusal| match refusal {
+        Refusal::Mark => Fault::FullNode(node),
+        _ => Fault::NoNode { node, nodes },
+    })
 }
 
 /// A field as a message shows it: a long one cut, and signs that can't be seen written out.

@@ -8,12 +8,14 @@ use crate::{Nearest, Network, Points, Refusal};
 ///
 /// Document 01: "Two arrays of n × K entries, ids and distances; K is 2 to 17. Row i starts in the
 /// middle of each array, at i × K [...]. It holds the K nearest points of node i that can be
-/// reached, by distance then node, i's own point first; the rest is NONE in both arrays."
+/// reached, by distance then node, i's own point first; the rest is NONE in both arrays." Document
+/// 02 (Ask 8): "Rows and the nearest call repeat a node for each locker, and a row is still cut
+/// after K places."
 ///
 /// A table owns the points that it stands for. They are read by [`points`](Self::points), as for
 /// [`Engine::eager`](crate::Engine::eager), and change by [`insert`](Self::insert) and
 /// [`remove`](Self::remove) only, which bring the table up to date; a clone of them is a set of its
-/// own and no table follows it. So the engine is never lent a table of other marks, for which
+/// own and no table follows it. So the engine is never lent a table of other points, for which
 /// document 01 leaves answers free: arrays of any origin come in by
 /// [`from_arrays`](Self::from_arrays), behind the table check.
 ///
@@ -70,6 +72,10 @@ impl Table {
     /// // P8 and P9: the rows of nodes 0 and 5.
     /// assert!(table.row(0)?.iter().eq([(2, 7), (4, 8)]));
     /// assert!(table.row(5)?.iter().eq([(5, 0)]));
+    ///
+    /// // Three lockers on node 5, of which its row has room for two.
+    /// let table = Table::build(&network, Points::on(&network, [5, 5, 5])?, 2)?;
+    /// assert!(table.row(5)?.iter().eq([(5, 0), (5, 0)]));
     ///
     /// assert_eq!(Table::build(&network, points, 18).err(), Some(Refusal::Table));
     /// # Ok(())
@@ -143,8 +149,9 @@ impl Table {
         }
     }
 
-    /// Document 01: "Insert marks a node [...]; each brings the table up to date and returns the
-    /// number of rows whose contents differ before and after."
+    /// Adds a locker to a node. Document 02 (Ask 8): "Insert adds one, remove takes one". Document
+    /// 01: "each brings the table up to date and returns the number of rows whose contents differ
+    /// before and after."
     ///
     /// ```
     /// use overlap::{Network, Points, Refusal, Table};
@@ -158,7 +165,14 @@ impl Table {
     /// assert_eq!(table.insert(0)?, 4);
     /// assert!(table.row(2)?.iter().eq([(2, 0), (0, 7)]));
     ///
-    /// // Node 0 is marked by now.
+    /// // A second locker on node 0: only its own row still has room for it.
+    /// assert_eq!(table.insert(0)?, 1);
+    /// assert!(table.row(0)?.iter().eq([(0, 0), (0, 0)]));
+    ///
+    /// // No row has room for the others, and a 16th is refused.
+    /// for _ in 3..=15 {
+    ///     assert_eq!(table.insert(0)?, 0);
+    /// }
     /// assert_eq!(table.insert(0), Err(Refusal::Mark));
     /// # Ok(())
     /// # }
@@ -166,14 +180,14 @@ impl Table {
     ///
     /// # Errors
     ///
-    /// 7 where the node is n or more, 11 where it is marked. Points and table are then as before.
+    /// 7 where the node is n or more, 11 where it has 15 lockers. Points and table are then as
+    /// before.
     pub fn insert(&mut self, node: u32) -> Result<u32, Refusal> {
         let (network, marks, scratch, table) = self.lend_mut();
         calls::insert(network, marks, node, scratch, table).accepted()
     }
 
-    /// Document 01: "[...] remove clears one; each brings the table up to date and returns the
-    /// number of rows whose contents differ before and after."
+    /// Takes a locker from a node, and does all else as [`insert`](Self::insert) does.
     ///
     /// ```
     /// use overlap::{Network, Points, Refusal, Table};
@@ -187,7 +201,7 @@ impl Table {
     /// assert_eq!(table.remove(0)?, 4);
     /// assert!(table.row(0)?.iter().eq([(2, 7), (4, 8)]));
     ///
-    /// // Node 0 is not marked by now.
+    /// // Node 0 has no locker by now.
     /// assert_eq!(table.remove(0), Err(Refusal::Mark));
     /// # Ok(())
     /// # }
@@ -195,7 +209,7 @@ impl Table {
     ///
     /// # Errors
     ///
-    /// 7 where the node is n or more, 11 where it is not marked. Points and table are then as
+    /// 7 where the node is n or more, 11 where it has no locker. Points and table are then as
     /// before.
     pub fn remove(&mut self, node: u32) -> Result<u32, Refusal> {
         let (network, marks, scratch, table) = self.lend_mut();
@@ -261,7 +275,7 @@ impl Table {
     }
 
     /// Row i without its empty places: the K nearest points of a node, or all that it can reach, by
-    /// distance then node.
+    /// distance then node, a node for each of its lockers.
     ///
     /// ```
     /// use overlap::{Network, Points, Refusal, Table};

@@ -11,6 +11,7 @@ use common::lent::Lent;
 use common::network::{network_n, OwnedNetwork};
 use common::numbers::plain_scratch_len;
 use common::random::Random;
+use common::rows::{is_cut_in_a_node, repeats_a_node};
 use common::shapes::random_network;
 use common::site::{Site, EAGER};
 use common::table::{OwnedTable, PlainTable};
@@ -61,7 +62,7 @@ impl State {
         let mut table = self.table.clone();
         match random.below(3) {
             0 => network.starts.truncate(1),
-            1 => points[0] = 2,
+            1 => points[0] = 16,
             _ => table.ids = Lent::junk(table.ids.len() + 1, random),
         }
         let left = (points.clone(), table.clone());
@@ -87,11 +88,50 @@ fn call_of(deed: Deed) -> ChangeCall {
     }
 }
 
+/// A node that most often is any, and else one of 15 lockers, or of none.
+fn line_node(state: &State, random: &mut Random) -> u32 {
+    let wanted = random.pick(&[0, 15, 15]);
+    let all = 0..state.points.len() as u32;
+    let at: Vec<u32> = all
+        .filter(|&p| state.points[p as usize] == wanted)
+        .collect();
+    match random.index(at.len()) {
+        Some(choice) if random.once_in(3) => at[choice],
+        _ => some_node(&state.network, random),
+    }
+}
+
+/// Points of any kind, and at times many nodes with 14 or 15 lockers.
+fn line_points(network: &OwnedNetwork, random: &mut Random) -> Vec<u8> {
+    let mut points = some_points(network, random);
+    if random.once_in(3) {
+        for lockers in &mut points {
+            *lockers = random.pick(&[*lockers, 14, 15]);
+        }
+    }
+    points
+}
+
+fn other_deed(deed: Deed) -> Deed {
+    match deed {
+        Deed::Insert => Deed::Remove,
+        Deed::Remove => Deed::Insert,
+    }
+}
+
+/// A deed that 11 lets pass.
+fn line_deed(lockers: u8, random: &mut Random) -> Deed {
+    match lockers {
+        0 => Deed::Insert,
+        15 => Deed::Remove,
+        _ => random.pick(&[Deed::Insert, Deed::Remove]),
+    }
+}
+
 /// A call of the list: "A call's node, K and scratch may be any." Most are accepted.
 fn some_line(state: &State, random: &mut Random) -> Line {
-    let node = some_node(&state.network, random);
-    let marked = state.points[node as usize] == 1;
-    let deed = if marked { Deed::Remove } else { Deed::Insert };
+    let node = line_node(state, random);
+    let deed = line_deed(state.points[node as usize], random);
     let length = plain_scratch_len(state.network.lend(), state.table.places);
     let mut line = Line {
         deed,
@@ -103,8 +143,8 @@ fn some_line(state: &State, random: &mut Random) -> Line {
         0 => line.node = no_node(&state.network, random),
         1 => line.places = no_places(random),
         2 => line.scratch = too_short(length, random),
-        3 | 4 => line.deed = random.pick(&[Deed::Insert, Deed::Remove]),
-        5 => line.places = random.between(2, 17),
+        3..=5 => line.deed = other_deed(line.deed),
+        6 => line.places = random.between(2, 17),
         _ => {}
     }
     line
@@ -112,9 +152,11 @@ fn some_line(state: &State, random: &mut Random) -> Line {
 
 /// "Each call's number and changed count equal the book's. After the list the lent marks equal the
 /// book's [...], and both table arrays hold the rows of those marks." Each call ends a list.
-fn assert_line(state: &mut State, book: &mut Book<'_>, random: &mut Random) -> Update {
+fn assert_line(state: &mut State, book: &mut Book<'_>, random: &mut Random, tally: &mut Tally) {
     let line = some_line(state, random);
     let update = state.run(line, random);
+    tally.add_number(update.number);
+    tally.add_if(update.number == 11, &refusal_name(line.deed));
     assert_eq!(update, book.feed(line), "{line:?}");
     assert_eq!(state.points, book.marks, "{line:?}");
     let words = state.table.words();
@@ -124,8 +166,22 @@ fn assert_line(state: &mut State, book: &mut Book<'_>, random: &mut Random) -> U
     assert_eq!(words, fresh, "{line:?}");
     let verdict = table_check(network.lend(), &state.points, state.table.lend());
     assert_eq!(verdict.accepted(), Ok(true));
-    update
+    tally_table(&words, &state.points, tally);
 }
+
+fn refusal_name(deed: Deed) -> String {
+    format!("number 11 of {deed:?}")
+}
+
+/// Counts what several lockers bring into a table.
+fn tally_table(table: &PlainTable, points: &[u8], tally: &mut Tally) {
+    let rows = || (0..table.nodes()).map(|node| table.row(node));
+    tally.add_if(rows().any(|row| repeats_a_node(&row)), REPEATED);
+    tally.add_if(rows().any(|row| is_cut_in_a_node(&row, points)), CUT);
+}
+
+const REPEATED: &str = "a row that holds a node several times";
+const CUT: &str = "a row cut in the midst of a node's lockers";
 
 /// "The searches are then lent this network, these marks and arrays that 10 lets pass": all four
 /// list the same for each site and each k from 1 to K - 1.
@@ -158,14 +214,14 @@ fn assert_listing(listing: Listing, site: &Site, list: &[u32]) {
 /// One build and a list of calls, of which some are refused, and then the searches.
 fn try_list(network: &OwnedNetwork, length: u32, random: &mut Random, tally: &mut Tally) {
     let pairs = AllPairs::of(network.lend());
-    let (points, places) = (some_points(network, random), some_places(random));
+    let (points, places) = (line_points(network, random), some_places(random));
     let mut state = State::built(network, &points, places, random);
     let mut book = Book::new(network, &pairs, &points, places);
     for _ in 0..length {
         if random.once_in(4) {
             state.run_foreign(random);
         }
-        tally.add_number(assert_line(&mut state, &mut book, random).number);
+        assert_line(&mut state, &mut book, random, tally);
     }
     if random.once_in(8) {
         assert_searches(&state, &pairs, random);
@@ -183,7 +239,7 @@ fn lists_of_network_n() {
 #[test]
 fn lists_of_random_networks() {
     let mut tally = Tally::default();
-    for seed in 0..1_000 {
+    for seed in 0..2_000 {
         let mut random = Random::new(seed);
         let network = random_network(&mut random);
         let length = random.pick(&[0, 1, 20, 60]);
@@ -191,4 +247,10 @@ fn lists_of_random_networks() {
     }
     tally.print();
     tally.assert_numbers(500, &[0, 7, 8, 10, 11]);
+    for deed in [Deed::Insert, Deed::Remove] {
+        tally.assert_at_least(500, &refusal_name(deed));
+    }
+    for name in [REPEATED, CUT] {
+        tally.assert_at_least(2_000, name);
+    }
 }

@@ -7,13 +7,13 @@ use common::call::{assert_lower_numbers_first, assert_outcome, assert_random_cal
 use common::call::{assert_refused, compare, Call, Outcome, LEAST_OF_EACH};
 use common::faults::Fault;
 use common::inputs::{enough, some_places, some_points, spoil_points};
-use common::largest::{
-    each, largest_grid, largest_star, longest_chain, most_roads, LAST, MOST_NODES,
-};
+use common::largest::{each, largest_grid, largest_star, longest_chain, most_roads};
+use common::largest::{several_on_each, LAST, MOST_NODES};
 use common::lent::Lent;
 use common::network::{marks, network_n, OwnedNetwork, N_NODES, N_POINTS};
 use common::numbers::{build_number, plain_scratch_len};
 use common::random::Random;
+use common::rows::{is_cut_in_a_node, repeats_a_node, Near};
 use common::shapes::{far_grid, random_network, random_parts};
 use common::shapes::{try_all_small_points, weight_by_product, weighted};
 use common::table::{OwnedTable, PlainTable};
@@ -111,14 +111,17 @@ impl Call for Build {
 
     fn tally(&self, tally: &mut Tally, pairs: &AllPairs) {
         let table = PlainTable::of(pairs, &self.points, self.table.places);
-        let mut rows = (0..table.nodes()).map(|node| table.row(node));
-        let is_cut = |row: &[(u32, u32)]| row.windows(2).any(|pair| pair[0].1 == pair[1].1);
+        let rows = || (0..table.nodes()).map(|node| table.row(node));
+        let differs = |a: Near, b: Near| a.0 != b.0 && a.1 == b.1;
+        let is_cut = |row: &[Near]| row.windows(2).any(|pair| differs(pair[0], pair[1]));
         let happened = [
             table.ids.iter().all(|&id| id == NONE),
             table.ids.contains(&NONE),
             !table.ids.contains(&NONE),
-            rows.any(|row| is_cut(&row) && row.last() != Some(&(NONE, NONE))),
+            rows().any(|row| is_cut(&row) && row.last() != Some(&(NONE, NONE))),
             pairs.row(0).contains(&None),
+            rows().any(|row| repeats_a_node(&row)),
+            rows().any(|row| is_cut_in_a_node(&row, &self.points)),
         ];
         tally.add_places(self.table.places);
         for (happened, name) in happened.into_iter().zip(TALLIED) {
@@ -128,12 +131,14 @@ impl Call for Build {
 }
 
 /// The names under which things are counted.
-const TALLIED: [&str; 5] = [
+const TALLIED: [&str; 7] = [
     "a table of empty places",
     "an empty place",
     "all rows full",
     "equal distances in a full row",
     "a node that can't be reached",
+    "a row that holds a node several times",
+    "a row cut in the midst of a node's lockers",
 ];
 
 /// Network N of document 01, by hand.
@@ -188,7 +193,8 @@ mod network_n {
             assert_refused(call, number);
         };
         let other = |length| Lent::junk(length, &mut Random::new(0));
-        assert_number(6, |c| c.points[3] = 2);
+        assert_number(6, |c| c.points[3] = 16);
+        assert_number(6, |c| c.points[5] = 255);
         assert_number(6, |c| c.points.truncate(5));
         assert_number(6, |c| c.points.push(0));
         for places in [0, 1, 3, 17, 18, 65_538, u32::MAX] {
@@ -250,7 +256,7 @@ mod random {
     }
 }
 
-/// All networks of up to four nodes with roads of weight 1 or 2, and all sets of points.
+/// All networks of up to four nodes with roads of weight 1 or 2, and 0 to 2 lockers on each node.
 mod exhaustive {
     use super::*;
 
@@ -276,7 +282,7 @@ mod special {
         for seed in 0..TRIES {
             let mut random = Random::new(seed);
             let network = random_network(&mut random);
-            let points = vec![1; network.starts.len() - 1];
+            let points = vec![random.pick(&[1, 1, 2, 15]); network.starts.len() - 1];
             let places = some_places(&mut random);
             compare(Build::exact(&network, &points, places, &mut random));
         }
@@ -312,8 +318,8 @@ mod special {
     fn one_node_without_a_road() {
         let network = OwnedNetwork::from_roads(1, &[]);
         for places in 2..=17 {
-            for points in [[0], [1]] {
-                let call = Build::exact(&network, &points, places, &mut Random::new(7));
+            for lockers in 0..=15 {
+                let call = Build::exact(&network, &[lockers], places, &mut Random::new(7));
                 assert_eq!(compare(call), 0);
             }
         }
@@ -358,7 +364,11 @@ mod limits {
         let ends = assert_table(&network, &marks(MOST_NODES, &[0, LAST]), 2);
         assert_eq!(ends.row(0), [(0, 0), (LAST, 4_294_770_690)]);
         assert_eq!(ends.row(LAST), [(LAST, 0), (0, 4_294_770_690)]);
+        let two_far = assert_table(&network, &marks(MOST_NODES, &[0, LAST, LAST]), 3);
+        let far = (LAST, 4_294_770_690);
+        assert_eq!(two_far.row(0), [(0, 0), far, far]);
         assert_table(&network, &each(1_000), 17);
+        assert_table(&network, &several_on_each(1_000), 17);
     }
 
     #[test]
@@ -372,6 +382,7 @@ mod limits {
     fn the_most_nodes_without_a_road() {
         let network = OwnedNetwork::from_roads(MOST_NODES, &[]);
         assert_table(&network, &each(1), 2);
+        assert_table(&network, &several_on_each(1), 17);
     }
 
     #[test]
@@ -379,6 +390,7 @@ mod limits {
         let network = largest_grid(weight_by_product);
         assert_table(&network, &each(100), 2);
         assert_table(&network, &each(100), 17);
+        assert_table(&network, &several_on_each(100), 17);
     }
 
     #[test]
@@ -393,6 +405,7 @@ mod limits {
         assert_eq!(network.neighbours.len(), 524_288);
         assert_table(&network, &each(1_000), 2);
         assert_table(&network, &each(1), 2);
+        assert_table(&network, &several_on_each(1), 2);
     }
 
     /// A long chain leads to a grid, in which many nodes have distances near the largest one.

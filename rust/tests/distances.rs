@@ -53,6 +53,8 @@ impl Distances {
 impl Call for Distances {
     type Answer = u32;
 
+    const HAS_POINTS: bool = false;
+
     const OWN_FAULTS: &'static [(u32, Fault<Self>)] = &[
         (7, |c, r| c.node = no_node(&c.network, r)),
         (10, shorten_answers),

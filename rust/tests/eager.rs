@@ -7,7 +7,8 @@ use common::call::{assert_lower_numbers_first, assert_outcome, assert_random_cal
 use common::call::{assert_refused, compare, Answer, Call, Outcome, LEAST_OF_EACH};
 use common::faults::Fault;
 use common::inputs::{no_k, no_node, some_node, some_points, spoil_points};
-use common::largest::{each, largest_grid, largest_star, longest_chain, LAST, MOST_NODES};
+use common::largest::{each, largest_grid, largest_star, longest_chain, several_on_each};
+use common::largest::{LAST, MOST_NODES};
 use common::lent::Lent;
 use common::nearest_rows::NearestRows;
 use common::network::{marks, network_n, OwnedNetwork, N_NODES, N_POINTS};
@@ -276,7 +277,8 @@ mod network_n {
             change(&mut call);
             assert_refused(call, number);
         };
-        assert_number(6, |c| c.site.points[3] = 2);
+        assert_number(6, |c| c.site.points[3] = 16);
+        assert_number(6, |c| c.site.points[5] = 255);
         assert_number(6, |c| c.site.points.truncate(5));
         assert_number(6, |c| c.site.points.push(0));
         assert_number(7, |c| c.site.q = 6);
@@ -343,21 +345,29 @@ mod random {
 
     #[test]
     fn short_query_and_plain_calculation_agree() {
-        assert_random_calls::<Short>(&[0, 1, 2, 3, 4, 5, 6, 7, 10], &Site::TALLIED);
+        // For k = 1 one locker does to the count what several do.
+        let (_, names) = Site::TALLIED.split_last().unwrap();
+        assert_random_calls::<Short>(&[0, 1, 2, 3, 4, 5, 6, 7, 10], names);
     }
 }
 
-/// All networks of up to four nodes with roads of weight 1 or 2, and all sets of points.
+/// All networks of up to four nodes with roads of weight 1 or 2, and 0 to 2 lockers on each node.
 mod exhaustive {
     use super::*;
 
     /// Tries every q, k from 1 to 3 and limits from 0 to all nodes.
     fn try_points(network: &OwnedNetwork, points: &[u8], random: &mut Random) {
-        let n = points.len() as u32;
+        let (n, pairs) = (points.len() as u32, AllPairs::of(network.lend()));
         for q in 0..n {
             for k in 1..=3 {
+                let expanded = pairs.plain_expanded(points, q, k);
                 for limit in 0..=n {
-                    compare(Eager::exact(network, points, (q, k, limit), random));
+                    let call = Eager::exact(network, points, (q, k, limit), random);
+                    let outcome = match expanded > limit {
+                        true => call.refused(12),
+                        false => call.accepted_by(&pairs),
+                    };
+                    assert_outcome(call, &outcome);
                 }
             }
         }
@@ -411,7 +421,9 @@ mod limits {
     fn one_node_without_a_road() {
         let network = OwnedNetwork::from_roads(1, &[]);
         for k in [1, 16] {
-            assert_list(&network, &[1], (0, k, 1), (&[0], 1));
+            for lockers in 1..=15 {
+                assert_list(&network, &[lockers], (0, k, 1), (&[0], 1));
+            }
             assert_list(&network, &[0], (0, k, 1), (&[], 1));
         }
     }
@@ -419,16 +431,27 @@ mod limits {
     #[test]
     fn a_grid_of_255_by_257_nodes() {
         let network = largest_grid(weight_by_product);
-        let points = each(100);
-        let nearest = NearestRows::of(network.lend(), &points, 5);
-        for (q, k) in [(MOST_NODES / 2, 1), (100, 4)] {
+        assert_lists(&network, &each(100), &[(MOST_NODES / 2, 1), (100, 4)]);
+        assert_lists(
+            &network,
+            &several_on_each(100),
+            &[(MOST_NODES / 2, 16), (100, 8)],
+        );
+    }
+
+    /// Sees that the list and the count are what the nearest points of each node say, for each q
+    /// and k.
+    fn assert_lists(network: &OwnedNetwork, points: &[u8], asked: &[(u32, u32)]) {
+        let most = asked.iter().map(|&(_, k)| k as usize + 1).max().unwrap();
+        let nearest = NearestRows::of(network.lend(), points, most);
+        for &(q, k) in asked {
             let from_q = relaxed_row(network.lend(), q);
-            let list = nearest.listed(&points, &from_q, k);
+            let list = nearest.listed(&from_q, k);
             let count = nearest.expanded(&from_q, k);
             assert!(list.len() > 1);
-            assert_list(&network, &points, (q, k, count), (&list, count));
+            assert_list(network, points, (q, k, count), (&list, count));
             let asked = (q, k, count - 1);
-            let call = Eager::exact(&network, &points, asked, &mut Random::new(8));
+            let call = Eager::exact(network, points, asked, &mut Random::new(8));
             assert_refused(call, 12);
         }
     }

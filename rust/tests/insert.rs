@@ -7,8 +7,9 @@ use common::call::{assert_refused, compare, Call, LEAST_OF_EACH};
 use common::change::{assert_damaged_tables, assert_small_networks, Change, ChangeCall, Kind};
 use common::change_cases::{assert_changes, assert_one_by_one, assert_own_conditions};
 use common::change_cases::{assert_scratch_of_n, call_on_n};
-use common::largest::{each, largest_grid, largest_star, longest_chain, LAST, MOST_NODES};
-use common::network::N_POINTS;
+use common::largest::{each, largest_grid, largest_star, longest_chain, several_on_each};
+use common::largest::{LAST, MOST_NODES};
+use common::network::{marks, N_NODES, N_POINTS};
 use common::shapes::weight_by_product;
 use overlap::calls::insert;
 
@@ -18,7 +19,12 @@ struct Insertion;
 impl Kind for Insertion {
     const NAME: &'static str = "insert";
     const CALL: ChangeCall = insert;
-    const MARK: u8 = 1;
+    const REFUSED_AT: u8 = 15;
+    const ACCEPTED_AT: [u8; 5] = [0, 0, 1, 2, 14];
+
+    fn after(lockers: u8) -> u8 {
+        lockers + 1
+    }
 }
 
 type Insert = Change<Insertion>;
@@ -41,11 +47,17 @@ mod network_n {
         assert_eq!(call.points, [1, 0, 1, 0, 1, 1]);
     }
 
+    /// From 0 or 1 locker on the node to 15.
     #[test]
-    fn every_unmarked_node_and_every_k() {
-        for node in [0, 1, 3] {
+    fn every_node_and_every_k() {
+        for node in 0..N_NODES {
             for places in 2..=17 {
-                assert_eq!(compare(call(node, places)), 0);
+                let mut points = N_POINTS.to_vec();
+                for _ in marks(N_NODES, &N_POINTS)[node as usize]..15 {
+                    assert_eq!(compare(call_on_n::<Insertion>(&points, node, places)), 0);
+                    points.push(node);
+                }
+                assert_refused(call_on_n::<Insertion>(&points, node, places), 11);
             }
         }
     }
@@ -53,8 +65,10 @@ mod network_n {
     #[test]
     fn each_condition_of_its_own() {
         assert_own_conditions(&call(0, 2));
-        for point in N_POINTS {
-            assert_refused(call(point, 2), 11);
+        for node in 0..N_NODES {
+            let mut call = call(node, 2);
+            call.points[node as usize] = 15;
+            assert_refused(call, 11);
         }
     }
 
@@ -86,7 +100,7 @@ mod random {
     }
 }
 
-/// All networks of up to four nodes with roads of weight 1 or 2, and all sets of points.
+/// All networks of up to four nodes with roads of weight 1 or 2, and 0 to 2 lockers on each node.
 mod exhaustive {
     use super::*;
 
@@ -100,9 +114,15 @@ mod exhaustive {
 mod one_by_one {
     use super::*;
 
+    /// The rows of up to 15 places are then full of their own node.
     #[test]
-    fn until_every_node_is_a_point() {
-        assert_one_by_one::<Insertion>(1_000, |_| ());
+    fn until_every_node_has_15_lockers() {
+        assert_one_by_one::<Insertion>(1_000, |table| {
+            for node in 0..table.nodes() {
+                let own = table.row(node).into_iter().take(15);
+                assert!(own.eq(vec![(node, 0); table.places.min(15) as usize]));
+            }
+        });
     }
 }
 
@@ -127,6 +147,8 @@ mod limits {
         let nodes = [0, LAST, 1, LAST / 2];
         assert_changes::<Insertion>(&network, &none, &nodes, 2);
         assert_changes::<Insertion>(&network, &each(1_000), &[LAST, 500], 17);
+        let several = several_on_each(1_000);
+        assert_changes::<Insertion>(&network, &several, &[LAST, 0, 13_000], 17);
     }
 
     #[test]
@@ -134,6 +156,7 @@ mod limits {
         let network = largest_star(7);
         let none = vec![0; MOST_NODES as usize];
         assert_changes::<Insertion>(&network, &none, &[LAST, 7, 0, 1], 2);
+        assert_changes::<Insertion>(&network, &none, &[7, 7, 7, LAST], 2);
     }
 
     #[test]
@@ -141,5 +164,6 @@ mod limits {
         let network = largest_grid(weight_by_product);
         assert_changes::<Insertion>(&network, &each(100), &[1, MOST_NODES / 2, LAST], 2);
         assert_changes::<Insertion>(&network, &each(1_000), &[30_001], 17);
+        assert_changes::<Insertion>(&network, &several_on_each(1_000), &[30_000, 30_000], 17);
     }
 }

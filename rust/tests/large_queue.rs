@@ -4,7 +4,7 @@
 
 mod common;
 
-use common::largest::{each, LAST, MOST_NODES};
+use common::largest::{each, several_on_each, LAST, MOST_NODES};
 use common::lent::Lent;
 use common::network::OwnedNetwork;
 use common::numbers::plain_scratch_len;
@@ -52,8 +52,8 @@ fn distances_from_the_centre_and_from_an_end() {
 #[test]
 fn the_nearest_points_of_the_centre() {
     let mut random = Random::new(2);
-    let points = each(3);
-    for heaviest in [20, 3_000, 65_535] {
+    let all_points = [each(3), several_on_each(3), each(3)];
+    for (heaviest, points) in [20, 3_000, 65_535].into_iter().zip(all_points) {
         let pairs = star(MOST_NODES, CENTRE);
         let network = weighted(MOST_NODES, &pairs, |_, _| random.between(1, heaviest));
         let found = nearest_in(&relaxed_row(network.lend(), CENTRE), &points, NONE, 16);
@@ -78,8 +78,7 @@ fn the_nearest_points_of_the_centre() {
 fn the_table_of_a_wide_network() {
     let mut random = Random::new(3);
     let network = wide(&mut random);
-    let points = each(3);
-    for places in [2, 5] {
+    for (points, places) in [(each(3), 2), (each(3), 5), (several_on_each(3), 17)] {
         let table = PlainTable::built(&network, &points, places, &mut random);
         let expected = PlainTable::of_large(&network, &points, places);
         assert!(table.ids == expected.ids && table.distances == expected.distances);

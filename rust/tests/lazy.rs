@@ -7,9 +7,8 @@ use common::call::{assert_lower_numbers_first, assert_outcome, assert_random_cal
 use common::call::{assert_refused, compare, Call, Outcome, LEAST_OF_EACH};
 use common::faults::Fault;
 use common::inputs::{no_k, no_node, some_k, some_node, some_points, spoil_points};
-use common::largest::{
-    each, largest_grid, largest_star, longest_chain, most_roads, LAST, MOST_NODES,
-};
+use common::largest::{each, largest_grid, largest_star, longest_chain, most_roads};
+use common::largest::{several_on_each, LAST, MOST_NODES};
 use common::lent::Lent;
 use common::nearest_rows::NearestRows;
 use common::network::{marks, network_n, OwnedNetwork, N_NODES, N_POINTS};
@@ -212,7 +211,8 @@ mod network_n {
             change(&mut site);
             assert_both_refuse(&site, number);
         };
-        assert_number(6, |s| s.points[3] = 2);
+        assert_number(6, |s| s.points[3] = 16);
+        assert_number(6, |s| s.points[5] = 255);
         assert_number(6, |s| s.points.truncate(5));
         assert_number(6, |s| s.points.push(0));
         assert_number(7, |s| s.q = 6);
@@ -301,7 +301,7 @@ mod random {
     }
 }
 
-/// All networks of up to four nodes with roads of weight 1 or 2, and all sets of points.
+/// All networks of up to four nodes with roads of weight 1 or 2, and 0 to 2 lockers on each node.
 mod exhaustive {
     use super::*;
 
@@ -320,11 +320,14 @@ mod exhaustive {
 mod equal_distances {
     use super::*;
 
-    /// No points, all, each second and third node, single ones, and random ones.
+    /// No points, all, each second and third node, also with two lockers, single ones, and random
+    /// ones.
     fn sets_of_points(network: &OwnedNetwork, random: &mut Random) -> Vec<Vec<u8>> {
         let n = network.starts.len() as u32 - 1;
-        let each = |step| (0..n).map(|p| u8::from(p % step == 0)).collect();
+        let times = |lockers, step| (0..n).map(|p| lockers * u8::from(p % step == 0)).collect();
+        let each = |step| times(1, step);
         let mut sets = vec![vec![0; n as usize], each(1), each(2), each(3), each(7)];
+        sets.extend([times(2, 3), times(2, 7)]);
         sets.extend([0, n / 2, n - 1].map(|p| marks(n, &[p])));
         sets.extend((0..6).map(|_| some_points(network, random)));
         sets
@@ -405,11 +408,11 @@ mod special {
     /// The points that can be reached from q.
     fn reached(site: &Site, pairs: &AllPairs) -> Vec<u32> {
         let is_reached =
-            |&p: &u32| site.points[p as usize] == 1 && pairs.row(site.q)[p as usize].is_some();
+            |&p: &u32| site.points[p as usize] > 0 && pairs.row(site.q)[p as usize].is_some();
         (0..site.points.len() as u32).filter(is_reached).collect()
     }
 
-    /// With at most k points, fewer than k others are nearer.
+    /// With at most k lockers, fewer than k others are nearer.
     #[test]
     fn k_not_below_the_number_of_points_lists_all_that_are_reached() {
         for seed in 0..TRIES {
@@ -431,7 +434,7 @@ mod special {
             let mut random = Random::new(seed);
             let network = random_network(&mut random);
             let pairs = AllPairs::of(network.lend());
-            let points = vec![1; network.starts.len() - 1];
+            let points = vec![random.pick(&[1, 1, 2, 15]); network.starts.len() - 1];
             let asked = (some_node(&network, &mut random), some_k(&mut random));
             let site = Site::exact(&network, &points, asked, &mut random);
             let list = site.list(&pairs);
@@ -448,7 +451,8 @@ mod special {
             let network = random_network(&mut random);
             let pairs = AllPairs::of(network.lend());
             let mut site = Site::random(&network, &mut random);
-            site.points[site.q as usize] = 1;
+            let on_q = &mut site.points[site.q as usize];
+            *on_q = random.pick(&[1, 2, 15]).max(*on_q);
             let list = site.list(&pairs);
             assert!(list.contains(&site.q));
             assert_list(&site, &list);
@@ -464,9 +468,9 @@ mod special {
             network.starts.push(network.neighbours.len() as u32);
             let mut site = Site::random(&network, &mut random);
             site.q = network.starts.len() as u32 - 2;
-            for (mark, list) in [(0, &[][..]), (1, &[site.q])] {
+            for (lockers, list) in [(0, &[][..]), (1, &[site.q]), (15, &[site.q])] {
                 let mut site = site.clone();
-                site.points[site.q as usize] = mark;
+                site.points[site.q as usize] = lockers;
                 assert_list(&site, list);
             }
         }
@@ -476,7 +480,7 @@ mod special {
     fn one_node_without_a_road() {
         let network = OwnedNetwork::from_roads(1, &[]);
         for k in 1..=16 {
-            for (points, list) in [([1], &[0][..]), ([0], &[])] {
+            for (points, list) in [([1], &[0][..]), ([15], &[0]), ([0], &[])] {
                 let site = Site::exact(&network, &points, (0, k), &mut Random::new(7));
                 assert_list(&site, list);
             }
@@ -498,7 +502,7 @@ mod limits {
         let most = asked.iter().map(|&(_, k)| k as usize + 1).max().unwrap();
         let nearest = NearestRows::of(network.lend(), points, most);
         for &(q, k) in asked {
-            let list = nearest.listed(points, &relaxed_row(network.lend(), q), k);
+            let list = nearest.listed(&relaxed_row(network.lend(), q), k);
             assert!(!list.is_empty());
             assert_listed(network, points, (q, k), &list);
         }
@@ -561,12 +565,15 @@ mod limits {
         let network = largest_grid(weight_by_product);
         let asked = [(MOST_NODES / 2, 1), (0, 1), (12_345, 4), (100, 4)];
         assert_relaxed(&network, &each(100), &asked);
+        let asked = [(MOST_NODES / 2, 16), (12_345, 4), (30_000, 1)];
+        assert_relaxed(&network, &several_on_each(100), &asked);
     }
 
     #[test]
     fn a_grid_of_255_by_257_nodes_and_equal_weights() {
         let network = largest_grid(|_, _| 1);
         assert_relaxed(&network, &each(100), &[(MOST_NODES / 2, 1), (12_300, 4)]);
+        assert_relaxed(&network, &several_on_each(100), &[(MOST_NODES / 2, 16)]);
     }
 
     /// A long chain leads to a grid, in which many nodes have distances around 2^31, or near the

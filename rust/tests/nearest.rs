@@ -10,12 +10,14 @@ use common::call::{compare, Call, Outcome, LEAST_OF_EACH};
 use common::faults::Fault;
 use common::inputs::{enough, no_k, no_node, some_e, some_k, some_node};
 use common::inputs::{some_points, spoil_points, too_short};
-use common::largest::{each, largest_grid, largest_star, longest_chain, LAST, MOST_NODES};
+use common::largest::{each, largest_grid, largest_star, longest_chain, several_on_each};
+use common::largest::{LAST, MOST_NODES};
 use common::lent::Lent;
 use common::network::{marks, network_n, OwnedNetwork, N_NODES, N_POINTS};
 use common::numbers::{nearest_number, plain_scratch_len};
 use common::random::Random;
-use common::rows::{nearest_in, relaxed_row, Near, LARGEST_DISTANCE};
+use common::rows::LARGEST_DISTANCE;
+use common::rows::{is_cut_in_a_node, nearest_in, relaxed_row, repeats_a_node, Near};
 use common::shapes::{try_all_small_points, weight_by_product};
 use common::tally::Tally;
 use overlap::calls::{nearest, Found, Listing, NONE};
@@ -150,7 +152,7 @@ impl Call for Nearest {
         let found = pairs.plain_nearest(points, node, e, k);
         let uncut = pairs.plain_nearest(points, node, e, NONE);
         let not_farther = pairs.plain_nearest(points, node, e.saturating_add(1), k);
-        let tie = |pair: &[Near]| pair[0].1 == pair[1].1;
+        let tie = |pair: &[Near]| pair[0].0 != pair[1].0 && pair[0].1 == pair[1].1;
         tally.add_k(k);
         tally.add_if(e == 0, "e of 0");
         tally.add_if(e == 1, "e of 1");
@@ -160,6 +162,9 @@ impl Call for Nearest {
         tally.add_if(found.len() < k as usize, "fewer than k found");
         tally.add_if(not_farther != found, "a point at e that would be found");
         tally.add_if(uncut.windows(2).any(tie), "equal distances");
+        tally.add_if(repeats_a_node(&found), "a node for several lockers");
+        let cut = is_cut_in_a_node(&found, points);
+        tally.add_if(cut, "cut in the midst of a node's lockers");
         tally.add_if(self.ids.len() > k as usize, "longer ids");
         tally.add_if(self.distances.len() > k as usize, "longer distances");
     }
@@ -241,7 +246,7 @@ mod network_n {
             change(&mut call);
             assert_refused(call, number);
         };
-        assert_number(6, |c| c.points[3] = 2);
+        assert_number(6, |c| c.points[3] = 16);
         assert_number(6, |c| c.points[5] = 255);
         assert_number(6, |c| c.points.truncate(5));
         assert_number(6, |c| c.points.push(0));
@@ -316,6 +321,8 @@ mod random {
             "fewer than k found",
             "a point at e that would be found",
             "equal distances",
+            "a node for several lockers",
+            "cut in the midst of a node's lockers",
             "longer ids",
             "longer distances",
         ];
@@ -323,17 +330,19 @@ mod random {
     }
 }
 
-/// All networks of up to four nodes with roads of weight 1 or 2, and all sets of points.
+/// All networks of up to four nodes with roads of weight 1 or 2, and 0 to 2 lockers on each node.
 mod exhaustive {
     use super::*;
 
     /// Tries every node with some e and k.
     fn try_points(network: &OwnedNetwork, points: &[u8], random: &mut Random) {
+        let pairs = AllPairs::of(network.lend());
         for node in 0..points.len() as u32 {
             for e in [0, 1, 2, 3, 4, NONE] {
                 for k in 1..=3 {
                     let call = Nearest::exact(network, points, (node, e, k), random);
-                    assert_eq!(compare(call), 0);
+                    let outcome = call.accepted_by(&pairs);
+                    assert_outcome(call, &outcome);
                 }
             }
         }
@@ -405,10 +414,12 @@ mod limits {
     fn one_node_without_a_road() {
         let network = OwnedNetwork::from_roads(1, &[]);
         for k in [1, 16] {
-            assert_found(&network, &[1], (0, 0, k), &[]);
-            assert_found(&network, &[1], (0, 1, k), &[(0, 0)]);
-            assert_found(&network, &[1], (0, NONE, k), &[(0, 0)]);
-            assert_found(&network, &[0], (0, NONE, k), &[]);
+            for lockers in 0..=15 {
+                let found = vec![(0, 0); k.min(u32::from(lockers)) as usize];
+                assert_found(&network, &[lockers], (0, 0, k), &[]);
+                assert_found(&network, &[lockers], (0, 1, k), &found);
+                assert_found(&network, &[lockers], (0, NONE, k), &found);
+            }
         }
     }
 
@@ -422,12 +433,13 @@ mod limits {
     #[test]
     fn a_grid_of_255_by_257_nodes() {
         let network = largest_grid(weight_by_product);
-        let points = each(100);
         let node = MOST_NODES / 2;
         let row = relaxed_row(network.lend(), node);
-        for (e, k) in [(NONE, 1), (NONE, 3), (200, 3), (1, 1), (0, 1)] {
-            let found = nearest_in(&row, &points, e, k);
-            assert_found(&network, &points, (node, e, k), &found);
+        for points in [each(100), several_on_each(100)] {
+            for (e, k) in [(NONE, 1), (NONE, 3), (200, 3), (1, 1), (0, 1), (NONE, 16)] {
+                let found = nearest_in(&row, &points, e, k);
+                assert_found(&network, &points, (node, e, k), &found);
+            }
         }
     }
 }

@@ -204,42 +204,55 @@ mod networks {
     }
 }
 
-/// Points: one mark a node.
+/// Points: the lockers on each node.
 mod points {
     use super::*;
 
+    /// A node for each of its lockers, in any order.
+    fn each_locker(marks: &[u8], random: &mut Random) -> Vec<u32> {
+        let of_node = |(node, &lockers): (u32, &u8)| std::iter::repeat_n(node, lockers.into());
+        let mut nodes: Vec<u32> = (0..).zip(marks).flat_map(of_node).collect();
+        random.shuffle(&mut nodes);
+        nodes
+    }
+
     #[test]
     fn are_their_marks() {
+        let mut several = 0;
         for seed in 0..1_000 {
             let mut random = Random::new(seed);
             let arrays = random_network(&mut random);
             let network = accepted(&arrays).unwrap();
             let marks = some_points(&arrays, &mut random);
             let points = Points::from_marks(&network, marks.clone()).unwrap();
-            let nodes: Vec<u32> = points.iter().collect();
-            let marked = |node: u32| marks[node as usize] == 1;
-            assert!((0..network.nodes())
-                .filter(|&node| marked(node))
-                .eq(nodes.clone()));
+            let lockers = |node: &u32| marks[*node as usize];
+            let nodes: Vec<u32> = (0..network.nodes()).filter(|p| lockers(p) > 0).collect();
+            assert!(points.iter().eq(nodes.iter().copied()));
+            for node in 0..network.nodes() {
+                assert_eq!(points.count(node), lockers(&node).into());
+                assert_eq!(points.contains(node), nodes.contains(&node));
+            }
+            let each = each_locker(&marks, &mut random);
             assert_eq!(
                 (points.len(), points.is_empty()),
-                (nodes.len(), nodes.is_empty())
+                (each.len(), each.is_empty())
             );
-            let again = Points::on(&network, nodes.into_iter().rev());
-            assert_eq!(again.as_ref(), Ok(&points));
+            several += usize::from(each.len() > nodes.len());
+            assert_eq!(Points::on(&network, each).as_ref(), Ok(&points));
             assert_eq!(points.marks(), marks);
         }
+        assert!(several >= 300, "{several}");
     }
 
     #[test]
     fn change_one_by_one() {
         let (network, mut points) = n_and_points();
-        assert_eq!(points.insert(2), Err(Refusal::Mark));
         assert_eq!(points.remove(3), Err(Refusal::Mark));
         for node in [6, u32::MAX] {
             assert_eq!(points.insert(node), Err(Refusal::Node));
             assert_eq!(points.remove(node), Err(Refusal::Node));
             assert!(!points.contains(node));
+            assert_eq!(points.count(node), 0);
         }
         assert_eq!(points, Points::on(&network, N_POINTS).unwrap());
         assert_eq!(points.insert(3), Ok(()));
@@ -249,12 +262,41 @@ mod points {
     }
 
     #[test]
+    fn have_up_to_15_lockers_on_a_node() {
+        let (_, mut points) = n_and_points();
+        for lockers in 2..=15 {
+            assert_eq!(points.insert(2), Ok(()));
+            assert_eq!(
+                (points.count(2), points.len()),
+                (lockers, lockers as usize + 2)
+            );
+            assert!(points.iter().eq([2, 4, 5]));
+        }
+        assert_eq!(points.insert(2), Err(Refusal::Mark));
+        assert_eq!(points.marks(), [0, 0, 15, 0, 1, 1]);
+        for lockers in (0..15).rev() {
+            assert_eq!(points.remove(2), Ok(()));
+            assert_eq!(
+                (points.count(2), points.contains(2)),
+                (lockers, lockers > 0)
+            );
+        }
+        assert_eq!(points.remove(2), Err(Refusal::Mark));
+        assert_eq!(points.marks(), [0, 0, 0, 0, 1, 1]);
+    }
+
+    #[test]
     fn are_refused() {
         let (network, _) = n_and_points();
         assert_eq!(Points::on(&network, [0, 6]), Err(Refusal::Node));
-        assert_eq!(Points::on(&network, [0, 1, 0]), Err(Refusal::Mark));
-        for marks in [vec![], vec![0; 5], vec![0; 7], vec![0, 0, 0, 0, 0, 2]] {
+        assert!(Points::on(&network, [0; 15]).is_ok());
+        assert_eq!(Points::on(&network, [0; 16]), Err(Refusal::Mark));
+        for marks in [vec![], vec![0; 5], vec![0; 7]] {
             assert_eq!(Points::from_marks(&network, marks), Err(Refusal::Points));
+        }
+        for byte in 0..=255 {
+            let points = Points::from_marks(&network, vec![0, 0, 0, 0, 0, byte]);
+            assert_eq!(points.err(), (byte > 15).then_some(Refusal::Points));
         }
     }
 }
@@ -436,6 +478,41 @@ mod table {
         }
     }
 
+    enum Change {
+        Insert,
+        Remove,
+    }
+
+    /// Adds a locker or takes one, as can be.
+    fn change(lockers: &mut u8, random: &mut Random) -> Change {
+        if *lockers == 0 || *lockers < 15 && random.once_in(2) {
+            *lockers += 1;
+            Change::Insert
+        } else {
+            *lockers -= 1;
+            Change::Remove
+        }
+    }
+
+    #[test]
+    fn a_node_is_refused_at_15_lockers_and_at_none() {
+        let (network, _) = n_and_points();
+        let pairs = AllPairs::of(network.lend());
+        let marks = [15, 0, 15, 0, 0, 15];
+        for places in 2..=17 {
+            let points = Points::from_marks(&network, marks.to_vec()).unwrap();
+            let mut table = Table::build(&network, points, places).unwrap();
+            for node in 0..N_NODES {
+                let refused = match marks[node as usize] {
+                    0 => table.remove(node),
+                    _ => table.insert(node),
+                };
+                assert_eq!(refused, Err(Refusal::Mark));
+                assert_table(&table, &pairs, &marks, places);
+            }
+        }
+    }
+
     #[test]
     fn follows_its_points() {
         for seed in 0..1_000 {
@@ -451,14 +528,12 @@ mod table {
             for _ in 0..20 {
                 let node = some_node(&arrays, &mut random);
                 let before = PlainTable::of(&pairs, &marks, places);
-                let mark = marks[node as usize];
-                marks[node as usize] = 1 - mark;
-                let changed = before.changed(&PlainTable::of(&pairs, &marks, places));
-                let (done, again) = match mark {
-                    0 => (table.insert(node), table.insert(node)),
-                    _ => (table.remove(node), table.remove(node)),
+                let done = match change(&mut marks[node as usize], &mut random) {
+                    Change::Insert => table.insert(node),
+                    Change::Remove => table.remove(node),
                 };
-                assert_eq!((done, again), (Ok(changed), Err(Refusal::Mark)));
+                let changed = before.changed(&PlainTable::of(&pairs, &marks, places));
+                assert_eq!(done, Ok(changed));
                 assert_table(&table, &pairs, &marks, places);
                 let (q, k) = (
                     some_node(&arrays, &mut random),
@@ -579,7 +654,7 @@ mod refusals {
         }
     }
 
-    /// The column "Condition" of document 01's table of refusals.
+    /// The column "Condition" of document 01's table of refusals, 6 and 11 with the bounds of Ask 8.
     #[test]
     fn have_the_wording_of_document_01() {
         let conditions = [
@@ -588,12 +663,12 @@ mod refusals {
             "a neighbour is n or more, is its own node, or doesn't rise strictly within a node",
             "a weight is 0 or above 65,535",
             "an arc lacks its return of equal weight",
-            "points has not n entries, or a byte above 1",
+            "points has not n entries, or a byte above 15",
             "a node given is n or more",
             "K not 2 to 17, or a table array not n × K long",
             "k is 0 or above 16; by table, above K - 1",
             "scratch shorter than S, or an array for answers shorter than n (nearest: than k)",
-            "insert on a marked node; remove or verify of an unmarked one",
+            "insert at 15 lockers; remove or verify at none",
             "eager: the expanded count would exceed the limit",
         ];
         assert_eq!(Refusal::ALL.map(Refusal::condition), conditions);

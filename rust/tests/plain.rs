@@ -83,6 +83,93 @@ mod cases {
     }
 }
 
+/// Several lockers on a node, one locker after another: "Each counts, so a locker has its companions
+/// on the node as others at distance 0."
+mod lockers {
+    use super::*;
+
+    /// The nodes of all lockers, ascending.
+    fn all(points: &[u8]) -> Vec<u32> {
+        let of_node = |(node, &lockers): (u32, &u8)| std::iter::repeat_n(node, lockers.into());
+        (0..).zip(points).flat_map(of_node).collect()
+    }
+
+    /// The nodes of the lockers that are listed, and those of all that are not.
+    fn listed(pairs: &AllPairs, lockers: &[u32], q: u32, k: u32) -> [Vec<u32>; 2] {
+        let mut lists = [vec![], vec![]];
+        for (at, &p) in lockers.iter().enumerate() {
+            let row = pairs.row(p);
+            let is_nearer =
+                |&p: &u32| row[p as usize].is_some() && row[p as usize] < row[q as usize];
+            let others = [&lockers[..at], &lockers[at + 1..]].concat();
+            let nearer = others.iter().filter(|p| is_nearer(p)).count();
+            let yes = row[q as usize].is_some() && nearer < k as usize;
+            lists[usize::from(!yes)].push(p);
+        }
+        lists
+    }
+
+    /// "A node is listed once, as its lockers fare alike."
+    #[test]
+    fn fare_alike_and_give_the_lists() {
+        let mut several = 0;
+        for seed in 0..4_000 {
+            let mut random = Random::new(seed);
+            let network = random_network(&mut random);
+            let pairs = AllPairs::of(network.lend());
+            let points = some_points(&network, &mut random);
+            let (q, k) = (some_node(&network, &mut random), some_k(&mut random));
+            let [mut yes, no] = listed(&pairs, &all(&points), q, k);
+            assert!(yes.iter().all(|p| !no.contains(p)), "{network:?}");
+            let lockers = yes.len();
+            yes.dedup();
+            assert_eq!(pairs.plain_listed(&points, q, k), yes, "{network:?}");
+            several += usize::from(lockers > yes.len());
+        }
+        assert!(several >= 400, "{several}");
+    }
+
+    /// "[...] the expanded count now count lockers".
+    #[test]
+    fn give_the_counts() {
+        for seed in 0..4_000 {
+            let mut random = Random::new(seed);
+            let network = random_network(&mut random);
+            let pairs = AllPairs::of(network.lend());
+            let points = some_points(&network, &mut random);
+            let (q, k) = (some_node(&network, &mut random), some_k(&mut random));
+            let is_counted = |&m: &u32| {
+                let far = pairs.plain_distances(m);
+                let to_q = far[q as usize];
+                let lockers = all(&points).into_iter();
+                let nearer = lockers.filter(|&p| far[p as usize] < to_q).count();
+                to_q != NONE && nearer < k as usize
+            };
+            let count = (0..points.len() as u32).filter(is_counted).count();
+            assert_eq!(pairs.plain_expanded(&points, q, k), count as u32);
+        }
+    }
+
+    /// "Rows and the nearest call repeat a node for each locker".
+    #[test]
+    fn give_the_rows() {
+        for seed in 0..4_000 {
+            let mut random = Random::new(seed);
+            let network = random_network(&mut random);
+            let pairs = AllPairs::of(network.lend());
+            let points = some_points(&network, &mut random);
+            let (node, k) = (some_node(&network, &mut random), some_k(&mut random));
+            let far = pairs.plain_distances(node);
+            let mut near: Vec<_> = all(&points).iter().map(|&p| (far[p as usize], p)).collect();
+            near.sort_unstable();
+            near.retain(|entry| entry.0 != NONE);
+            near.truncate(k as usize);
+            let found = pairs.plain_nearest(&points, node, NONE, k).into_iter();
+            assert!(found.map(|(p, far)| (far, p)).eq(near), "{network:?}");
+        }
+    }
+}
+
 /// The distances of one node.
 mod rows {
     use super::*;
@@ -114,12 +201,12 @@ mod nearest_rows {
             let (points, k) = (some_points(&network, &mut random), some_k(&mut random));
             let nearest = NearestRows::of(network.lend(), &points, k as usize + 1);
             for node in 0..points.len() as u32 {
-                let row = nearest.row(node).iter();
-                let row: Vec<_> = row.map(|&(far, p)| (p, far as u32)).collect();
+                let row = nearest.row(node).into_iter();
+                let row: Vec<_> = row.map(|(far, p)| (p, far as u32)).collect();
                 assert_eq!(row, pairs.plain_nearest(&points, node, NONE, k + 1));
             }
             let q = some_node(&network, &mut random);
-            let list = nearest.listed(&points, pairs.row(q), k);
+            let list = nearest.listed(pairs.row(q), k);
             assert_eq!(list, pairs.plain_listed(&points, q, k), "{network:?}");
             let count = nearest.expanded(pairs.row(q), k);
             assert_eq!(count, pairs.plain_expanded(&points, q, k), "{network:?}");

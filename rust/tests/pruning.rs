@@ -6,9 +6,9 @@ mod common;
 mod plain;
 
 use common::largest::{each, largest_grid, MOST_NODES};
-use common::network::marks;
+use common::network::{marks, OwnedNetwork};
 use common::random::Random;
-use common::shapes::{figure_12, random_network, weight_by_product};
+use common::shapes::{chain, figure_12, random_network, weight_by_product, weighted};
 use common::site::{SearchCall, Site, EAGER};
 use overlap::calls::{lazy, lazy_ep, Listing};
 
@@ -69,6 +69,46 @@ fn lazy_ep_stops_in_figure_12_where_lazy_goes_on() {
         assert_eq!(settled(plain::lazy_and_settled, &site), nodes);
         let before_n4 = k as usize + 2;
         assert_eq!(settled(plain::lazy_ep_and_settled, &site), before_n4);
+    }
+}
+
+/// A site on node 0 with this k, and lockers on one other node.
+fn site_with(network: &OwnedNetwork, (node, lockers): (usize, u8), k: u32) -> Site {
+    let mut points = vec![0; network.starts.len() - 1];
+    points[node] = lockers;
+    let site = Site::exact(network, &points, (0, k), &mut Random::new(3));
+    assert_same(&site);
+    site
+}
+
+/// One n2 with k lockers stops lazy-EP in figure 12 as k nodes do; with one locker less it goes on.
+#[test]
+fn k_lockers_on_one_node_stop_lazy_ep() {
+    let network = figure_12(1, 500);
+    for k in [2, 3, 15] {
+        let (full, short) = ((1, k), (1, k - 1));
+        let site = site_with(&network, full, k.into());
+        let nodes = site.points.len();
+        assert_eq!(settled(plain::lazy_and_settled, &site), nodes);
+        assert_eq!(settled(plain::lazy_ep_and_settled, &site), 3);
+        let site = site_with(&network, short, k.into());
+        assert_eq!(settled(plain::lazy_ep_and_settled, &site), nodes);
+    }
+}
+
+/// On a chain, k lockers on node 10 are nearer to it than the site, so no search goes behind it; with
+/// one locker less they do.
+#[test]
+fn k_lockers_on_one_node_stop_both_on_a_chain() {
+    let network = weighted(500, &chain(500), |_, _| 1);
+    let twins: [CountingCall; 2] = [plain::lazy_and_settled, plain::lazy_ep_and_settled];
+    for k in [2, 3, 15] {
+        for twin in twins {
+            let site = site_with(&network, (10, k), k.into());
+            assert_eq!(settled(twin, &site), 11);
+            let site = site_with(&network, (10, k - 1), k.into());
+            assert_eq!(settled(twin, &site), 500);
+        }
     }
 }
 

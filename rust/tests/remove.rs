@@ -9,7 +9,8 @@ use common::change::{assert_change, assert_damaged_tables, assert_small_networks
 use common::change::{Change, ChangeCall, Kind};
 use common::change_cases::{assert_changes, assert_one_by_one, assert_own_conditions};
 use common::change_cases::{assert_scratch_of_n, call_on_n};
-use common::largest::{each, largest_grid, largest_star, longest_chain, LAST, MOST_NODES};
+use common::largest::{each, largest_grid, largest_star, longest_chain, several_on_each};
+use common::largest::{LAST, MOST_NODES};
 use common::network::{marks, N_POINTS};
 use common::random::Random;
 use common::shapes::{chain, random_network, ring, weight_by_product, weighted};
@@ -22,7 +23,12 @@ struct Removal;
 impl Kind for Removal {
     const NAME: &'static str = "remove";
     const CALL: ChangeCall = remove;
-    const MARK: u8 = 0;
+    const REFUSED_AT: u8 = 0;
+    const ACCEPTED_AT: [u8; 5] = [1, 1, 2, 3, 15];
+
+    fn after(lockers: u8) -> u8 {
+        lockers - 1
+    }
 }
 
 type Remove = Change<Removal>;
@@ -50,12 +56,16 @@ mod network_n {
         assert_eq!(call.table.words().row(5), [(NONE, NONE), (NONE, NONE)]);
     }
 
+    /// From 1 locker on the node to 15.
     #[test]
     fn every_point_and_every_k() {
         for node in N_POINTS {
             for places in 2..=17 {
-                let call: Remove = call_on_n(&N_POINTS, node, places);
-                assert_eq!(compare(call), 0);
+                let mut points = N_POINTS.to_vec();
+                for _ in 1..=15 {
+                    assert_eq!(compare(call_on_n::<Removal>(&points, node, places)), 0);
+                    points.push(node);
+                }
             }
         }
     }
@@ -97,7 +107,7 @@ mod random {
     }
 }
 
-/// All networks of up to four nodes with roads of weight 1 or 2, and all sets of points.
+/// All networks of up to four nodes with roads of weight 1 or 2, and 0 to 2 lockers on each node.
 mod exhaustive {
     use super::*;
 
@@ -122,9 +132,9 @@ mod old_distances {
                 let network = weighted(n, &shape(n), |_, _| 1);
                 let pairs = AllPairs::of(network.lend());
                 for node in 0..n {
-                    for points in [vec![0, node, n - 1], vec![node], (0..n).collect()] {
-                        let mut points = marks(n, &points);
-                        points[node as usize] = 1;
+                    let all = (0..n).collect();
+                    for points in [vec![0, node, n - 1], vec![node], vec![node; 3], all] {
+                        let points = marks(n, &points);
                         let table = PlainTable::of(&pairs, &points, 2);
                         let call = Remove::exact(&network, &points, node, &table, &mut random);
                         assert_change(call, &pairs, &mut random);
@@ -140,7 +150,7 @@ mod one_by_one {
     use super::*;
 
     #[test]
-    fn until_no_node_is_a_point() {
+    fn until_no_node_has_a_locker() {
         assert_one_by_one::<Removal>(1_000, |table| {
             assert!(table.ids.iter().all(|&id| id == NONE));
         });
@@ -185,6 +195,8 @@ mod limits {
         let four = marks(MOST_NODES, &[0, 1, LAST / 2, LAST]);
         assert_changes::<Removal>(&network, &four, &[LAST / 2, 1, LAST, 0], 2);
         assert_changes::<Removal>(&network, &each(1_000), &[0, 30_000], 17);
+        let several = several_on_each(1_000);
+        assert_changes::<Removal>(&network, &several, &[0, 31_000, 31_000], 17);
     }
 
     #[test]
@@ -192,6 +204,8 @@ mod limits {
         let network = largest_star(7);
         let four = marks(MOST_NODES, &[LAST, 7, 0, 1]);
         assert_changes::<Removal>(&network, &four, &[0, 7, 1, LAST], 2);
+        let centre = marks(MOST_NODES, &[7, 7, 7, LAST]);
+        assert_changes::<Removal>(&network, &centre, &[7, 7, 7], 2);
     }
 
     #[test]
@@ -199,5 +213,6 @@ mod limits {
         let network = largest_grid(weight_by_product);
         assert_changes::<Removal>(&network, &each(100), &[0, 32_700, 65_500], 2);
         assert_changes::<Removal>(&network, &each(1_000), &[30_000], 17);
+        assert_changes::<Removal>(&network, &several_on_each(1_000), &[31_000, 31_000], 17);
     }
 }

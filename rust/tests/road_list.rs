@@ -2,6 +2,7 @@
 
 mod common;
 
+use common::inputs::some_points;
 use common::network::{N_NODES, N_POINTS, N_ROADS};
 use common::random::Random;
 use common::shapes::{belt, chain, random_network};
@@ -73,6 +74,30 @@ mod taken {
         assert_eq!(network.nodes(), 8);
         assert_eq!(network.roads_of(5).unwrap().count(), 0);
         assert_eq!(read_network("0 65534 65535").unwrap().nodes(), 65_535);
+    }
+
+    #[test]
+    fn a_junction_for_each_locker() {
+        let points = |text: &str| read_points(text, &network_n()).unwrap();
+        assert_eq!(points("4\n2\n4").marks(), [0, 0, 1, 0, 2, 0]);
+        assert_eq!(points(&"5\n".repeat(15)).marks(), [0, 0, 0, 0, 0, 15]);
+    }
+
+    /// A list with a line for each locker, in any order, gives the points.
+    #[test]
+    fn random_points_come_back() {
+        for seed in 0..2_000 {
+            let mut random = Random::new(seed);
+            let arrays = random_network(&mut random);
+            let marks = some_points(&arrays, &mut random);
+            let network = Network::new(arrays.starts, arrays.neighbours, arrays.weights).unwrap();
+            let of_node =
+                |(node, &lockers): (usize, &u8)| vec![format!("{node}\n"); lockers.into()];
+            let mut lines: Vec<String> = marks.iter().enumerate().flat_map(of_node).collect();
+            random.shuffle(&mut lines);
+            let points = Points::from_marks(&network, marks).unwrap();
+            assert_eq!(read_points(&lines.concat(), &network), Ok(points));
+        }
     }
 
     /// A list of a network's roads, in any order and with either end first, gives the network.
@@ -212,9 +237,14 @@ mod turned_away {
     }
 
     #[test]
-    fn a_point_twice() {
-        let twice = Fault::PointTwice { node: 4, first: 1 };
-        assert_eq!(bad_point("4\n2\n4"), (3, twice));
+    fn a_16th_locker() {
+        let fifteen = "4\n".repeat(15);
+        for (text, line) in [
+            (format!("{fifteen}4"), 16),
+            (format!("2\n\n{fifteen}# full\n5\n4\n6"), 20),
+        ] {
+            assert_eq!(bad_point(&text), (line, Fault::FullNode(4)));
+        }
     }
 
     #[test]
@@ -293,8 +323,8 @@ mod messages {
             ),
             (point("6"), "line 1: there is no junction 6: they are 0 to 5"),
             (
-                point("5\n5"),
-                "line 2: the point 5 stands on line 1 already",
+                point(&"5\n".repeat(17)),
+                "line 16: junction 5 has 15 lockers already, and a junction has at most 15",
             ),
             (
                 road(""),

@@ -130,6 +130,11 @@ mod messages {
         let points = file("bad.points", b"2\n\n6\n");
         let message = format!("{points}, line 3: there is no junction 6: they are 0 to 5");
         assert_message(&[&data("n.roads"), &points], 1, &message);
+        let full = file("full.points", &b"2\n".repeat(16));
+        let message = format!(
+            "{full}, line 16: junction 2 has 15 lockers already, and a junction has at most 15"
+        );
+        assert_message(&[&data("n.roads"), &full], 1, &message);
         let binary = file("binary.roads", b"# \xff\n0 1 \xff\n");
         let message = "line 2: `\u{fffd}` is not a whole number from 0 to 4,294,967,295";
         assert_message(&[&binary, "none"], 1, &format!("{binary}, {message}"));

@@ -7,11 +7,12 @@ use common::call::{assert_lower_numbers_first, assert_outcome, assert_random_cal
 use common::call::{assert_refused, compare, Call, Outcome, LEAST_OF_EACH};
 use common::faults::Fault;
 use common::inputs::{some_node, some_places, some_points, spoil_points};
-use common::largest::{each, largest_grid, longest_chain};
+use common::largest::{each, largest_grid, longest_chain, several_on_each};
 use common::lent::Lent;
 use common::network::{marks, network_n, OwnedNetwork, N_NODES, N_POINTS};
 use common::numbers::table_check_number;
 use common::random::Random;
+use common::rows::repeats_a_node;
 use common::shapes::{random_network, try_all_small_points, weight_by_product};
 use common::table::{OwnedTable, PlainTable};
 use common::table_damage::{damage, KINDS};
@@ -68,11 +69,11 @@ impl Call for TableCheck {
     /// A table that is right, or damaged in any way, or that of some other points.
     fn random(network: &OwnedNetwork, pairs: &AllPairs, random: &mut Random) -> Self {
         let points = some_points(network, random);
-        let mut marked = points.clone();
+        let mut other = points.clone();
         if random.once_in(6) {
-            marked[some_node(network, random) as usize] ^= 1;
+            step_lockers(&mut other, network, random);
         }
-        let mut table = PlainTable::of(pairs, &marked, some_places(random));
+        let mut table = PlainTable::of(pairs, &other, some_places(random));
         let times = random.pick(&[0, 0, 1, 1, 3]);
         damage(&mut table, times, random);
         Self::exact(network, &points, &table, random)
@@ -123,7 +124,24 @@ impl Call for TableCheck {
         tally.add_places(self.table.places);
         tally.add_if(right, "yes");
         tally.add_if(!right, "no");
+        let table = self.table.words();
+        let mut rows = (0..table.nodes()).map(|node| table.row(node));
+        let repeats = rows.any(|row| repeats_a_node(&row));
+        tally.add_if(
+            right && repeats,
+            "yes, of a row that holds a node several times",
+        );
     }
+}
+
+/// One locker more or less on any node.
+fn step_lockers(points: &mut [u8], network: &OwnedNetwork, random: &mut Random) {
+    let lockers = &mut points[some_node(network, random) as usize];
+    *lockers = match *lockers {
+        0 => 1,
+        15 => 14,
+        other => random.pick(&[other - 1, other + 1]),
+    };
 }
 
 /// Network N of document 01, by hand.
@@ -163,12 +181,16 @@ mod network_n {
         }
     }
 
+    /// Each number of lockers but the right one.
     #[test]
     fn the_table_of_other_marks_is_wrong() {
         for node in 0..6 {
-            let mut call = call();
-            call.points[node] ^= 1;
-            assert_verdict(call, false);
+            for lockers in 0..=15 {
+                let mut call = call();
+                let right = call.points[node] == lockers;
+                call.points[node] = lockers;
+                assert_verdict(call, right);
+            }
         }
     }
 
@@ -188,7 +210,8 @@ mod network_n {
             change(&mut call);
             assert_refused(call, number);
         };
-        assert_number(6, |c| c.points[3] = 2);
+        assert_number(6, |c| c.points[3] = 16);
+        assert_number(6, |c| c.points[5] = 255);
         assert_number(6, |c| c.points.truncate(5));
         assert_number(6, |c| c.points.push(0));
         assert_number(8, |c| c.table.places = 0);
@@ -224,7 +247,8 @@ mod random {
     #[test]
     fn engine_and_plain_calculation_agree() {
         let numbers = [0, 1, 2, 3, 4, 5, 6, 8];
-        let tally = assert_random_calls::<TableCheck>(&numbers, &["yes", "no"]);
+        let of_several = "yes, of a row that holds a node several times";
+        let tally = assert_random_calls::<TableCheck>(&numbers, &["yes", "no", of_several]);
         tally.assert_each_places(LEAST_OF_EACH);
     }
 }
@@ -258,12 +282,19 @@ mod exhaustive {
     fn all_tables_of_two_nodes() {
         for roads in [&[][..], &[(0, 1, 1)], &[(0, 1, 2)]] {
             let network = OwnedNetwork::from_roads(2, roads);
-            for points in [[0, 0], [0, 1], [1, 0], [1, 1]] {
+            for points in all_lockers_of_two_nodes() {
                 let right = all_tables().filter(|table| is_yes(&network, &points, table));
                 let table = PlainTable::of(&AllPairs::of(network.lend()), &points, 2);
                 assert_eq!(right.collect::<Vec<_>>(), [table]);
             }
         }
+    }
+
+    fn all_lockers_of_two_nodes() -> impl Iterator<Item = [u8; 2]> {
+        let lockers = [0, 1, 2, 3, 15];
+        lockers
+            .into_iter()
+            .flat_map(move |a| lockers.map(|b| [a, b]))
     }
 
     fn is_yes(network: &OwnedNetwork, points: &[u8], table: &PlainTable) -> bool {
@@ -321,9 +352,35 @@ mod damage_by_kind {
     }
 }
 
-/// Tables of networks that differ a little.
+/// Tables of networks or points that differ a little.
 mod near_tables {
     use super::*;
+
+    /// One row of the table of the points with one locker more or less: right in itself, and wrong
+    /// where it differs.
+    #[test]
+    fn a_row_of_one_locker_more_or_less() {
+        let mut verdicts = [0, 0];
+        for seed in 0..20_000 {
+            let mut random = Random::new(seed);
+            let network = random_network(&mut random);
+            let pairs = AllPairs::of(network.lend());
+            let (points, places) = (some_points(&network, &mut random), some_places(&mut random));
+            let mut other = points.clone();
+            step_lockers(&mut other, &network, &mut random);
+            let mut table = PlainTable::of(&pairs, &points, places);
+            let (right, wrong) = (table.clone(), PlainTable::of(&pairs, &other, places));
+            let row = table.part(some_node(&network, &mut random));
+            table.ids[row.clone()].copy_from_slice(&wrong.ids[row.clone()]);
+            table.distances[row.clone()].copy_from_slice(&wrong.distances[row]);
+            let yes = table == right;
+            verdicts[usize::from(yes)] += 1;
+            let call = TableCheck::exact(&network, &points, &table, &mut random);
+            let outcome = call.accepted(yes);
+            assert_outcome(call, &outcome);
+        }
+        assert!(verdicts.iter().all(|&count| count > 2_000), "{verdicts:?}");
+    }
 
     /// The table of the network with one road longer or shorter by 1.
     #[test]
@@ -371,10 +428,9 @@ mod limits {
     use super::*;
 
     /// The table is right, and with its last word or one in the middle changed it is not.
-    fn assert_checked(network: &OwnedNetwork, step: u32, places: u32) {
-        let points = each(step);
-        let mut table = PlainTable::of_large(network, &points, places);
-        let verdict = |t: &PlainTable| table_check(network.lend(), &points, t.lend());
+    fn assert_checked(network: &OwnedNetwork, points: &[u8], places: u32) {
+        let mut table = PlainTable::of_large(network, points, places);
+        let verdict = |t: &PlainTable| table_check(network.lend(), points, t.lend());
         assert_eq!(verdict(&table).accepted(), Ok(true));
         for at in [table.ids.len() - 1, table.ids.len() / 2] {
             table.distances[at] -= 1;
@@ -390,14 +446,16 @@ mod limits {
     #[test]
     fn the_longest_chain() {
         let network = longest_chain();
-        assert_checked(&network, 65_534, 2);
-        assert_checked(&network, 1_000, 17);
+        assert_checked(&network, &each(65_534), 2);
+        assert_checked(&network, &each(1_000), 17);
+        assert_checked(&network, &several_on_each(1_000), 17);
     }
 
     #[test]
     fn a_grid_of_255_by_257_nodes() {
         let network = largest_grid(weight_by_product);
-        assert_checked(&network, 100, 2);
-        assert_checked(&network, 100, 17);
+        assert_checked(&network, &each(100), 2);
+        assert_checked(&network, &each(100), 17);
+        assert_checked(&network, &several_on_each(100), 17);
     }
 }

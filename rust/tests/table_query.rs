@@ -7,7 +7,8 @@ use common::call::{assert_lower_numbers_first, assert_outcome, assert_random_cal
 use common::call::{assert_refused, compare, Call, Outcome, LEAST_OF_EACH};
 use common::faults::Fault;
 use common::inputs::{no_k, no_node, some_node, some_places, some_points, spoil_points};
-use common::largest::{each, largest_grid, largest_star, longest_chain, LAST, MOST_NODES};
+use common::largest::{each, largest_grid, largest_star, longest_chain, several_on_each};
+use common::largest::{LAST, MOST_NODES};
 use common::lent::Lent;
 use common::nearest_rows::NearestRows;
 use common::network::{marks, network_n, OwnedNetwork, N_NODES, N_POINTS};
@@ -206,7 +207,8 @@ mod network_n {
             change(&mut call);
             assert_refused(call, number);
         };
-        assert_number(6, |c| c.site.points[3] = 2);
+        assert_number(6, |c| c.site.points[3] = 16);
+        assert_number(6, |c| c.site.points[5] = 255);
         assert_number(6, |c| c.site.points.truncate(5));
         assert_number(6, |c| c.site.points.push(0));
         assert_number(7, |c| c.site.q = 6);
@@ -308,7 +310,7 @@ mod random {
     }
 }
 
-/// All networks of up to four nodes with roads of weight 1 or 2, and all sets of points.
+/// All networks of up to four nodes with roads of weight 1 or 2, and 0 to 2 lockers on each node.
 mod exhaustive {
     use super::*;
 
@@ -341,7 +343,7 @@ mod damaged_tables {
         assert_eq!((listing.number, listing.count), (0, 0));
         assert!(listing.length <= before.site.points.len());
         let list = call.site.answers.part()[..listing.length].to_vec();
-        let is_marked = |&p: &u32| before.site.points.get(p as usize) == Some(&1);
+        let is_marked = |&p: &u32| before.site.points.get(p as usize) > Some(&0);
         assert!(list.iter().all(is_marked), "{}", before.story());
         assert!(list.windows(2).all(|pair| pair[0] < pair[1]));
         let (_, left) = before.accepted(&list);
@@ -361,7 +363,11 @@ mod damaged_tables {
             for _ in 0..4 {
                 let mut call = Query::random(&network, &pairs, &mut random);
                 let mut table = call.table.words();
-                damage(&mut table, random.pick(&[1, 2, 5, 20]), &mut random);
+                if random.once_in(4) {
+                    let other = some_points(&network, &mut random);
+                    table = PlainTable::of(&pairs, &other, table.places);
+                }
+                damage(&mut table, random.pick(&[0, 1, 2, 5, 20]), &mut random);
                 call.table = call.table.with(&table);
                 assert_free_outcome(call);
             }
@@ -395,7 +401,7 @@ mod limits {
         let nearest = NearestRows::of(network.lend(), points, k as usize + 1);
         let table = PlainTable::of_large(network, points, k + 1);
         for &q in sites {
-            let list = nearest.listed(points, &relaxed_row(network.lend(), q), k);
+            let list = nearest.listed(&relaxed_row(network.lend(), q), k);
             assert!(!list.is_empty());
             let site = Site::exact(network, points, (q, k), &mut random);
             let call = Query::exact(site, &table, &mut random);
@@ -410,6 +416,7 @@ mod limits {
         let ends = marks(MOST_NODES, &[0, LAST]);
         assert_lists(&network, &ends, &[0, LAST, LAST / 2], 1);
         assert_lists(&network, &each(1_000), &[0, LAST / 2, LAST], 16);
+        assert_lists(&network, &several_on_each(1_000), &[0, LAST / 2], 16);
     }
 
     #[test]
@@ -424,5 +431,6 @@ mod limits {
         let network = largest_grid(weight_by_product);
         assert_lists(&network, &each(100), &[0, 12_345, MOST_NODES / 2], 1);
         assert_lists(&network, &each(100), &[100, LAST], 16);
+        assert_lists(&network, &several_on_each(100), &[1_000, 30_000], 16);
     }
 }

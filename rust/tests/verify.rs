@@ -10,7 +10,8 @@ use common::call::{compare, Call, Outcome, LEAST_OF_EACH};
 use common::faults::Fault;
 use common::inputs::{enough, no_k, no_node, some_k, some_node};
 use common::inputs::{some_points, spoil_points};
-use common::largest::{each, largest_grid, largest_star, longest_chain, LAST, MOST_NODES};
+use common::largest::{each, largest_grid, largest_star, longest_chain, several_on_each};
+use common::largest::{LAST, MOST_NODES};
 use common::lent::Lent;
 use common::network::{marks, network_n, OwnedNetwork, N_NODES, N_POINTS};
 use common::numbers::{plain_scratch_len, verify_number};
@@ -60,7 +61,7 @@ impl Verify {
         (verdict, left)
     }
 
-    /// How many other points are at most as far from p as q is, equal distances counted.
+    /// How many other lockers are at most as far from p as q is, equal distances counted.
     fn others_not_farther(&self, pairs: &AllPairs) -> usize {
         let to_q = pairs.plain_distances(self.p)[self.q as usize];
         let e = to_q.saturating_add(1);
@@ -83,7 +84,9 @@ impl Call for Verify {
     fn random(network: &OwnedNetwork, _: &AllPairs, random: &mut Random) -> Self {
         let mut points = some_points(network, random);
         let (p, q) = (some_node(network, random), some_node(network, random));
-        points[p as usize] = 1;
+        if points[p as usize] == 0 {
+            points[p as usize] = random.pick(&[1, 1, 2, 3, 15]);
+        }
         let mut call = Self::exact(network, &points, (p, q, some_k(random)), random);
         call.scratch = Lent::junk(enough(call.scratch.len(), random), random);
         call
@@ -144,6 +147,13 @@ impl Call for Verify {
         tally.add_if(!reached, "no, as q can't be reached");
         tally.add_if(reached && !yes, "no, as k others are nearer");
         tally.add_if(p == q, "p on q");
+        let companions = self.points[p as usize] > 1;
+        tally.add_if(p == q && companions, "p on q, with companions");
+        let mut alone = self.points.clone();
+        alone[p as usize] = 1;
+        let by_companions = reached && !yes && pairs.plain_verify(&alone, p, q, k);
+        tally.add_if(by_companions, "no, as companions are nearer");
+        tally.add_if(p != q && yes && companions, "yes, with companions");
         tally.add_if(
             p != q && yes && equal,
             "yes, as equal distances don't count",
@@ -154,10 +164,10 @@ impl Call for Verify {
     }
 }
 
-/// Takes the mark of p away, where p has one.
+/// Takes the lockers of p away, where p has any.
 fn unmark(call: &mut Verify, _: &mut Random) {
-    if let Some(mark) = call.points.get_mut(call.p as usize) {
-        *mark = 0;
+    if let Some(lockers) = call.points.get_mut(call.p as usize) {
+        *lockers = 0;
     }
 }
 
@@ -237,7 +247,7 @@ mod network_n {
             change(&mut call);
             assert_refused(call, number);
         };
-        assert_number(6, |c| c.points[3] = 2);
+        assert_number(6, |c| c.points[3] = 16);
         assert_number(6, |c| c.points[2] = 255);
         assert_number(6, |c| c.points.truncate(5));
         assert_number(6, |c| c.points.push(1));
@@ -298,6 +308,9 @@ mod random {
             "no, as q can't be reached",
             "no, as k others are nearer",
             "p on q",
+            "p on q, with companions",
+            "no, as companions are nearer",
+            "yes, with companions",
             "yes, as equal distances don't count",
             "yes, as p doesn't count",
             "another answer from q",
@@ -306,18 +319,22 @@ mod random {
     }
 }
 
-/// All networks of up to four nodes with roads of weight 1 or 2, and all sets of points.
+/// All networks of up to four nodes with roads of weight 1 or 2, and 0 to 2 lockers on each node.
 mod exhaustive {
     use super::*;
 
-    /// Tries every p and q, also a p that is not marked, and k from 1 to 3.
+    /// Tries every p and q, also a p without a locker, and k from 1 to 3.
     fn try_points(network: &OwnedNetwork, points: &[u8], random: &mut Random) {
+        let pairs = AllPairs::of(network.lend());
         for p in 0..points.len() as u32 {
-            let number = if points[p as usize] == 1 { 0 } else { 11 };
             for q in 0..points.len() as u32 {
                 for k in 1..=3 {
                     let call = Verify::exact(network, points, (p, q, k), random);
-                    assert_eq!(compare(call), number);
+                    let outcome = match points[p as usize] {
+                        0 => call.refused(11),
+                        _ => call.accepted_by(&pairs),
+                    };
+                    assert_outcome(call, &outcome);
                 }
             }
         }
@@ -352,6 +369,13 @@ mod limits {
         assert_verdict(&network, &three, (0, LAST, 1), false);
         assert_verdict(&network, &three, (0, LAST, 2), true);
         assert_verdict(&network, &three, (0, LAST - 1, 1), true);
+        // One of 15 lockers has 14 companions, and then one on the way.
+        let mut full = three;
+        full[0] = 15;
+        assert_verdict(&network, &full, (0, LAST, 15), false);
+        assert_verdict(&network, &full, (0, LAST, 16), true);
+        assert_verdict(&network, &full, (0, LAST - 1, 14), false);
+        assert_verdict(&network, &full, (0, LAST - 1, 15), true);
     }
 
     /// The other leaves are as far from a leaf as q is, and only the centre is nearer.
@@ -372,7 +396,9 @@ mod limits {
     fn one_node_without_a_road() {
         let network = OwnedNetwork::from_roads(1, &[]);
         for k in [1, 16] {
-            assert_verdict(&network, &[1], (0, 0, k), true);
+            for lockers in 1..=15 {
+                assert_verdict(&network, &[lockers], (0, 0, k), true);
+            }
             let call = Verify::exact(&network, &[0], (0, 0, k), &mut Random::new(7));
             assert_refused(call, 11);
         }
@@ -411,15 +437,16 @@ mod limits {
     #[test]
     fn a_grid_of_255_by_257_nodes() {
         let network = largest_grid(weight_by_product);
-        let points = each(100);
         let p = 32_700;
         let row = relaxed_row(network.lend(), p);
-        let mut verdicts = [0, 0];
-        for q in (p - 60..=p + 60).step_by(10) {
-            let yes = verify_in(&row, &points, p, q, 2);
-            verdicts[usize::from(yes)] += 1;
-            assert_verdict(&network, &points, (p, q, 2), yes);
+        for (points, k) in [(each(100), 2), (several_on_each(100), 16)] {
+            let mut verdicts = [0, 0];
+            for q in (p - 60..=p + 60).step_by(10) {
+                let yes = verify_in(&row, &points, p, q, k);
+                verdicts[usize::from(yes)] += 1;
+                assert_verdict(&network, &points, (p, q, k), yes);
+            }
+            assert!(verdicts.iter().all(|&count| count > 0), "{verdicts:?}");
         }
-        assert!(verdicts.iter().all(|&count| count > 0), "{verdicts:?}");
     }
 }

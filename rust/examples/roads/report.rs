@@ -1,7 +1,7 @@
 //! What the program prints. `tests/roads.rs` includes this file and compares the output.
 
 use overlap::road_list::{read_network, read_points, BadLine};
-use overlap::{Engine, Nearest, Refusal, Table};
+use overlap::{Engine, Nearest, Points, Refusal, Table};
 use std::ffi::OsString;
 use std::fs;
 use std::io::{self, Write};
@@ -11,7 +11,7 @@ const USAGE: &str = "usage: roads ROADS POINTS [--site q].. [--k k] [--K K]";
 
 const HELP: &str = "
 ROADS    a file of one road a line: a b weight
-POINTS   a file of one point a line: its junction
+POINTS   a file of one locker a line: its junction, which comes up to 15 times
 --site   a site to ask about; without it, every junction is asked about
 --k      the k of the lists, 1 to 16; 1 unless it is given
 --K      the places of a row of the table, above k and at most 17; k + 1 unless it is given";
@@ -112,8 +112,17 @@ fn print_network(table: &Table, out: &mut impl Write) -> io::Result<()> {
     let network = table.network();
     writeln!(out, "junctions   {}", network.nodes())?;
     writeln!(out, "roads       {}", network.roads().count())?;
-    let points: Vec<u32> = table.points().iter().collect();
-    writeln!(out, "points      {}", shown(&points))
+    let points = table.points();
+    let texts = points.iter().map(|node| point_text(points, node));
+    writeln!(out, "points      {}", shown(texts))
+}
+
+/// A point's junction, and how many lockers stand there where it is more than one.
+fn point_text(points: &Points, node: u32) -> String {
+    match points.count(node) {
+        1 => node.to_string(),
+        lockers => format!("{node} ({lockers} lockers)"),
+    }
 }
 
 /// Prints a line for each site.
@@ -141,7 +150,7 @@ fn print_lists(asked: &Asked, table: &mut Table, out: &mut impl Write) -> Result
 
 /// The list of a site, by the table, and the count of nodes that eager expands for it.
 fn site_line(q: u32, k: u32, table: &mut Table, engine: &mut Engine) -> Result<String, Refusal> {
-    let list = shown(table.query(q, k)?);
+    let list = shown(table.query(q, k)?.iter().map(u32::to_string));
     let expanded = engine.eager(table.points(), q, k, u32::MAX)?.expanded;
     Ok(format!("{q:<6} {expanded:<10} {list}"))
 }
@@ -169,10 +178,10 @@ fn print_table(table: &Table, out: &mut impl Write) -> io::Result<()> {
 }
 
 /// Nodes as a person reads them.
-fn shown(nodes: &[u32]) -> String {
-    if nodes.is_empty() {
-        return "none".to_string();
+fn shown(nodes: impl Iterator<Item = String>) -> String {
+    let texts: Vec<String> = nodes.collect();
+    match texts.is_empty() {
+        true => "none".to_string(),
+        false => texts.join(", "),
     }
-    let texts: Vec<String> = nodes.iter().map(u32::to_string).collect();
-    texts.join(", ")
 }

@@ -6,6 +6,9 @@ use super::{ffi, Listing, Network};
 /// strictly nearer than q. It takes a 32-bit limit and returns the list and the count of nodes
 /// expanded."
 ///
+/// Document 02 (Ask 8): "A node is listed once, as its lockers fare alike." Each locker of a node
+/// is a point that counts.
+///
 /// The answer is number 0, the length of the list and the count, or the first condition met of 1 to
 /// 7, 9, 10 and 12. Scratch has at least [`scratch_len`](super::scratch_len)`(network, k)` entries
 /// of any contents, and `answers` at least n.

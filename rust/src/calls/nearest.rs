@@ -17,7 +17,7 @@ use super::{ffi, Listing, Network};
 /// ```
 #[derive(Debug)]
 pub struct Found<'a> {
-    /// The points, each named by its node.
+    /// The points, each named by its node; a node with several lockers comes as often.
     pub ids: &'a mut [u32],
     /// The distance of each point.
     pub distances: &'a mut [u32],
@@ -26,9 +26,9 @@ pub struct Found<'a> {
 /// Document 01: "Nearest: the points p with d(node, p) < e, e any 32-bit number, by distance then
 /// node, cut after the first k; ids and distances in two arrays."
 ///
-/// "Points (lockers) are a lent byte array of n entries: 1 is a point, 0 none." A point on the node
-/// itself has distance 0. With e = [`NONE`](super::NONE) all points that can be reached come into
-/// question.
+/// Document 02 (Ask 8): "A point byte becomes the number of lockers there, 0 to 15." "Rows and the
+/// nearest call repeat a node for each locker". A point on the node itself has distance 0. With e =
+/// [`NONE`](super::NONE) all points that can be reached come into question.
 ///
 /// The answer is number 0 and the length of the list, or the first condition met of 1 to 7, 9 and
 /// 10. Scratch has at least [`scratch_len`](super::scratch_len)`(network, k)` entries of any
@@ -60,6 +60,13 @@ pub struct Found<'a> {
 /// let found = Found { ids: &mut ids, distances: &mut distances };
 /// let listing = nearest(network, &points, 0, 8, 2, &mut scratch, found).accepted()?;
 /// assert_eq!(listing.length, 1);
+///
+/// // With three lockers on node 2 there is room for two of them.
+/// let found = Found { ids: &mut ids, distances: &mut distances };
+/// let three = [0, 0, 3, 0, 1, 1];
+/// let listing = nearest(network, &three, 0, NONE, 2, &mut scratch, found).accepted()?;
+/// assert_eq!(listing.length, 2);
+/// assert_eq!((ids, distances), ([2, 2], [7, 7]));
 ///
 /// // No k is above 16.
 /// let found = Found { ids: &mut ids, distances: &mut distances };

@@ -29,7 +29,7 @@ pub fn accepted(number: u32) -> Result<(), Refusal> {
     Err(refusal.unwrap_or_else(|| panic!("{number} is not a number of document 01")))
 }
 
-/// The condition that a number stands for, in the wording of document 01's table of refusals.
+/// The condition that a number stands for, as [`Refusal::condition`] words it.
 ///
 /// 0 stands for an accepted call. A number above 12 is no number of document 01.
 ///

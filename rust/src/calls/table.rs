@@ -6,7 +6,9 @@ use super::{ffi, Network, Update, Verdict};
 ///
 /// Document 01: "Two arrays of n × K entries, ids and distances; K is 2 to 17. Row i starts in the
 /// middle of each array, at i × K [...]. It holds the K nearest points of node i that can be
-/// reached, by distance then node, i's own point first; the rest is NONE in both arrays."
+/// reached, by distance then node, i's own point first; the rest is NONE in both arrays." Document
+/// 02 (Ask 8): "Rows and the nearest call repeat a node for each locker, and a row is still cut
+/// after K places."
 ///
 /// ```
 /// use overlap::calls::{table_check, Network, Table, NONE};
@@ -77,6 +79,11 @@ pub struct TableMut<'a> {
 /// assert_eq!((&ids[..2], &distances[..2]), (&[2, 4][..], &[7, 8][..]));
 /// // P9: the row of node 5, which reaches no point but its own.
 /// assert_eq!((&ids[10..], &distances[10..]), (&[5, NONE][..], &[0, NONE][..]));
+///
+/// // With three lockers on node 2, the row of node 0 has room for two of them.
+/// let table = TableMut { places: 2, ids: &mut ids, distances: &mut distances };
+/// accepted(build(network, &[0, 0, 3, 0, 1, 1], &mut scratch, table))?;
+/// assert_eq!((&ids[..2], &distances[..2]), (&[2, 2][..], &[7, 7][..]));
 /// # Ok(())
 /// # }
 /// ```
@@ -105,8 +112,8 @@ pub fn build(network: Network<'_>, points: &[u8], scratch: &mut [u32], table: Ta
     }
 }
 
-/// Document 01: "Insert marks a node [...]; each brings the table up to date and returns the number
-/// of rows whose contents differ before and after."
+/// Document 02 (Ask 8): "Insert adds one, remove takes one". Document 01: "each brings the table up
+/// to date and returns the number of rows whose contents differ before and after."
 ///
 /// The answer is number 0 and that number of rows, or the first condition met of 1 to 8, 10 and 11.
 /// Scratch has at least [`scratch_len`](super::scratch_len)`(network, K)` entries of any contents.
@@ -138,9 +145,16 @@ pub fn build(network: Network<'_>, points: &[u8], scratch: &mut [u32], table: Ta
 /// assert_eq!(points, [1, 0, 1, 0, 1, 1]);
 /// assert_eq!((&ids[4..6], &distances[4..6]), (&[2, 0][..], &[0, 7][..]));
 ///
-/// // Node 0 is marked by now.
+/// // A second locker on node 0: only its own row still has room for it.
 /// let table = TableMut { places: 2, ids: &mut ids, distances: &mut distances };
-/// assert_eq!(insert(network, &mut points, 0, &mut scratch, table).number, 11);
+/// let changed = insert(network, &mut points, 0, &mut scratch, table).accepted()?;
+/// assert_eq!((changed, points[0]), (1, 2));
+/// assert_eq!((&ids[..2], &distances[..2]), (&[0, 0][..], &[0, 0][..]));
+///
+/// // A node with 15 lockers has no room for another.
+/// let mut full = [15, 0, 1, 0, 1, 1];
+/// let table = TableMut { places: 2, ids: &mut ids, distances: &mut distances };
+/// assert_eq!(insert(network, &mut full, 0, &mut scratch, table).number, 11);
 /// # Ok(())
 /// # }
 /// ```

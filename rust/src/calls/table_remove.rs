@@ -3,11 +3,10 @@
 use super::table::change;
 use super::{ffi, Network, TableMut, Update};
 
-/// Document 01: "[...] remove clears one; each brings the table up to date and returns the number of
-/// rows whose contents differ before and after."
+/// Document 02 (Ask 8): "[...] remove takes one".
 ///
 /// The answer and all that the call leaves are those of [`insert`](super::insert), but that the node
-/// is a point before and none after.
+/// has one locker less after.
 ///
 /// ```
 /// use overlap::calls::{accepted, build, remove, scratch_len, Network, TableMut};
@@ -32,7 +31,7 @@ use super::{ffi, Network, TableMut, Update};
 /// assert_eq!(points, [0, 0, 1, 0, 1, 1]);
 /// assert_eq!((&ids[..2], &distances[..2]), (&[2, 4][..], &[7, 8][..]));
 ///
-/// // Node 0 is not marked by now.
+/// // Node 0 has no locker by now.
 /// let table = TableMut { places: 2, ids: &mut ids, distances: &mut distances };
 /// assert_eq!(remove(network, &mut points, 0, &mut scratch, table).number, 11);
 /// # Ok(())

@@ -6,7 +6,8 @@ use super::{ffi, Network, Verdict};
 ///
 /// The rule: "For query node q and k, point p is listed if it can be reached from q and fewer than
 /// k other points p' have d(p, p') < d(p, q). The point p itself doesn't count. A point on q is
-/// listed."
+/// listed." Document 02 (Ask 8): "Each counts, so a locker has its companions on the node as others
+/// at distance 0." p is marked where it has a locker.
 ///
 /// The answer is number 0 with yes or no, or the first condition met of 1 to 7 and 9 to 11. Scratch
 /// has at least [`scratch_len`](super::scratch_len)`(network, k)` entries of any contents.
@@ -34,7 +35,12 @@ use super::{ffi, Network, Verdict};
 /// assert!(!verify(network, &points, 4, 0, 1, &mut scratch).accepted()?);
 /// assert!(verify(network, &points, 4, 0, 2, &mut scratch).accepted()?);
 ///
-/// // Node 3 is not marked.
+/// // With two lockers on node 2, each has the other at distance 0: no for k = 1, yes for k = 2.
+/// let two = [0, 0, 2, 0, 1, 1];
+/// assert!(!verify(network, &two, 2, 0, 1, &mut scratch).accepted()?);
+/// assert!(verify(network, &two, 2, 0, 2, &mut scratch).accepted()?);
+///
+/// // Node 3 has no locker.
 /// assert_eq!(verify(network, &points, 3, 0, 1, &mut scratch).number, 11);
 /// # Ok(())
 /// # }

@@ -46,9 +46,10 @@ impl AllPairs {
         verify_in(self.row(p), points, p, q, k)
     }
 
-    /// The points that are listed for q and k. "Lists are ascending by node."
+    /// The points that are listed for q and k. "Lists are ascending by node." Ask 8: "A node is
+    /// listed once, as its lockers fare alike."
     pub fn plain_listed(&self, points: &[u8], q: u32, k: u32) -> Vec<u32> {
-        let is_listed = |&p: &u32| points[p as usize] == 1 && self.plain_verify(points, p, q, k);
+        let is_listed = |&p: &u32| points[p as usize] > 0 && self.plain_verify(points, p, q, k);
         self.nodes().filter(is_listed).collect()
     }
 

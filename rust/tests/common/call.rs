@@ -60,6 +60,9 @@ pub trait Call: Clone + 'static {
     /// Whether the call is lent scratch. "Both checks have no scratch."
     const HAS_SCRATCH: bool = true;
 
+    /// Whether the call is lent points.
+    const HAS_POINTS: bool = true;
+
     /// A call that is accepted, with arrays that are long enough.
     fn random(network: &OwnedNetwork, pairs: &AllPairs, random: &mut Random) -> Self;
 
@@ -205,6 +208,13 @@ fn tally_scratch<C: Call>(call: &C, tally: &mut Tally) {
     tally.add_if(scratch.len() > least, "longer scratch");
 }
 
+/// Counts nodes with several lockers, and with the most.
+fn tally_lockers<C: Call>(call: &C, tally: &mut Tally) {
+    let several = call.points().iter().any(|&lockers| lockers > 1);
+    tally.add_if(several, "several lockers on a node");
+    tally.add_if(call.points().contains(&15), "15 lockers on a node");
+}
+
 /// Tries accepted and faulty calls of one random network.
 fn try_network<C: Call>(seed: u64, tally: &mut Tally) {
     let mut random = Random::new(seed);
@@ -215,6 +225,7 @@ fn try_network<C: Call>(seed: u64, tally: &mut Tally) {
         if C::HAS_SCRATCH {
             tally_scratch(&call, tally);
         }
+        tally_lockers(&call, tally);
         call.tally(tally, &pairs);
         let outcome = call.accepted_by(&pairs);
         assert_outcome(call, &outcome);
@@ -238,7 +249,11 @@ pub fn assert_random_calls<C: Call>(numbers: &[u32], names: &[&str]) -> Tally {
         true => &["scratch of S words", "longer scratch"],
         false => &[],
     };
-    for name in [names, of_scratch].concat() {
+    let of_lockers: &[&str] = match C::HAS_POINTS {
+        true => &["several lockers on a node", "15 lockers on a node"],
+        false => &[],
+    };
+    for name in [names, of_scratch, of_lockers].concat() {
         tally.assert_at_least(LEAST_OF_EACH, name);
     }
     tally

@@ -8,6 +8,7 @@ use super::lent::Lent;
 use super::network::OwnedNetwork;
 use super::numbers::{change_number, plain_scratch_len};
 use super::random::Random;
+use super::rows::repeats_a_node;
 use super::shapes::{random_network, try_all_small_points};
 use super::table::{OwnedTable, PlainTable};
 use super::table_damage::damage;
@@ -22,8 +23,13 @@ pub type ChangeCall = fn(Network<'_>, &mut [u8], u32, &mut [u32], TableMut<'_>) 
 pub trait Kind: Clone + 'static {
     const NAME: &'static str;
     const CALL: ChangeCall;
-    /// "Insert marks a node, remove clears one".
-    const MARK: u8;
+    /// The lockers of a node where 11 refuses the call: "insert at 15, remove or verify at 0".
+    const REFUSED_AT: u8;
+    /// Some at which it is accepted.
+    const ACCEPTED_AT: [u8; 5];
+
+    /// "Insert adds one, remove takes one".
+    fn after(lockers: u8) -> u8;
 }
 
 /// A call of the kind.
@@ -59,7 +65,8 @@ impl<K: Kind> Change<K> {
     /// The points once the call has changed one.
     pub fn points_after(&self) -> Vec<u8> {
         let mut points = self.points.clone();
-        points[self.node as usize] = K::MARK;
+        let lockers = &mut points[self.node as usize];
+        *lockers = K::after(*lockers);
         points
     }
 
@@ -84,8 +91,8 @@ impl<K: Kind> Call for Change<K> {
         (8, |c, r| c.table.spoil_places(r)),
         (8, |c, r| c.table.spoil_lengths(r)),
         (11, |c, _| {
-            if let Some(mark) = c.points.get_mut(c.node as usize) {
-                *mark = K::MARK;
+            if let Some(lockers) = c.points.get_mut(c.node as usize) {
+                *lockers = K::REFUSED_AT;
             }
         }),
     ];
@@ -93,7 +100,9 @@ impl<K: Kind> Call for Change<K> {
     fn random(network: &OwnedNetwork, pairs: &AllPairs, random: &mut Random) -> Self {
         let mut points = some_points(network, random);
         let node = some_node(network, random);
-        points[node as usize] = 1 - K::MARK;
+        if points[node as usize] == K::REFUSED_AT || random.once_in(4) {
+            points[node as usize] = random.pick(&K::ACCEPTED_AT);
+        }
         let table = PlainTable::of(pairs, &points, some_places(random));
         let mut call = Self::exact(network, &points, node, &table, random);
         call.scratch = Lent::junk(enough(call.scratch.len(), random), random);
@@ -110,7 +119,7 @@ impl<K: Kind> Call for Change<K> {
 
     fn number(&self) -> u32 {
         let (network, scratch) = (self.network.lend(), self.scratch.len());
-        let node = (self.node, K::MARK);
+        let node = (self.node, K::REFUSED_AT);
         change_number(network, &self.points, node, self.table.sizes(), scratch)
     }
 
@@ -164,20 +173,25 @@ impl<K: Kind> Call for Change<K> {
     fn tally(&self, tally: &mut Tally, pairs: &AllPairs) {
         let (update, left) = self.accepted_by(pairs);
         let n = self.points.len() as u32;
-        let marked = self.points.iter().filter(|&&mark| mark == 1).count() as u32;
+        let lockers: u32 = self.points.iter().map(|&lockers| u32::from(lockers)).sum();
         let reached = pairs.row(self.node).iter().flatten().count() as u32;
         let (before, after) = (self.table.words(), left.table.words());
         let other = |&node: &u32| before.row(node) != after.row(node) && node != self.node;
-        let full = |table: &PlainTable, node| table.ids[table.part(node).end - 1] != overlap::NONE;
+        let last = |table: &PlainTable, node| table.ids[table.part(node).end - 1];
+        let full = |table: &PlainTable, node| last(table, node) != overlap::NONE;
+        let ends_and_stays =
+            |&node: &u32| last(&before, node) == self.node && before.row(node) == after.row(node);
         let happened = [
             update.changed < reached,
             update.changed == reached,
             reached < n,
-            marked < self.table.places,
-            marked > self.table.places,
+            lockers < self.table.places,
+            lockers > self.table.places,
             (0..n)
                 .filter(other)
                 .any(|node| full(&before, node) && full(&after, node)),
+            (0..n).any(|node| repeats_a_node(&after.row(node))),
+            (0..n).any(|node| ends_and_stays(&node)),
         ];
         tally.add_places(self.table.places);
         for (happened, name) in happened.into_iter().zip(Self::TALLIED) {
@@ -188,13 +202,15 @@ impl<K: Kind> Call for Change<K> {
 
 impl<K> Change<K> {
     /// The names under which things are counted.
-    pub const TALLIED: [&'static str; 6] = [
+    pub const TALLIED: [&'static str; 8] = [
         "a row reached that doesn't change",
         "all rows reached change",
         "a node that can't be reached",
         "fewer points than K",
         "more points than K",
         "a full row of another node changes",
+        "a row that holds a node several times",
+        "a row cut in the midst of the node's lockers, which stays",
     ];
 }
 
@@ -226,8 +242,8 @@ pub fn assert_change<K: Kind>(
     after
 }
 
-/// Tries every network of up to four nodes with roads of weight 1 or 2, every set of points, every
-/// node and these K.
+/// Tries every network of up to four nodes with roads of weight 1 or 2, their points, every node and
+/// these K.
 pub fn assert_small_networks<K: Kind>(all_places: &[u32]) {
     let mut random = Random::new(5);
     try_all_small_points(|network, points| {
@@ -236,7 +252,7 @@ pub fn assert_small_networks<K: Kind>(all_places: &[u32]) {
             let table = PlainTable::of(&pairs, points, places);
             for node in 0..points.len() as u32 {
                 let call = Change::<K>::exact(network, points, node, &table, &mut random);
-                if points[node as usize] == K::MARK {
+                if points[node as usize] == K::REFUSED_AT {
                     assert_refused(call, 11);
                 } else {
                     let outcome = call.accepted_by(&pairs);
@@ -248,7 +264,7 @@ pub fn assert_small_networks<K: Kind>(all_places: &[u32]) {
 }
 
 /// "On one that the check would deny, [...] the changed count (at most n) and the table are free; the
-/// marks still change by the rule": lends damaged tables.
+/// marks still change by the rule": lends damaged tables and those of other points.
 pub fn assert_damaged_tables<K: Kind>(rounds: u64) {
     for seed in 0..rounds {
         let mut random = Random::new(seed);
@@ -257,7 +273,10 @@ pub fn assert_damaged_tables<K: Kind>(rounds: u64) {
         for _ in 0..4 {
             let mut call = Change::<K>::random(&network, &pairs, &mut random);
             let mut table = call.table.words();
-            damage(&mut table, random.pick(&[1, 2, 5, 20]), &mut random);
+            if random.once_in(4) {
+                table = PlainTable::of(&pairs, &some_points(&network, &mut random), table.places);
+            }
+            damage(&mut table, random.pick(&[0, 1, 2, 5, 20]), &mut random);
             call.table = call.table.with(&table);
             assert_free_outcome(call);
         }

@@ -26,7 +26,8 @@ pub fn assert_own_conditions<K: Kind>(accepted: &Change<K>) {
         change(&mut call);
         assert_refused(call, number);
     };
-    assert_number(6, |c| c.points[3] = 2);
+    assert_number(6, |c| c.points[3] = 16);
+    assert_number(6, |c| c.points[5] = 255);
     assert_number(6, |c| c.points.truncate(5));
     assert_number(6, |c| c.points.push(0));
     assert_number(7, |c| c.node = 6);
@@ -59,41 +60,54 @@ pub fn assert_scratch_of_n<K: Kind>(call: fn(u32) -> Change<K>) {
     }
 }
 
-/// Changes all nodes that can be, in any order, and returns the table that is left.
+/// Each node as often as it can be changed, in any order, cut after two for each node.
+fn changes<K: Kind>(points: &[u8], random: &mut Random) -> Vec<u32> {
+    let often = |node: usize| usize::from(K::REFUSED_AT.abs_diff(points[node]));
+    let of_node = |node| std::iter::repeat_n(node as u32, often(node));
+    let mut nodes: Vec<u32> = (0..points.len()).flat_map(of_node).collect();
+    random.shuffle(&mut nodes);
+    nodes.truncate(2 * points.len());
+    nodes
+}
+
+/// Changes node by node, and returns the points and the table that are left.
 fn change_all<K: Kind>(
     network: &OwnedNetwork,
     mut points: Vec<u8>,
     places: u32,
     random: &mut Random,
-) -> PlainTable {
+) -> (Vec<u8>, PlainTable) {
     let pairs = AllPairs::of(network.lend());
     let mut table = PlainTable::built(network, &points, places, random);
-    let mut nodes: Vec<u32> = (0..points.len() as u32).collect();
-    nodes.retain(|&node| points[node as usize] != K::MARK);
-    random.shuffle(&mut nodes);
-    for node in nodes {
+    for node in changes::<K>(&points, random) {
         let call = Change::<K>::exact(network, &points, node, &table, random);
         points = call.points_after();
         table = assert_change(call, &pairs, random);
         let verdict = table_check(network.lend(), &points, table.lend());
         assert_eq!((verdict.number, verdict.yes), (0, 1));
     }
-    table
+    (points, table)
 }
 
-/// Changes random networks node by node until none is left, from any points or as many as can be, and
-/// shows the table that is left.
+/// Changes random networks node by node, from any points or from those that two changes of each node
+/// bring to the end, and shows the table of those that come to it.
 pub fn assert_one_by_one<K: Kind>(rounds: u64, see: fn(&PlainTable)) {
+    let mut ended = 0;
     for seed in 0..rounds {
         let mut random = Random::new(seed);
         let network = random_network(&mut random);
-        let points = match random.below(2) {
-            0 => vec![1 - K::MARK; network.starts.len() - 1],
-            _ => some_points(&network, &mut random),
-        };
+        let mut points = some_points(&network, &mut random);
+        if random.once_in(2) {
+            points.fill_with(|| K::REFUSED_AT.abs_diff(random.below(3) as u8));
+        }
         let places = some_places(&mut random);
-        see(&change_all::<K>(&network, points, places, &mut random));
+        let (points, table) = change_all::<K>(&network, points, places, &mut random);
+        if points.iter().all(|&lockers| lockers == K::REFUSED_AT) {
+            see(&table);
+            ended += 1;
+        }
     }
+    assert!(ended >= rounds / 3, "{ended} of {rounds}");
 }
 
 /// Changes the nodes one behind the other, in a network that may be too large for all pairs.

@@ -60,26 +60,40 @@ pub fn no_places(random: &mut Random) -> u32 {
     random.pick(&[0, 1, 1, 18, 18, 19, 34, wrap, u32::MAX, large])
 }
 
-/// Points of any density, from none to all.
+/// Points of any density, from none to all, with at most 1, 3 or 15 lockers on a node.
 pub fn some_points(network: &OwnedNetwork, random: &mut Random) -> Vec<u8> {
-    let n = network.starts.len() - 1;
     let one_in = random.pick(&[1, 2, 3, 8, u32::MAX, u32::MAX]);
-    let mut points: Vec<u8> = (0..n).map(|_| u8::from(random.once_in(one_in))).collect();
+    let most = random.pick(&[1, 1, 3, 15]);
+    let mut points = vec![0; network.starts.len() - 1];
+    for lockers in &mut points {
+        if random.once_in(one_in) {
+            *lockers = some_lockers(most, random);
+        }
+    }
     if random.once_in(2) {
-        points[some_node(network, random) as usize] = 1;
+        points[some_node(network, random) as usize] = some_lockers(most, random);
     }
     points
 }
 
-/// 6: "points has not n entries, or a byte above 1".
+/// A number of lockers from 1 to the most, which itself comes often.
+fn some_lockers(most: u8, random: &mut Random) -> u8 {
+    if random.once_in(4) {
+        most
+    } else {
+        random.between(1, most.into()) as u8
+    }
+}
+
+/// 6: points has not n entries, or a byte above 15.
 pub fn spoil_points(points: &mut Vec<u8>, random: &mut Random) {
     let place = random.index(points.len());
     match (random.below(5), place) {
         (0, Some(_)) => drop(points.pop()),
-        (1, _) => points.push(random.pick(&[0, 1, 2])),
+        (1, _) => points.push(random.pick(&[0, 1, 15, 16])),
         (2, Some(_)) => points.clear(),
-        (3, Some(place)) => points[place] = random.pick(&[2, 3, 128, 255]),
-        (_, Some(_)) => *points.last_mut().unwrap() = 2,
+        (3, Some(place)) => points[place] = random.pick(&[16, 17, 128, 255]),
+        (_, Some(_)) => *points.last_mut().unwrap() = 16,
         (_, None) => points.push(1),
     }
 }

@@ -30,6 +30,12 @@ pub fn most_roads(weight: impl FnMut(u32, u32) -> u32) -> OwnedNetwork {
     weighted(MOST_NODES, &belt(MOST_NODES, MOST_ROADS), weight)
 }
 
+/// One to 15 lockers on each multiple of the step, of the most nodes.
+pub fn several_on_each(step: u32) -> Vec<u8> {
+    let lockers = |p| u32::from(p % step == 0) * (1 + p / step % 15);
+    (0..MOST_NODES).map(|p| lockers(p) as u8).collect()
+}
+
 /// A point on each multiple of the step, of the most nodes.
 pub fn each(step: u32) -> Vec<u8> {
     (0..MOST_NODES).map(|p| u8::from(p % step == 0)).collect()

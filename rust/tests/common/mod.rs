@@ -1,5 +1,5 @@
-//! What the test programs and the benchmarks share. All of it is written from document 01 and knows
-//! nothing of how the engine works.
+//! What the test programs and the benchmarks share. All of it is written from document 01, with what
+//! Ask 8 of document 02 changes, and knows nothing of how the engine works.
 
 // Each program uses a part of this.
 #![allow(dead_code)]

@@ -9,10 +9,11 @@ use std::collections::BinaryHeap;
 /// A distance and the point that is so far.
 pub type Far = (u64, u32);
 
-/// For each node the points that can be reached from it, by distance then node, cut after the first
-/// `most`.
+/// For each node the points that can be reached from it, by distance then node, each node once, cut
+/// behind the one with which `most` lockers are reached.
 pub struct NearestRows {
     most: usize,
+    points: Vec<u8>,
     rows: Vec<Vec<Far>>,
 }
 
@@ -21,9 +22,12 @@ impl NearestRows {
     /// does. The nearest goes first, so that little comes into a row in vain. The network is an
     /// accepted one.
     pub fn of(network: Network<'_>, points: &[u8], most: usize) -> Self {
-        let rows = vec![vec![]; points.len()];
-        let mut nearest = Self { most, rows };
-        let marked = (0..points.len()).filter(|&p| points[p] == 1);
+        let mut nearest = Self {
+            most,
+            points: points.to_vec(),
+            rows: vec![vec![]; points.len()],
+        };
+        let marked = (0..points.len()).filter(|&p| points[p] > 0);
         let own = marked.map(|p| Reverse(((0, p as u32), p)));
         let mut handed: BinaryHeap<Reverse<(Far, usize)>> = own.collect();
         while let Some(Reverse((far, node))) = handed.pop() {
@@ -46,22 +50,35 @@ impl NearestRows {
         row.retain(|old| old.1 != far.1);
         row.push(far);
         row.sort_unstable();
-        row.truncate(self.most);
+        let mut before = 0;
+        row.retain(|old| {
+            let has_room = before < self.most;
+            before += usize::from(self.points[old.1 as usize]);
+            has_room
+        });
         row.contains(&far)
     }
 
-    pub fn row(&self, node: u32) -> &[Far] {
-        &self.rows[node as usize]
+    /// The row, a node for each of its lockers, cut after the first `most`.
+    pub fn row(&self, node: u32) -> Vec<Far> {
+        let nodes = self.rows[node as usize].iter();
+        let lockers = nodes.flat_map(|&far| std::iter::repeat_n(far, self.lockers(far.1)));
+        lockers.take(self.most).collect()
+    }
+
+    fn lockers(&self, node: u32) -> usize {
+        self.points[node as usize].into()
     }
 
     /// The points that are listed for q, whose row of distances is given, and k: "it can be reached
     /// from q and fewer than k other points p' have d(p, p') < d(p, q)".
-    pub fn listed(&self, points: &[u8], from_q: &Row, k: u32) -> Vec<u32> {
+    pub fn listed(&self, from_q: &Row, k: u32) -> Vec<u32> {
         assert!(self.most > k as usize);
         let is_listed = |&p: &u32| {
-            let others = |to_q| self.nearer(p, to_q).filter(|far| far.1 != p).count();
+            // One locker on p is no other, and it is nearer unless q is on p.
+            let others = |to_q| self.nearer(p, to_q) - usize::from(to_q > 0);
             let reached = from_q[p as usize];
-            points[p as usize] == 1 && reached.is_some_and(|to_q| others(to_q) < k as usize)
+            self.lockers(p) > 0 && reached.is_some_and(|to_q| others(to_q) < k as usize)
         };
         self.nodes().filter(is_listed).collect()
     }
@@ -70,15 +87,16 @@ impl NearestRows {
     /// included) with d(m, p) < d(m, q)".
     pub fn expanded(&self, from_q: &Row, k: u32) -> u32 {
         assert!(self.most >= k as usize);
-        let is_counted = |&m: &u32| {
-            from_q[m as usize].is_some_and(|to_q| self.nearer(m, to_q).count() < k as usize)
-        };
+        let is_counted =
+            |&m: &u32| from_q[m as usize].is_some_and(|to_q| self.nearer(m, to_q) < k as usize);
         self.nodes().filter(is_counted).count() as u32
     }
 
-    fn nearer(&self, node: u32, bound: u64) -> impl Iterator<Item = &Far> {
-        let row = self.row(node).iter();
-        row.filter(move |far| far.0 < bound)
+    /// How many lockers of the node's row are nearer than the bound.
+    fn nearer(&self, node: u32, bound: u64) -> usize {
+        let nodes = self.rows[node as usize].iter();
+        let nearer = nodes.filter(|far| far.0 < bound);
+        nearer.map(|far| self.lockers(far.1)).sum()
     }
 
     fn nodes(&self) -> std::ops::Range<u32> {

@@ -85,17 +85,20 @@ pub fn shown_points(points: &[u8]) -> String {
     if points.len() <= 100 {
         return format!("points {points:?}");
     }
-    let marked = points.iter().filter(|&&byte| byte != 0).count();
-    format!("{marked} points of {} bytes", points.len())
+    let lockers: usize = points.iter().map(|&byte| usize::from(byte)).sum();
+    format!("{lockers} lockers on {} nodes", points.len())
 }
 
 pub fn network_n() -> OwnedNetwork {
     OwnedNetwork::from_roads(N_NODES, &N_ROADS)
 }
 
-/// The points array of n nodes in which these are marked.
+/// The points array of n nodes with a locker for each time that a node is named, 15 at most.
 pub fn marks(n: u32, points: &[u32]) -> Vec<u8> {
-    (0..n)
-        .map(|node| u8::from(points.contains(&node)))
-        .collect()
+    let mut marks = vec![0; n as usize];
+    for &point in points {
+        let lockers = &mut marks[point as usize];
+        *lockers = 15.min(*lockers + 1);
+    }
+    marks
 }

@@ -115,12 +115,12 @@ pub fn build_number(network: Network<'_>, points: &[u8], table: TableSizes, scra
     }
 }
 
-/// Insert, which gives its node the mark 1, and remove, which gives it 0: the conditions 1 to 8, 10
-/// and 11. Scratch is given by its length.
+/// Insert, which 11 refuses at 15 lockers, and remove, which it refuses at 0: the conditions 1 to 8,
+/// 10 and 11. Scratch is given by its length.
 pub fn change_number(
     network: Network<'_>,
     points: &[u8],
-    (node, mark): (u32, u8),
+    (node, refused_at): (u32, u8),
     table: TableSizes,
     scratch: usize,
 ) -> u32 {
@@ -133,7 +133,7 @@ pub fn change_number(
         8
     } else if scratch < plain_scratch_len(network, table.0) {
         10
-    } else if points[node as usize] == mark {
+    } else if points[node as usize] == refused_at {
         11
     } else {
         0
@@ -164,12 +164,12 @@ pub fn table_query_number(
     }
 }
 
-/// The first condition met of 1 to 6, or 0.
+/// The first condition met of 1 to 6, or 0. Ask 8: "6 allows bytes up to 15".
 fn points_number(network: Network<'_>, points: &[u8]) -> u32 {
     let of_network = plain_check(network);
     if of_network != 0 {
         of_network
-    } else if points.len() != node_count(network) || points.iter().any(|&byte| byte > 1) {
+    } else if points.len() != node_count(network) || points.iter().any(|&byte| byte > 15) {
         6
     } else {
         0

@@ -9,7 +9,7 @@ pub const LARGEST_DISTANCE: u64 = 4_294_770_690;
 /// The distance of one node to each node, nothing where a node can't be reached.
 pub type Row = Vec<Option<u64>>;
 
-/// A point and its distance.
+/// A point, named by its node, and its distance.
 pub type Near = (u32, u32);
 
 /// The row that an array of distances stands for: "NONE [...] stands for "can't be reached"".
@@ -30,24 +30,43 @@ fn distance_word(distance: u64) -> u32 {
 }
 
 /// The row's node has "the points p with d(node, p) < e, e any 32-bit number, by distance then
-/// node, cut after the first k".
+/// node, cut after the first k". Ask 8: "Rows and the nearest call repeat a node for each locker".
 pub fn nearest_in(row: &Row, points: &[u8], e: u32, k: u32) -> Vec<Near> {
-    let mut found: Vec<(u64, usize)> = nearer_points(row, points, u64::from(e)).collect();
+    let mut found: Vec<(u64, usize)> = nearer_nodes(row, points, u64::from(e)).collect();
     found.sort_unstable();
-    found.truncate(k as usize);
-    let near = |&(distance, p): &(u64, usize)| (p as u32, distance_word(distance));
-    found.iter().map(near).collect()
+    let lockers = found.iter().flat_map(|&(distance, p)| {
+        let near = (p as u32, distance_word(distance));
+        std::iter::repeat_n(near, points[p].into())
+    });
+    lockers.take(k as usize).collect()
+}
+
+/// Whether the answer of a nearest call, or a row, has a node for several lockers.
+pub fn repeats_a_node(found: &[Near]) -> bool {
+    let mut pairs = found.windows(2);
+    pairs.any(|pair| pair[0] == pair[1] && pair[0].0 != NONE)
+}
+
+/// Whether it is cut in the midst of a node's lockers.
+pub fn is_cut_in_a_node(found: &[Near], points: &[u8]) -> bool {
+    let shown = |last: &Near| found.iter().filter(|near| *near == last).count();
+    let last = found.last().filter(|last| last.0 != NONE);
+    last.is_some_and(|last| shown(last) < points[last.0 as usize].into())
 }
 
 /// The row is that of p: "point p is listed if it can be reached from q and fewer than k other
 /// points p' have d(p, p') < d(p, q). The point p itself doesn't count." Each road is two arcs, so
 /// p can be reached from q where q can be from p.
+///
+/// Ask 8: "Each counts, so a locker has its companions on the node as others at distance 0": the
+/// others are all lockers but one on p.
 pub fn verify_in(row: &Row, points: &[u8], p: u32, q: u32, k: u32) -> bool {
     let Some(to_q) = row[q as usize] else {
         return false;
     };
-    let others = nearer_points(row, points, to_q).filter(|&(_, other)| other != p as usize);
-    others.count() < k as usize
+    let mut others = points.to_vec();
+    others[p as usize] = others[p as usize].saturating_sub(1);
+    lockers_nearer(row, &others, to_q) < k as usize
 }
 
 /// The row is that of m, which is counted if it "can be reached from q" and has "fewer than k
@@ -56,16 +75,22 @@ pub fn expanded_in(row: &Row, points: &[u8], q: u32, k: u32) -> bool {
     let Some(to_q) = row[q as usize] else {
         return false;
     };
-    nearer_points(row, points, to_q).count() < k as usize
+    lockers_nearer(row, points, to_q) < k as usize
 }
 
-/// The points whose distance is strictly below the bound, each with its distance.
-fn nearer_points<'a>(
+/// How many lockers have a distance strictly below the bound.
+fn lockers_nearer(row: &Row, points: &[u8], bound: u64) -> usize {
+    let nodes = nearer_nodes(row, points, bound);
+    nodes.map(|(_, p)| usize::from(points[p])).sum()
+}
+
+/// The nodes with a locker whose distance is strictly below the bound, each with its distance.
+fn nearer_nodes<'a>(
     row: &'a Row,
     points: &'a [u8],
     bound: u64,
 ) -> impl Iterator<Item = (u64, usize)> + 'a {
-    let marked = (0..row.len()).filter(|&p| points[p] == 1);
+    let marked = (0..row.len()).filter(|&p| points[p] > 0);
     let reached = marked.filter_map(|p| row[p].map(|distance| (distance, p)));
     reached.filter(move |&(distance, _)| distance < bound)
 }

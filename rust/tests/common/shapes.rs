@@ -194,13 +194,17 @@ fn all_networks_of(n: u32) -> Vec<OwnedNetwork> {
     lists.iter().map(network).collect()
 }
 
-/// Tries every set of points of each of these networks.
+/// Tries all points of each of these networks that have 0, 1 or 2 lockers on a node, and of those of
+/// up to three nodes 0, 1 or 15.
 pub fn try_all_small_points(mut try_points: impl FnMut(&OwnedNetwork, &[u8])) {
     for network in all_small_networks() {
         let n = network.starts.len() as u32 - 1;
-        for set in 0..1_u32 << n {
-            let points: Vec<u8> = (0..n).map(|p| (set >> p & 1) as u8).collect();
-            try_points(&network, &points);
+        let each_most: &[u8] = if n <= 3 { &[2, 15] } else { &[2] };
+        for &most in each_most {
+            for set in 0..3_u32.pow(n) {
+                let digit = |p| [0, 1, most][(set / 3_u32.pow(p) % 3) as usize];
+                try_points(&network, &(0..n).map(digit).collect::<Vec<u8>>());
+            }
         }
     }
 }

@@ -106,11 +106,20 @@ impl Site {
         vec![("scratch", &self.scratch), ("answers", &self.answers)]
     }
 
+    /// This call with one locker on each node that has several.
+    fn with_single_lockers(&self) -> Self {
+        let mut site = self.clone();
+        site.points = self.points.iter().map(|&lockers| lockers.min(1)).collect();
+        site
+    }
+
     /// Counts what makes the call telling.
     pub fn tally(&self, tally: &mut Tally, pairs: &AllPairs) {
         let list = self.list(pairs);
         let reached = pairs.row(self.q).iter().flatten().count() as u32;
-        let marked = self.points.iter().filter(|&&byte| byte == 1).count();
+        let marked = self.points.iter().filter(|&&byte| byte > 0).count();
+        let single = self.with_single_lockers();
+        let has_several = |&p: &u32| self.points[p as usize] > 1;
         let happened = [
             self.expanded(pairs) < reached,
             list.is_empty(),
@@ -118,6 +127,9 @@ impl Site {
             list.len() < marked,
             list.contains(&self.q),
             self.answers.len() > self.points.len(),
+            list.iter().any(has_several),
+            list != single.list(pairs),
+            self.expanded(pairs) != single.expanded(pairs),
         ];
         tally.add_k(self.k);
         for (happened, name) in happened.into_iter().zip(Self::TALLIED) {
@@ -126,12 +138,15 @@ impl Site {
     }
 
     /// The names under which things are counted.
-    pub const TALLIED: [&'static str; 6] = [
+    pub const TALLIED: [&'static str; 9] = [
         "a node with k points nearer than q",
         "an empty list",
         "two points or more",
         "a point that is not listed",
         "a point on q",
         "longer answers",
+        "a node with several lockers that is listed",
+        "several lockers that change the list",
+        "several lockers that change the count",
     ];
 }

@@ -19,7 +19,8 @@ pub struct PlainTable {
 }
 
 impl PlainTable {
-    /// "It holds the K nearest points of node i that can be reached, by distance then node".
+    /// "It holds the K nearest points of node i that can be reached, by distance then node". Ask 8:
+    /// "a row is still cut after K places".
     pub fn of(pairs: &AllPairs, points: &[u8], places: u32) -> Self {
         let nodes = 0..points.len() as u32;
         let row = |node| pairs.plain_nearest(points, node, NONE, places);
@@ -29,8 +30,8 @@ impl PlainTable {
     /// The same of a network that may be too large for all pairs.
     pub fn of_large(network: &OwnedNetwork, points: &[u8], places: u32) -> Self {
         let nearest = NearestRows::of(network.lend(), points, places as usize);
-        let near = |&(far, p): &(u64, u32)| (p, far as u32);
-        let row = |node| nearest.row(node).iter().map(near).collect();
+        let near = |(far, p): (u64, u32)| (p, far as u32);
+        let row = |node| nearest.row(node).into_iter().map(near).collect();
         Self::of_rows(places, (0..points.len() as u32).map(row))
     }
 

@@ -41,6 +41,9 @@ pub const KINDS: &[(&str, Damage)] = &[
     ("two ids swapped", swap_ids),
     ("two distances swapped", swap_distances),
     ("an entry twice", double_entry),
+    ("a copy of a node missing", drop_copy),
+    ("a copy of a node too many", add_copy),
+    ("a copy of a node at another distance", move_copy),
     ("an entry dropped", drop_entry),
     ("the last entries dropped", drop_entries),
     ("a row empty", empty_row),
@@ -165,13 +168,54 @@ fn double_entry(table: &mut PlainTable, random: &mut Random) {
     table.distances[b] = table.distances[a];
 }
 
+/// A place whose node comes again in the next one, or does not, and the end of its row.
+fn before_copy(table: &PlainTable, is_copy: bool, random: &mut Random) -> Option<(usize, usize)> {
+    let places = table.places as usize;
+    let in_row = |&at: &usize| (at + 1) % places != 0 && table.ids[at] != NONE;
+    let of_kind = |&at: &usize| (table.ids[at] == table.ids[at + 1]) == is_copy;
+    let found: Vec<usize> = (0..table.ids.len())
+        .filter(in_row)
+        .filter(of_kind)
+        .collect();
+    let at = found[random.index(found.len())?];
+    Some((at, (at / places + 1) * places))
+}
+
+/// Drops the second of two entries of a node; those behind it move down.
+fn drop_copy(table: &mut PlainTable, random: &mut Random) {
+    if let Some((at, end)) = before_copy(table, true, random) {
+        drop_at(table, at + 1, end);
+    }
+}
+
+/// Puts the last entry of a node in again; those behind it move up.
+fn add_copy(table: &mut PlainTable, random: &mut Random) {
+    if let Some((at, end)) = before_copy(table, false, random) {
+        for words in [&mut table.ids, &mut table.distances] {
+            words.copy_within(at..end - 1, at + 1);
+        }
+    }
+}
+
+/// Moves the second of two entries of a node farther away, or the first nearer.
+fn move_copy(table: &mut PlainTable, random: &mut Random) {
+    if let Some((at, _)) = before_copy(table, true, random) {
+        let (place, by) = random.pick(&[(at + 1, 1), (at, u32::MAX)]);
+        table.distances[place] = table.distances[place].wrapping_add(by);
+    }
+}
+
 /// Drops an entry; those behind it move down.
 fn drop_entry(table: &mut PlainTable, random: &mut Random) {
     let row = table.part(random.below(table.nodes()));
     let place = row.start + random.index(row.len()).unwrap();
+    drop_at(table, place, row.end);
+}
+
+fn drop_at(table: &mut PlainTable, place: usize, end: usize) {
     for words in [&mut table.ids, &mut table.distances] {
-        words[place..row.end].rotate_left(1);
-        words[row.end - 1] = NONE;
+        words[place..end].rotate_left(1);
+        words[end - 1] = NONE;
     }
 }
 
