@@ -7,6 +7,8 @@ use super::common::inputs::{no_k, no_node, some_k, some_node, some_places, some_
 use super::common::network::OwnedNetwork;
 use super::common::random::Random;
 use super::common::shapes::random_network;
+use super::common::table::PlainTable;
+use super::common::table_damage;
 use super::lent::{Lent, Written};
 
 /// Tries every call on so many small random networks, and returns how many calls were accepted and
@@ -26,7 +28,7 @@ pub fn try_small_networks(networks: u64) -> (usize, usize) {
     (accepted, answers.len() - accepted)
 }
 
-/// Tries every call, and the table check on a table with one word changed as well.
+/// Tries every call, and the table check on a damaged table as well.
 fn try_calls(network: &OwnedNetwork, points: &[u8], random: &mut Random) -> Vec<Answer> {
     let mut lent = Lent::built(network.lend(), points, some_places(random), 17);
     let before = lent.written.clone();
@@ -36,21 +38,23 @@ fn try_calls(network: &OwnedNetwork, points: &[u8], random: &mut Random) -> Vec<
         answers.push(lent.assert_same(&PLAIN, call, query, &before));
     }
     let query = some_query(network, random);
-    let changed = with_one_word_changed(before, random);
-    answers.push(lent.assert_same(&PLAIN, TABLE_CHECK, query, &changed));
+    let damaged = with_a_damaged_table(before, lent.places, random);
+    answers.push(lent.assert_same(&PLAIN, TABLE_CHECK, query, &damaged));
     answers
 }
 
-fn with_one_word_changed(mut written: Written, random: &mut Random) -> Written {
-    let words = if random.once_in(2) {
-        &mut written.ids
-    } else {
-        &mut written.distances
+fn with_a_damaged_table(written: Written, places: u32, random: &mut Random) -> Written {
+    let mut table = PlainTable {
+        places,
+        ids: written.ids,
+        distances: written.distances,
     };
-    if let Some(place) = random.index(words.len()) {
-        words[place] = words[place].wrapping_add(random.pick(&[1, 2, u32::MAX]));
+    table_damage::damage(&mut table, 1, random);
+    Written {
+        ids: table.ids,
+        distances: table.distances,
+        ..written
     }
-    written
 }
 
 /// A query that is mostly accepted.

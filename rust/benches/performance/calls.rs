@@ -56,8 +56,8 @@ pub const PLAIN: Functions = Functions {
     table_check: plain::table_check,
 };
 
-/// What a call is asked: a site, a point, k, and eager's limit. Insert marks the site, remove clears
-/// the point.
+/// What a call is asked: a site, a point, k, and eager's limit. Insert adds a locker to the site,
+/// remove takes one from the point.
 #[derive(Clone, Copy, Debug)]
 pub struct Query {
     pub site: u32,

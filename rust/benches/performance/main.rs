@@ -1,4 +1,4 @@
-//! The time of every call, engine against the same algorithms in plain Rust, on three networks, and
+//! The time of every call, engine against the same algorithms in plain Rust, on four networks, and
 //! charts of the time against k and against n.
 //!
 //! `cargo bench --bench performance` writes the tables into docs/PERFORMANCE.md and the charts into
@@ -23,7 +23,7 @@ use calls::{Call, PLAIN};
 use chart::{Axis, Chart, Panel, Sample};
 use lent::Lent;
 use measure::{measure, Budget, Pairs};
-use networks::{limits, roads, streets, Subject};
+use networks::{limits, roads, several, streets, Subject};
 use settings::Settings;
 use std::fs;
 use std::time::Instant;
@@ -64,13 +64,14 @@ fn measure_calls(
     }
 }
 
-/// Times all calls on the three networks.
+/// Times all calls on the four networks.
 fn measure_networks(settings: &Settings) -> Vec<Measured> {
     let (k, places) = (settings.k, settings.places);
     let subjects = [
         (streets(settings.side), places),
         (roads(settings.road_nodes), places),
         (limits(), settings.limits_places),
+        (several(settings.road_nodes), places),
     ];
     let measured =
         |(subject, places)| measure_calls(subject, &calls::ALL, (k, places), settings.budget);

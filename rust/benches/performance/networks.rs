@@ -42,6 +42,17 @@ pub fn roads(nodes: u32) -> Subject {
     Subject::new("road-like", network, &mut random)
 }
 
+/// The same with 1 to 15 lockers on each node that has any.
+pub fn several(nodes: u32) -> Subject {
+    let mut random = Random::new(4);
+    let mut subject = roads(nodes);
+    subject.name = "several lockers";
+    for lockers in subject.points.iter_mut().filter(|lockers| **lockers > 0) {
+        *lockers = random.between(1, 15) as u8;
+    }
+    subject
+}
+
 /// As many nodes and arcs as there may be, of any weights: a ring, and random roads across it.
 pub fn limits() -> Subject {
     let mut random = Random::new(3);
@@ -85,8 +96,13 @@ impl Subject {
         self.network.neighbours.len()
     }
 
+    /// The nodes with lockers.
     pub fn marked(&self) -> usize {
-        self.points.iter().filter(|&&mark| mark == 1).count()
+        self.points.iter().filter(|&&lockers| lockers > 0).count()
+    }
+
+    pub fn lockers(&self) -> usize {
+        self.points.iter().copied().map(usize::from).sum()
     }
 
     /// A query for each site, with the point that is nearest to it.

@@ -39,7 +39,8 @@ pub fn heading(taken: Duration, (accepted, refused): (usize, usize)) -> String {
 /// The networks, and what is asked on each.
 pub fn networks_table(measured: &[Measured]) -> String {
     let mut text = String::from(
-        "| Network | Nodes | Arcs | Arcs to a node | Points | k | K |\n|---|---|---|---|---|---|---|\n",
+        "| Network | Nodes | Arcs | Arcs to a node | Points | Lockers | k | K |\n\
+         |---|---|---|---|---|---|---|---|\n",
     );
     for Measured {
         subject, k, places, ..
@@ -48,10 +49,11 @@ pub fn networks_table(measured: &[Measured]) -> String {
         let Subject { name, .. } = subject;
         let (nodes, arcs) = (subject.nodes(), subject.arcs());
         let mean = arcs as f64 / nodes as f64;
-        let (nodes, arcs, points) = (number(nodes), number(arcs), number(subject.marked()));
+        let (nodes, arcs) = (number(nodes), number(arcs));
+        let (points, lockers) = (number(subject.marked()), number(subject.lockers()));
         let _ = writeln!(
             text,
-            "| {name} | {nodes} | {arcs} | {mean:.2} | {points} | {k} | {places} |"
+            "| {name} | {nodes} | {arcs} | {mean:.2} | {points} | {lockers} | {k} | {places} |"
         );
     }
     text

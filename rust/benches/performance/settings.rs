@@ -12,7 +12,7 @@ pub struct Settings {
     pub road_nodes: u32,
     /// k of the tables.
     pub k: u32,
-    /// K on the grid and on the road-like network, and on the one at the limits.
+    /// K, and the one on the network at the limits.
     pub places: u32,
     pub limits_places: u32,
     /// The values of K for which build is timed at the limits.

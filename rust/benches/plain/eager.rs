@@ -51,7 +51,7 @@ fn search(site: Site<'_>, limit: u32, words: &mut [u32], answers: &mut [u32]) ->
     let n = site.points.len();
     let (flags, areas) = words.split_at_mut(2 * n + 2 * site.k);
     let (inner, outer) = areas.split_at_mut(areas.len() / 2);
-    flags[n + site.q as usize] = u32::from(site.points[site.q as usize]);
+    flags[n + site.q as usize] = u32::from(site.points[site.q as usize] > 0);
     let mut area = Area::start(outer, site.network, site.q);
     let mut count = 0;
     while let Some(entry) = area.next() {
@@ -68,7 +68,7 @@ fn search(site: Site<'_>, limit: u32, words: &mut [u32], answers: &mut [u32]) ->
     listed(&flags[n..2 * n], answers, count)
 }
 
-/// Finds the points nearer to a node than the site and verifies each once. Returns how many.
+/// Finds the points nearer to a node than the site and verifies each once. Returns how many lockers.
 fn look(site: Site<'_>, node: u32, label: u32, flags: &mut [u32], inner: &mut [u32]) -> usize {
     let (n, k) = (site.points.len(), site.k);
     let (flags, places) = flags.split_at_mut(2 * n);

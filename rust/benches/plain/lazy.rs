@@ -64,10 +64,11 @@ fn search(site: Site<'_>, words: &mut [u32]) -> usize {
         }
         area.settle(entry);
         let node = entry.node();
-        if site.points[node] == 1 {
+        let lockers = u32::from(site.points[node]);
+        if lockers > 0 {
             let (yes, visit) = site.visit(node as u32, inner);
             found[node] = u32::from(yes);
-            count_visit(site, entry.distance, &visit, &area, counts);
+            count_visit((entry.distance, lockers), &visit, &area, counts);
             visit.clear();
         }
         if (counts[node] as usize) < site.k {
@@ -77,20 +78,24 @@ fn search(site: Site<'_>, words: &mut [u32]) -> usize {
     area.settled().len()
 }
 
-/// Whether k points are nearer than the site to the entry's node, or to the node that put it in.
+/// Whether k lockers are nearer than the site to the entry's node, or to the node that put it in.
 fn is_pruned(site: Site<'_>, entry: Entry, counts: &[u32]) -> bool {
     let (node, parent) = (entry.node(), entry.parent());
     counts[node] as usize >= site.k || (parent != node && counts[parent] as usize >= site.k)
 }
 
-/// Counts the point for each node that its visit settled nearer than the site is, as far as the
-/// site's expansion has come to this label.
-fn count_visit(site: Site<'_>, label: u32, visit: &Area<'_>, area: &Area<'_>, counts: &mut [u32]) {
+/// Counts the point's lockers for each node that its visit settled nearer than the site is, as far as
+/// the site's expansion has come to this label.
+fn count_visit(
+    (label, lockers): (u32, u32),
+    visit: &Area<'_>,
+    area: &Area<'_>,
+    counts: &mut [u32],
+) {
     for &node in visit.settled() {
         let node = node as usize;
-        let nearer = visit.label(node) < Some(area.label(node).unwrap_or(label));
-        if nearer && (counts[node] as usize) < site.k {
-            counts[node] += 1;
+        if visit.label(node) < Some(area.label(node).unwrap_or(label)) {
+            counts[node] += lockers;
         }
     }
 }

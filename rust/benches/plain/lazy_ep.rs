@@ -1,5 +1,5 @@
 //! Lazy-EP (000, 4.2): the points that the site's expansion has come to are expanded too, and a node
-//! to which k of them are nearer than the site is pruned.
+//! to which k of their lockers are nearer than the site is pruned.
 //!
 //! Words of scratch: found flags n, row ids n × k, row distances n × k, second queue 2 × (k × A + n),
 //! inner area, outer area. An empty place of a row has 0 as its distance word, another one its
@@ -67,15 +67,15 @@ fn search(site: Site<'_>, words: &mut [u32]) -> usize {
     while let Some(entry) = area.next() {
         let (node, label) = (entry.node(), entry.distance);
         second.advance(site, label);
-        if second.is_closed(node, label) || second.is_closed_parent(entry, &area) {
+        if second.is_closed(site, node, label) || second.is_closed_parent(site, entry, &area) {
             continue;
         }
         area.settle(entry);
-        if site.points[node] == 1 {
+        if site.points[node] > 0 {
             found[node] = u32::from(site.verify(node as u32, inner));
             second.admit(site, Entry::new(0, node as u32, node as u32));
         }
-        if !second.is_closed(node, label) {
+        if !second.is_closed(site, node, label) {
             area.open(site.network, entry);
         }
     }
@@ -155,15 +155,21 @@ impl<'a> Second<'a> {
         }
     }
 
-    /// Whether all places of the row are taken by points nearer than the label.
-    fn is_closed(&self, node: usize, label: u32) -> bool {
-        let row = &self.distances[node * self.k..(node + 1) * self.k];
-        row.iter().all(|&word| word != 0 && word <= label)
+    /// Whether the points of the row that are nearer than the label have k lockers.
+    fn is_closed(&self, site: Site<'_>, node: usize, label: u32) -> bool {
+        let row = node * self.k..(node + 1) * self.k;
+        let mut lockers = 0;
+        for (&p, &word) in self.ids[row.clone()].iter().zip(&self.distances[row]) {
+            if word != 0 && word <= label {
+                lockers += usize::from(site.points[p as usize]);
+            }
+        }
+        lockers >= self.k
     }
 
     /// Whether the node that put the entry in is closed by now.
-    fn is_closed_parent(&self, entry: Entry, area: &Area<'_>) -> bool {
+    fn is_closed_parent(&self, site: Site<'_>, entry: Entry, area: &Area<'_>) -> bool {
         let label = area.label(entry.parent());
-        label.is_some_and(|label| self.is_closed(entry.parent(), label))
+        label.is_some_and(|label| self.is_closed(site, entry.parent(), label))
     }
 }

@@ -1,4 +1,5 @@
-//! Nearest: the points nearer to a node than e, by distance then node, cut after the first k.
+//! Nearest: the points nearer to a node than e, by distance then node, a node for each of its lockers,
+//! cut after the first k.
 //!
 //! Words of scratch: found ids k, found distances k, area.
 
@@ -52,7 +53,7 @@ fn write(site: Site<'_>, e: u32, words: &mut [u32], found: Found<'_>) -> usize {
     length
 }
 
-/// Settles nodes by rising distance from a node while it is below e and fewer than k points are
+/// Settles nodes by rising distance from a node while it is below e and fewer than k lockers are
 /// found. Returns how many are. The area is all zero before and after.
 pub fn find(
     site: Site<'_>,
@@ -70,7 +71,8 @@ pub fn find(
         };
         area.settle(entry);
         area.open(site.network, entry);
-        if site.points[entry.node()] == 1 {
+        let end = site.k.min(found + usize::from(site.points[entry.node()]));
+        while found < end {
             ids[found] = entry.node() as u32;
             distances[found] = entry.distance;
             found += 1;

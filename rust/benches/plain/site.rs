@@ -82,8 +82,8 @@ impl Site<'_> {
         }
     }
 
-    /// Expands from p until it is known whether fewer than k other points are strictly nearer to p
-    /// than the site. What it settles stays in the area.
+    /// Expands from point p until it is known whether fewer than k other lockers are strictly nearer
+    /// to p than the site. What it settles stays in the area.
     pub fn visit<'a>(self, p: u32, words: &'a mut [u32]) -> (bool, Area<'a>) {
         let mut area = Area::start(words, self.network, p);
         let (mut label, mut below, mut level) = (0, 0, 0);
@@ -94,8 +94,7 @@ impl Site<'_> {
             if below >= self.k || entry.node() == self.q as usize {
                 return (below < self.k, area);
             }
-            let other = entry.node() != p as usize && self.points[entry.node()] == 1;
-            level += usize::from(other);
+            level += self.others_at(entry.node(), p);
             area.settle(entry);
             area.open(self.network, entry);
         }
@@ -108,11 +107,24 @@ impl Site<'_> {
         area.clear();
         yes
     }
+
+    /// How many lockers a node has besides the one at point p.
+    fn others_at(self, node: usize, p: u32) -> usize {
+        usize::from(self.points[node]) - usize::from(node == p as usize)
+    }
 }
 
-/// Whether there are n bytes, none above 1.
+/// As many lockers as a node may have.
+pub const MOST_LOCKERS: u8 = 15;
+
+/// Whether there are n bytes, none above 15.
 pub fn are_points(points: &[u8], network: Network<'_>) -> bool {
-    points.len() == network.starts.len() - 1 && points.iter().all(|&byte| byte <= 1)
+    points.len() == network.starts.len() - 1 && points.iter().all(|&byte| byte <= MOST_LOCKERS)
+}
+
+/// How many lockers a node has, none where the word of a table is no node.
+pub fn lockers_at(points: &[u8], p: u32) -> usize {
+    points.get(p as usize).copied().map_or(0, usize::from)
 }
 
 /// S for an m that is in its range.

@@ -6,7 +6,7 @@
 use super::area::Area;
 use super::network_check;
 use super::queue::{Entry, Queue};
-use super::site::{are_points, least_scratch};
+use super::site::{are_points, least_scratch, MOST_LOCKERS};
 use overlap::calls::{Network, Table, TableMut, Update, NONE};
 
 #[inline(never)]
@@ -41,14 +41,15 @@ pub fn insert(
     scratch: &mut [u32],
     mut table: TableMut<'_>,
 ) -> Update {
-    let number = change_number(network, points, (node, 0), scratch.len(), &table);
+    let full = (node, MOST_LOCKERS);
+    let number = change_number(network, points, full, scratch.len(), &table);
     if number != 0 {
         return Update { number, changed: 0 };
     }
     let used = 3 * points.len() + 2 * (network.neighbours.len() + 1);
     scratch.fill(0);
     let changed = expand(network, node, &mut scratch[..used], &mut table);
-    points[node as usize] = 1;
+    points[node as usize] += 1;
     Update { number, changed }
 }
 
@@ -81,11 +82,11 @@ pub fn number_of(network: Network<'_>, points: &[u8], node: Option<u32>, table: 
     }
 }
 
-/// The first condition met of 1 to 8, 10, and 11 where the node's mark is not the one wanted, or 0.
+/// The first condition met of 1 to 8, 10, and 11 where the node has this many lockers, or 0.
 pub fn change_number(
     network: Network<'_>,
     points: &[u8],
-    (node, mark): (u32, u8),
+    (node, refused): (u32, u8),
     scratch: usize,
     table: &TableMut<'_>,
 ) -> u32 {
@@ -94,7 +95,7 @@ pub fn change_number(
         number
     } else if scratch < least_scratch(network, table.places as usize) {
         10
-    } else if points[node as usize] != mark {
+    } else if points[node as usize] == refused {
         11
     } else {
         0
@@ -102,19 +103,20 @@ pub fn change_number(
 }
 
 /// Offers each point to its own row. The least offer is taken out; a row that has a free place and
-/// lacks the point takes it, and those neighbours whose rows have a place for it are offered it. The
-/// words are all zero and all places of the table empty.
+/// lacks the point takes it with its lockers, and those neighbours whose rows have a place for it are
+/// offered it. The words are all zero and all places of the table empty.
 fn spread(network: Network<'_>, points: &[u8], words: &mut [u32], table: &mut TableMut<'_>) {
     let (lengths, words) = words.split_at_mut(points.len());
     let mut queue = Queue::new(words);
-    for (p, &mark) in (0..).zip(points) {
-        if mark == 1 {
+    for (p, &lockers) in (0..).zip(points) {
+        if lockers > 0 {
             queue.push(Entry::new(0, p, p));
         }
     }
     while let Some(entry) = queue.pop() {
         let (p, node) = (entry.first() as u32, entry.second());
-        if append(table, &mut lengths[node], node, p, entry.distance) {
+        let point = (p, usize::from(points[p as usize]));
+        if append(table, &mut lengths[node], node, point, entry.distance) {
             let arcs = network.starts[node] as usize..network.starts[node + 1] as usize;
             let weights = &network.weights[arcs.clone()];
             for (&to, &weight) in network.neighbours[arcs].iter().zip(weights) {
@@ -132,16 +134,27 @@ fn has_place(table: &TableMut<'_>, length: u32, node: usize, p: u32) -> bool {
     length < table.places && !table.ids[first..first + length as usize].contains(&p)
 }
 
-/// Puts the point behind the entries of a row that has a place for it.
-fn append(table: &mut TableMut<'_>, length: &mut u32, node: usize, p: u32, distance: u32) -> bool {
+/// Puts the point behind the entries of a row that has a place for it, once for each of its lockers or
+/// as often as there is room for.
+fn append(
+    table: &mut TableMut<'_>,
+    length: &mut u32,
+    node: usize,
+    (p, lockers): (u32, usize),
+    distance: u32,
+) -> bool {
     if !has_place(table, *length, node, p) {
         return false;
     }
     let (ids, distances) = row(table, node);
-    let taken = *length as usize;
-    ids[taken] = p;
-    distances[taken] = distance;
-    *length += 1;
+    let mut at = *length as usize;
+    let end = ids.len().min(at + lockers);
+    while at < end {
+        ids[at] = p;
+        distances[at] = distance;
+        at += 1;
+    }
+    *length = end as u32;
     true
 }
 
@@ -152,7 +165,13 @@ pub fn row<'a>(table: &'a mut TableMut<'_>, node: usize) -> (&'a mut [u32], &'a 
     (&mut table.ids[part.clone()], &mut table.distances[part])
 }
 
-/// Expands from the new point as far as rows take it, and returns how many do. The words are all zero.
+/// How many of the ids are p.
+pub fn among(ids: &[u32], p: u32) -> usize {
+    ids.iter().filter(|&&id| id == p).count()
+}
+
+/// Expands from the new locker as far as rows take it, and returns how many do. The words are all
+/// zero.
 fn expand(network: Network<'_>, node: u32, words: &mut [u32], table: &mut TableMut<'_>) -> u32 {
     let mut area = Area::start(words, network, node);
     let mut changed = 0;
@@ -168,7 +187,7 @@ fn expand(network: Network<'_>, node: u32, words: &mut [u32], table: &mut TableM
     changed
 }
 
-/// Puts the point into a row in front of what comes behind it; the last entry drops.
+/// Puts the point into a row once more, in front of what comes behind it; the last entry drops.
 fn put(table: &mut TableMut<'_>, node: usize, p: u32, distance: u32) -> bool {
     let (ids, distances) = row(table, node);
     let mut entries = ids.iter().zip(distances.iter());

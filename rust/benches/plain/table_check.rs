@@ -1,7 +1,8 @@
 //! The table check: each row agrees with the rows of its neighbours, arc by arc. The arrays may hold
 //! anything.
 
-use super::table::number_of;
+use super::site::lockers_at;
+use super::table::{among, number_of};
 use overlap::calls::{Network, Table, Verdict, NONE};
 
 #[inline(never)]
@@ -58,7 +59,7 @@ impl<'a> Lent<'a> {
 
     fn is_right(&self, node: usize) -> bool {
         let row = self.row(node);
-        row.is_sorted()
+        row.is_sorted(self.points)
             && (self.points[node] == 0 || row.holds(node as u32, 0))
             && row.entries().all(|(p, far)| self.has_source(node, p, far))
             && self
@@ -68,7 +69,7 @@ impl<'a> Lent<'a> {
 
     /// Whether an entry is padding, the node's own point, or comes over an arc.
     fn has_source(&self, node: usize, p: u32, far: u32) -> bool {
-        let is_own = p as usize == node && far == 0 && self.points[node] == 1;
+        let is_own = p as usize == node && far == 0 && self.points[node] > 0;
         let comes_from = |(to, weight)| far >= weight && self.row(to).holds(p, far - weight);
         p == NONE || is_own || self.arcs(node).any(comes_from)
     }
@@ -84,24 +85,36 @@ impl<'a> Row<'a> {
         self.entries().any(|entry| entry == (p, far))
     }
 
-    /// Whether the row is sorted by distance then node, repeats no id and ends with its padding.
-    fn is_sorted(self) -> bool {
-        (0..self.ids.len()).all(|place| self.is_sorted_at(place))
+    /// Whether the row is sorted by distance then node, has a node for each of its lockers and ends
+    /// with its padding.
+    fn is_sorted(self, points: &[u8]) -> bool {
+        (0..self.ids.len()).all(|place| self.is_sorted_at(points, place))
     }
 
-    fn is_sorted_at(self, place: usize) -> bool {
+    fn is_sorted_at(self, points: &[u8], place: usize) -> bool {
         let (p, far) = (self.ids[place], self.distances[place]);
         if p == NONE {
-            return far == NONE;
+            return far == NONE && self.is_whole_before(points, place);
         }
-        if self.ids[..place].contains(&p) {
+        let earlier = among(&self.ids[..place], p);
+        if earlier >= lockers_at(points, p) {
             return false;
         }
         let Some(before) = place.checked_sub(1) else {
             return true;
         };
         let (q, near) = (self.ids[before], self.distances[before]);
-        q != NONE && (near, q) < (far, p)
+        if earlier > 0 {
+            return (q, near) == (p, far);
+        }
+        q != NONE && (near, q) < (far, p) && self.is_whole_before(points, place)
+    }
+
+    /// Whether the node of the place before this one has all its lockers by then.
+    fn is_whole_before(self, points: &[u8], place: usize) -> bool {
+        let before = &self.ids[..place];
+        let is_whole = |&q: &u32| among(before, q) >= lockers_at(points, q);
+        before.last().is_none_or(is_whole)
     }
 
     /// Whether no entry of a neighbour's row, over an arc of this weight, asks for a place here.

@@ -5,7 +5,7 @@
 //! anything.
 
 use super::area::Area;
-use super::site::{least_scratch, listed, refused, Site};
+use super::site::{least_scratch, listed, lockers_at, refused, Site};
 use super::table::number_of;
 use overlap::calls::{Listing, Network, Table};
 
@@ -57,7 +57,7 @@ fn search(site: Site<'_>, table: Table<'_>, words: &mut [u32]) {
     let n = site.points.len();
     let (flags, areas) = words.split_at_mut(2 * n);
     let (inner, outer) = areas.split_at_mut(areas.len() / 2);
-    flags[n + site.q as usize] = u32::from(site.points[site.q as usize]);
+    flags[n + site.q as usize] = u32::from(site.points[site.q as usize] > 0);
     let mut area = Area::start(outer, site.network, site.q);
     while let Some(entry) = area.next() {
         let found = look(site, table, entry.node(), entry.distance, flags, inner);
@@ -84,7 +84,7 @@ fn look(
     let nearer = entries.take_while(|&(_, &far)| far < label);
     let mut found = 0;
     for (&p, &far) in nearer {
-        verify_once(site, table, p as usize, (label, far), flags, inner);
+        verify_once(site, table, p, (label, far), flags, inner);
         found += 1;
     }
     found
@@ -94,22 +94,23 @@ fn look(
 fn verify_once(
     site: Site<'_>,
     table: Table<'_>,
-    p: usize,
+    p: u32,
     way: (u32, u32),
     flags: &mut [u32],
     inner: &mut [u32],
 ) {
-    if site.points.get(p) != Some(&1) || flags[p] != 0 {
+    let at = p as usize;
+    if lockers_at(site.points, p) == 0 || flags[at] != 0 {
         return;
     }
-    flags[p] = 1;
-    if is_near(site, table, p, way) || site.verify(p as u32, inner) {
-        flags[site.points.len() + p] = 1;
+    flags[at] = 1;
+    if is_near(site, table, at, way) || site.verify(p, inner) {
+        flags[site.points.len() + at] = 1;
     }
 }
 
-/// Whether the point's k-th other point is no nearer to it than the way over the node, which is the
-/// site's label of the node and the point's distance from it.
+/// Whether the k-th other locker of a point is no nearer to it than the way over the node, which is
+/// the site's label of the node and the point's distance from it.
 fn is_near(site: Site<'_>, table: Table<'_>, p: usize, (label, far): (u32, u32)) -> bool {
     let last = table.distances[p * table.places as usize + site.k];
     u64::from(label) + u64::from(far) <= u64::from(last)

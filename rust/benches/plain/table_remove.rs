@@ -1,10 +1,11 @@
-//! Removal of a point from the table.
+//! Removal of a locker from the table.
 //!
 //! Words of scratch: short flags n, queue 2 × (n + A). The tag of an entry is its point and then its
 //! node.
 
 use super::queue::{Entry, Queue};
-use super::table::{change_number, row};
+use super::site::lockers_at;
+use super::table::{among, change_number, row};
 use overlap::calls::{Network, TableMut, Update, NONE};
 
 #[inline(never)]
@@ -15,29 +16,32 @@ pub fn remove(
     scratch: &mut [u32],
     mut table: TableMut<'_>,
 ) -> Update {
-    let number = change_number(network, points, (node, 1), scratch.len(), &table);
+    let number = change_number(network, points, (node, 0), scratch.len(), &table);
     if number != 0 {
         return Update { number, changed: 0 };
     }
     let (n, arcs) = (points.len(), network.neighbours.len());
     let used = 3 * n + 2 * (arcs + 1);
     scratch.fill(0);
-    points[node as usize] = 0;
+    let all = lockers_at(points, node);
+    points[node as usize] -= 1;
     let (short, words) = scratch[..used].split_at_mut(n);
-    let changed = free(node, short, &mut table);
+    let changed = free(node, all, short, &mut table);
     let mut queue = Queue::new(words);
     seed(network, points, short, &mut queue, &table);
-    fill(network, short, &mut queue, &mut table);
+    fill(network, points, short, &mut queue, &mut table);
     scratch[..used].fill(0);
     Update { number, changed }
 }
 
-/// Takes the point out of each row that has it and flags the row as short. Returns how many.
-fn free(p: u32, short: &mut [u32], table: &mut TableMut<'_>) -> u32 {
+/// Takes one locker of a point out of each row that shows all of them, as one that shows fewer is cut
+/// and stays, and flags the row as short. Returns how many.
+fn free(p: u32, all: usize, short: &mut [u32], table: &mut TableMut<'_>) -> u32 {
     let mut changed = 0;
     for (node, flag) in short.iter_mut().enumerate() {
         let (ids, distances) = row(table, node);
-        if let Some(place) = ids.iter().position(|&id| id == p) {
+        if among(ids, p) == all {
+            let place = ids.iter().position(|&id| id == p).unwrap();
             take_at(ids, place);
             take_at(distances, place);
             *flag = 1;
@@ -84,7 +88,7 @@ fn best(network: Network<'_>, points: &[u8], table: &TableMut<'_>, node: usize) 
             &table.distances[part(to as usize)],
         );
         for (&p, &far) in ids.iter().zip(distances) {
-            let is_new = |offer| offer < best && !own.contains(&p) && is_marked(points, p);
+            let is_new = |offer| offer < best && lacks(points, own, p);
             if far <= LARGEST && is_new((far + weight, p)) {
                 best = (far + weight, p);
             }
@@ -96,20 +100,27 @@ fn best(network: Network<'_>, points: &[u8], table: &TableMut<'_>, node: usize) 
 /// The largest number that can be a distance.
 const LARGEST: u32 = 4_294_770_690;
 
-fn is_marked(points: &[u8], p: u32) -> bool {
-    points.get(p as usize) == Some(&1)
+/// Whether a row shows fewer lockers of a point than it has.
+fn lacks(points: &[u8], ids: &[u32], p: u32) -> bool {
+    among(ids, p) < lockers_at(points, p)
 }
 
-/// Takes the least offer out until none waits. A short row that lacks the point takes it and is short
-/// no more, and its short neighbours are offered it.
-fn fill(network: Network<'_>, short: &mut [u32], queue: &mut Queue<'_>, table: &mut TableMut<'_>) {
+/// Takes the least offer out until none waits. A short row that lacks a locker of the point takes one
+/// and is short no more, and its short neighbours are offered the point.
+fn fill(
+    network: Network<'_>,
+    points: &[u8],
+    short: &mut [u32],
+    queue: &mut Queue<'_>,
+    table: &mut TableMut<'_>,
+) {
     while let Some(entry) = queue.pop() {
         let (p, node) = (entry.first() as u32, entry.second());
         if short[node] == 0 || entry.distance > LARGEST {
             continue;
         }
         let (ids, distances) = row(table, node);
-        if ids.contains(&p) {
+        if !lacks(points, ids, p) {
             continue;
         }
         *ids.last_mut().unwrap() = p;

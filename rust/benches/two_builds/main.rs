@@ -1,5 +1,6 @@
 //! The time of every call, this tree's engine against another build of it, on the networks of
-//! docs/PERFORMANCE.md. `run` beside this file says how it is used.
+//! docs/PERFORMANCE.md that have at most one locker to a node, as an older build refuses more. `run`
+//! beside this file says how it is used.
 
 // The modules are the benchmark's and the tests'; a part of each is used here.
 mod before;
