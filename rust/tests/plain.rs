@@ -109,64 +109,60 @@ mod lockers {
         lists
     }
 
+    /// Shows all pairs of random networks, points of each, a node and a k.
+    fn try_random(mut see: impl FnMut(&AllPairs, &[u8], u32, u32)) {
+        for seed in 0..4_000 {
+            let mut random = Random::new(seed);
+            let network = random_network(&mut random);
+            let points = some_points(&network, &mut random);
+            let (node, k) = (some_node(&network, &mut random), some_k(&mut random));
+            see(&AllPairs::of(network.lend()), &points, node, k);
+        }
+    }
+
     /// "A node is listed once, as its lockers fare alike."
     #[test]
     fn fare_alike_and_give_the_lists() {
         let mut several = 0;
-        for seed in 0..4_000 {
-            let mut random = Random::new(seed);
-            let network = random_network(&mut random);
-            let pairs = AllPairs::of(network.lend());
-            let points = some_points(&network, &mut random);
-            let (q, k) = (some_node(&network, &mut random), some_k(&mut random));
-            let [mut yes, no] = listed(&pairs, &all(&points), q, k);
-            assert!(yes.iter().all(|p| !no.contains(p)), "{network:?}");
+        try_random(|pairs, points, q, k| {
+            let [mut yes, no] = listed(pairs, &all(points), q, k);
+            assert!(yes.iter().all(|p| !no.contains(p)));
             let lockers = yes.len();
             yes.dedup();
-            assert_eq!(pairs.plain_listed(&points, q, k), yes, "{network:?}");
+            assert_eq!(pairs.plain_listed(points, q, k), yes);
             several += usize::from(lockers > yes.len());
-        }
+        });
         assert!(several >= 400, "{several}");
     }
 
     /// "[...] the expanded count now count lockers".
     #[test]
     fn give_the_counts() {
-        for seed in 0..4_000 {
-            let mut random = Random::new(seed);
-            let network = random_network(&mut random);
-            let pairs = AllPairs::of(network.lend());
-            let points = some_points(&network, &mut random);
-            let (q, k) = (some_node(&network, &mut random), some_k(&mut random));
+        try_random(|pairs, points, q, k| {
             let is_counted = |&m: &u32| {
                 let far = pairs.plain_distances(m);
                 let to_q = far[q as usize];
-                let lockers = all(&points).into_iter();
+                let lockers = all(points).into_iter();
                 let nearer = lockers.filter(|&p| far[p as usize] < to_q).count();
                 to_q != NONE && nearer < k as usize
             };
             let count = (0..points.len() as u32).filter(is_counted).count();
-            assert_eq!(pairs.plain_expanded(&points, q, k), count as u32);
-        }
+            assert_eq!(pairs.plain_expanded(points, q, k), count as u32);
+        });
     }
 
     /// "Rows and the nearest call repeat a node for each locker".
     #[test]
     fn give_the_rows() {
-        for seed in 0..4_000 {
-            let mut random = Random::new(seed);
-            let network = random_network(&mut random);
-            let pairs = AllPairs::of(network.lend());
-            let points = some_points(&network, &mut random);
-            let (node, k) = (some_node(&network, &mut random), some_k(&mut random));
+        try_random(|pairs, points, node, k| {
             let far = pairs.plain_distances(node);
-            let mut near: Vec<_> = all(&points).iter().map(|&p| (far[p as usize], p)).collect();
+            let mut near: Vec<_> = all(points).iter().map(|&p| (far[p as usize], p)).collect();
             near.sort_unstable();
             near.retain(|entry| entry.0 != NONE);
             near.truncate(k as usize);
-            let found = pairs.plain_nearest(&points, node, NONE, k).into_iter();
-            assert!(found.map(|(p, far)| (far, p)).eq(near), "{network:?}");
-        }
+            let found = pairs.plain_nearest(points, node, NONE, k).into_iter();
+            assert!(found.map(|(p, far)| (far, p)).eq(near), "{points:?}");
+        });
     }
 }
 
