@@ -1,17 +1,16 @@
--- Lists in order by key, taken from the front: at which places a key stands, and when no more come; and the loop that writes a found point.
+-- Lists in order by key, taken from the front: at which places a key stands, and when no more come.
 -- Assumes nothing.
 use Prim.Native.Nat.{ℕ, zero, suc, _+_, _≤_, _<_}
-use mathlib.Core.Path.{_≡_, refl, sym, ap, _∙_}
-use mathlib.Core.Logic.{_≢_, _⊎_, ⊎-elim}
+use mathlib.Core.Path.{_≡_, sym, ap}
+use mathlib.Core.Logic.{_⊎_, ⊎-elim}
 use mathlib.Core.List.{List, [], _∷_, List·Memᴰ, List·Memᴰ·cases-cons, List·Memᴰ·not-nil, Memᴰ·cast}
-use native.Mathlib.Decide.{decLt, ℕ-discrete}
+use native.Mathlib.Decide.{decLt}
 use native.Mathlib.Omega.{arith}
-use lib.ListN.{length, take, getD, set, length-set, length-take}
-use lib.Seq.{getD-take, getD-set-same, getD-set-other}
+use lib.ListN.{length, take, getD, length-take}
+use lib.Seq.{getD-take}
 use Rattle.network.specs.Nearest.{key, Ordered}
 use Rattle.network.proofs.Counts.{bit-lt, bit-ge, member-at}
 use Rattle.network.proofs.Ordered.{below, none-below}
-use Rattle.expansion.specs.Found.{Written}
 
 -- the places before `below k` hold what is below k, and those from there on what is not
 pub at-above : (k : ℕ) (xs : List (ℕ × ℕ)) → Ordered xs → (j : ℕ) → j < below k xs → key (getD xs j (0, 0)) < k
@@ -74,44 +73,3 @@ in-first (suc m) (x ∷ xs) z i =
     (λ e. record { index = 0; low = omega arith; inside = omega arith; is = e })
     (λ t. let r = in-first m xs z t in record { index = suc (r .index); low = omega (arith, r .low); inside = omega (arith, r .inside); is = r .is })
     (List·Memᴰ·cases-cons i)
-
--- ---- The loop that writes (v, l) at the places from `found` on.
-pub written-none : (xs : List ℕ) (k found v l : ℕ) → Written xs xs k found v l found
-written-none xs k found v l =
-    record {
-      size = refl;
-      ids = λ j a b. absurd (omega arith);
-      distances = λ j a b. absurd (omega arith);
-      before = λ j a. refl;
-      between = λ j a b. refl;
-      behind = λ j a. refl;
-    }
-
-pub written-more : {xs ys : List ℕ} {k found v l at : ℕ} → Written xs ys k found v l at → found ≤ at → at < k → k + k ≤ length ys
-    → Written xs (set (set ys at v) (k + at) l) k found v l (at + 1)
-written-more {xs} {ys} {k} {found} {v} {l} {at} w low high fits =
-    record {
-      size = simp length-set (w .size);
-      ids =
-          λ j a b.
-          elim (ℕ-discrete j at) [
-            | yes q ↦ getD-set-other (set ys at v) (k + at) j l 0 (omega arith) ∙ ap (λ i. getD (set ys at v) i 0) q ∙ getD-set-same ys at v 0 (omega arith)
-            | no n ↦ other j n (omega arith) ∙ w .ids j a (omega arith)
-          ];
-      distances =
-          λ j a b.
-          elim (ℕ-discrete j at) [
-            | yes q ↦ ap (λ i. getD (set (set ys at v) (k + at) l) (k + i) 0) q ∙ getD-set-same (set ys at v) (k + at) l 0 (simp length-set (omega arith))
-            | no n ↦ other (k + j) (omega arith) (omega arith) ∙ w .distances j a (omega arith)
-          ];
-      before = λ j a. other j (omega arith) (omega arith) ∙ w .before j a;
-      between = λ j a b. other j (omega arith) (omega arith) ∙ w .between j (omega arith) b;
-      behind = λ j a. other j (omega arith) (omega arith) ∙ w .behind j (omega arith);
-    }
-  where
-    other : (j : ℕ) → j ≢ at → j ≢ k + at → getD (set (set ys at v) (k + at) l) j 0 ≡ getD ys j 0
-    other j a b = getD-set-other (set ys at v) (k + at) j l 0 b ∙ getD-set-other ys at j v 0 a
-
--- as the code reads and writes
-pub second-fits : (ys : List ℕ) (k at v : ℕ) → at < k → k + k ≤ length ys → k + at < length (set ys at v)
-second-fits ys k at v h f = simp length-set (omega arith)

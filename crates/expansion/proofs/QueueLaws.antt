@@ -15,26 +15,26 @@ use Rattle.expansion.proofs.LentParts.{lent-part, rejoined}
 -- ---- An entry is stored.
 
 -- the key of two words
-pub key-of-words : (xs : List ℕ) (i d t : ℕ) → getD xs (2 * i) 0 ≡ d → getD xs (2 * i + 1) 0 ≡ t → keyAt xs i ≡ keyOf d t
+pub key-of-words : (xs : List ℕ) (i d t : ℕ) → getD xs (2 * i) 0 ≡ t → getD xs (2 * i + 1) 0 ≡ d → keyAt xs i ≡ keyOf d t
 unfolding keyAt
 key-of-words xs i d t p q = omega arith
 
-pub words-key : (xs : List ℕ) (i : ℕ) → keyOf (getD xs (2 * i) 0) (getD xs (2 * i + 1) 0) ≡ keyAt xs i
+pub words-key : (xs : List ℕ) (i : ℕ) → keyOf (getD xs (2 * i + 1) 0) (getD xs (2 * i) 0) ≡ keyAt xs i
 unfolding keyAt
 words-key xs i = refl
 
 abbrev stored : List ℕ → ℕ → ℕ → ℕ → List ℕ
-stored xs i d t = set (set xs (2 * i) d) (2 * i + 1) t
+stored xs i d t = set (set xs (2 * i) t) (2 * i + 1) d
 
 module _ (xs : List ℕ) (i d t : ℕ) (room : 2 * i + 2 ≤ length xs) where
-  first : getD (stored xs i d t) (2 * i) 0 ≡ d
-  first = getD-set-other (set xs (2 * i) d) (2 * i + 1) (2 * i) t 0 (omega arith) ∙ getD-set-same xs (2 * i) d 0 (omega arith)
+  first : getD (stored xs i d t) (2 * i) 0 ≡ t
+  first = getD-set-other (set xs (2 * i) t) (2 * i + 1) (2 * i) d 0 (omega arith) ∙ getD-set-same xs (2 * i) t 0 (omega arith)
 
-  second : getD (stored xs i d t) (2 * i + 1) 0 ≡ t
-  second = getD-set-same (set xs (2 * i) d) (2 * i + 1) t 0 (simp length-set (omega arith))
+  second : getD (stored xs i d t) (2 * i + 1) 0 ≡ d
+  second = getD-set-same (set xs (2 * i) t) (2 * i + 1) d 0 (simp length-set (omega arith))
 
   words : (j : ℕ) → j ≢ 2 * i → j ≢ 2 * i + 1 → getD (stored xs i d t) j 0 ≡ getD xs j 0
-  words j n m = getD-set-other (set xs (2 * i) d) (2 * i + 1) j t 0 m ∙ getD-set-other xs (2 * i) j d 0 n
+  words j n m = getD-set-other (set xs (2 * i) t) (2 * i + 1) j d 0 m ∙ getD-set-other xs (2 * i) j t 0 n
 
   other : (j : ℕ) → j ≢ i → keyAt (stored xs i d t) j ≡ keyAt xs j
   unfolding keyAt
@@ -113,6 +113,28 @@ lesser-key a b k ck =
     elim (decLt b a) [
       | yes lt ↦ (omega (arith, ck .second lt), omega (arith, ck .second lt))
       | no n ↦ let le : a ≤ b = omega arith in (omega (arith, ck .first le), omega (arith, ck .first le))
+    ]
+
+-- the lesser of two keys that are chosen is the chosen one of the lesser keys
+pub chosen-least : {a b l r l' r' a' b' m m' k : ℕ} → Chosen a b l l' a' → Chosen a b r r' b' → Chosen l r l r m → Chosen l' r' l' r' m' → Chosen a b m m' k
+    → Chosen a' b' a' b' k
+chosen-least {a} {b} ca cb cm cm' ck =
+    elim (decLt b a) [
+      | yes lt ↦
+          let x = ca .second lt in
+          let y = cb .second lt in
+          record {
+            first = λ h. omega (arith, ck .second lt, cm' .first (omega (arith, x, y)), x);
+            second = λ h. omega (arith, ck .second lt, cm' .second (omega (arith, x, y)), y);
+          }
+      | no n ↦
+          let le : a ≤ b = omega arith in
+          let x = ca .first le in
+          let y = cb .first le in
+          record {
+            first = λ h. omega (arith, ck .first le, cm .first (omega (arith, x, y)), x);
+            second = λ h. omega (arith, ck .first le, cm .second (omega (arith, x, y)), y);
+          }
     ]
 
 -- a key that is at most the lesser child's is at most each child's

@@ -1,75 +1,81 @@
--- Where an expansion of everything ends: each node's label word is that of its distance.
+-- Where an expansion of everything ends: each node's seat is that of its distance.
 -- Assumes nothing.
-use Prim.Native.Nat.{ℕ, suc, _+_, _<_}
-use mathlib.Core.Path.{_≡_, sym, ap, _∙_}
+use Prim.Native.Nat.{ℕ, zero, suc, _+_, _-_, _<_}
+use mathlib.Core.Path.{_≡_, refl, sym, ap, _∙_}
 use mathlib.Core.Logic.{_≢_}
 use mathlib.Core.List.{List}
 use native.Mathlib.Nat.{zero-add}
-use native.Mathlib.Decide.{ℕ-discrete, decLt}
+use native.Mathlib.Decide.{ℕ-discrete, decLt, decLe}
 use native.Mathlib.Omega.{arith}
 use lib.ListN.{getD, replicate, getD-replicate, length-replicate, List·getD-eq-default}
-use borrow.Author.Tests.{eq-eqb, ne-eqb}
+use borrow.Author.Tests.{eq-eqb, ne-eqb, le-leb, lt-leb}
 use Rattle.network.specs.Network.{Network, nodeCount}
 use Rattle.network.specs.Accepted.{Accepted}
 use Rattle.network.specs.Distance.{NONE, dist, distancesFrom}
 use Rattle.network.specs.Count.{tabulate}
 use Rattle.network.proofs.Tabulate.{tabulate-same}
 use Rattle.network.proofs.Distances.{dist-walk}
-use Rattle.expansion.specs.Area.{Kept, Blank, Wiped, Emptied}
+use Rattle.expansion.specs.Area.{Kept, Blank, Wiped}
 use Rattle.expansion.specs.Expand.{labelWord, wordDistance, SettledAll}
-use Rattle.expansion.proofs.AreaLaws.{label-same, area-left, kept-less, kept-trans}
+use Rattle.expansion.proofs.Origins.{one}
+use Rattle.expansion.proofs.AreaLaws.{kept-trans}
 use Rattle.expansion.proofs.AreaSearch.{word-label, search-finished}
 use Rattle.expansion.proofs.Progress.{All, all-leads, Progress}
 
-pub label-none : (d : ℕ) → d ≡ NONE → labelWord d ≡ 0
+pub label-none : (n d : ℕ) → d ≡ NONE → labelWord n d ≡ 0
 unfolding labelWord
-label-none d e = rw (eq-eqb d NONE e)
+label-none n d e = rw (eq-eqb d NONE e)
 
-pub label-some : (d : ℕ) → d ≢ NONE → labelWord d ≡ suc d
+pub label-some : (n d : ℕ) → d ≢ NONE → labelWord n d ≡ suc (n + d)
 unfolding labelWord
-label-some d n = rw (ne-eqb d NONE n)
+label-some n d h = rw (ne-eqb d NONE h)
 
--- a label word stands for its distance
-pub word-distance : (d : ℕ) → wordDistance (labelWord d) ≡ d
+-- a seat stands for its distance
+pub word-some : (n d : ℕ) → wordDistance n (suc (n + d)) ≡ d
 unfolding wordDistance
-word-distance d =
+word-some n d = rw (lt-leb (suc (n + d)) n (omega arith)) (omega arith)
+
+pub word-distance : (n d : ℕ) → wordDistance n (labelWord n d) ≡ d
+unfolding wordDistance
+word-distance n d =
     elim (ℕ-discrete d NONE) [
-      | yes e ↦ rw (label-none d e) (sym e)
-      | no n ↦ rw (label-some d n, ne-eqb (suc d) 0 (omega arith)) (omega arith)
+      | yes e ↦ rw (label-none n d e, le-leb 0 n (omega arith)) (sym e)
+      | no h ↦ rw (label-some n d h, lt-leb (suc (n + d)) n (omega arith)) (omega arith)
     ]
 
-module _ {g : Network} (ok : Accepted g) {s b settled len : ℕ} {ys zs : List ℕ} (p : Progress g s All All ys b settled len)
-    (t : Emptied (nodeCount g) ys zs b len) where
-  words : (v : ℕ) → v < nodeCount g → getD ys (b + v) 0 ≡ labelWord (dist g s v)
-  words v h =
-      elim (ℕ-discrete (dist g s v) NONE) [
-        | yes e ↦ none e ∙ sym (label-none (dist g s v) e)
-        | no n ↦ search-finished ok (p .area) (p .searched) t (all-leads ok s) v tt n .is ∙ sym (label-some (dist g s v) n)
-      ]
-    where
-      none : dist g s v ≡ NONE → getD ys (b + v) 0 ≡ 0
-      none e =
-          elim (ℕ-discrete (getD ys (b + v) 0) 0) [
-            | yes z ↦ z
-            | no w ↦ let d = word-label b v h w in absurd (dist-walk ok (p .searched .settled-walk v (d .0) (d .1)) .some e)
-          ]
+-- nothing waits: all is settled
+pub progress-done : {g : Network} (ok : Accepted g) {s : ℕ} {xs ys : List ℕ} {b settled len : ℕ} → Progress g (one g s) All All ys b settled len → len ≡ 0 → Kept xs ys b → SettledAll g xs ys b s settled
+progress-done {g} ok {s} {xs} {ys} {b} {settled} {len} p z frame =
+    record {
+      frame = frame;
+      area = rw z at (p .area);
+      labels =
+          λ v h.
+          elim (ℕ-discrete (dist g s v) NONE) [
+            | yes e ↦ none v h e (getD ys (b + v) 0) refl ∙ sym (label-none (nodeCount g) (dist g s v) e)
+            | no n ↦
+                search-finished ok (p .area) (p .searched) z (all-leads ok s) v tt n .is ∙ sym (label-some (nodeCount g) (dist g s v) n)
+          ];
+    }
+  where
+    none : (v : ℕ) → v < nodeCount g → dist g s v ≡ NONE → (w : ℕ) → getD ys (b + v) 0 ≡ w → getD ys (b + v) 0 ≡ 0
+    none v h e zero q = q
+    none v h e (suc i) q =
+        elim (decLe (suc i) (nodeCount g)) [
+          | yes k ↦ absurd (omega (arith, p .area .queue .waits v i h q (omega arith) .0))
+          | no k ↦
+              let d = word-label {n = nodeCount g} {xs = ys} b v h (omega arith) in
+              absurd (dist-walk ok (p .searched .settled-walk v (d .0) (d .1)) .some e)
+        ]
 
-  pub emptied-settled : {xs : List ℕ} → Kept xs ys b → SettledAll g xs zs b s settled
-  emptied-settled frame =
-      record {
-        frame = kept-trans frame (kept-less (omega arith) (t .leaves .frame));
-        area = area-left (p .area) (t .leaves);
-        labels = λ v h. label-same b (t .leaves .frame) v h ∙ words v h;
-      }
-
--- the answers that the label words stand for, and the blank area
+-- the answers that the seats stand for, and the blank area
 pub settled-distances : {g : Network} {source settled : ℕ} {xs ys : List ℕ} → SettledAll g xs ys 0 source settled
-    → tabulate (λ v. wordDistance (getD ys v 0)) (nodeCount g) ≡ distancesFrom g source
+    → tabulate (λ v. wordDistance (nodeCount g) (getD ys v 0)) (nodeCount g) ≡ distancesFrom g source
 unfolding distancesFrom
 settled-distances {g} {source} {ys} s =
-    tabulate-same (λ v. wordDistance (getD ys v 0)) (dist g source) (nodeCount g)
+    tabulate-same (λ v. wordDistance (nodeCount g) (getD ys v 0)) (dist g source) (nodeCount g)
     (λ v h.
-    ap (λ (w : ℕ). wordDistance w) (ap (λ (i : ℕ). getD ys i 0) (sym (zero-add v)) ∙ s .labels v h) ∙ word-distance (dist g source v))
+    ap (λ (w : ℕ). wordDistance (nodeCount g) w) (ap (λ (i : ℕ). getD ys i 0) (sym (zero-add v)) ∙ s .labels v h) ∙ word-distance (nodeCount g) (dist g source v))
 
 pub wiped-after : {xs ys zs : List ℕ} {b : ℕ} → Kept xs ys b → Wiped ys zs b → Wiped xs zs b
 wiped-after k w = record { frame = kept-trans k (w .frame); blank = w .blank }

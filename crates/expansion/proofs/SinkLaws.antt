@@ -148,11 +148,11 @@ module _ (xs ys zs : List ℕ) (len hole child d t key stored : ℕ) (low : 2 * 
       }
 
 -- a small case: an entry of distance 3 sinks from 0 to 1, as the one there has distance 1, and no further, as the one at 3 has distance 4: two are stored
-sample : Sank (9 ∷ 9 ∷ 1 ∷ 0 ∷ 2 ∷ 0 ∷ 4 ∷ 0 ∷ []) (1 ∷ 0 ∷ 3 ∷ 0 ∷ 2 ∷ 0 ∷ 4 ∷ 0 ∷ []) 4 0 (keyOf 3 0) 2
+sample : Sank (9 ∷ 9 ∷ 0 ∷ 1 ∷ 0 ∷ 2 ∷ 0 ∷ 4 ∷ []) (0 ∷ 1 ∷ 0 ∷ 3 ∷ 0 ∷ 2 ∷ 0 ∷ 4 ∷ []) 4 0 (keyOf 3 0) 2
 unfolding keyAt
 sample =
-    let before : List ℕ = 9 ∷ 9 ∷ 1 ∷ 0 ∷ 2 ∷ 0 ∷ 4 ∷ 0 ∷ [] in
-    let between : List ℕ = 1 ∷ 0 ∷ 1 ∷ 0 ∷ 2 ∷ 0 ∷ 4 ∷ 0 ∷ [] in
+    let before : List ℕ = 9 ∷ 9 ∷ 0 ∷ 1 ∷ 0 ∷ 2 ∷ 0 ∷ 4 ∷ [] in
+    let between : List ℕ = 0 ∷ 1 ∷ 0 ∷ 1 ∷ 0 ∷ 2 ∷ 0 ∷ 4 ∷ [] in
     sank-below before between _ 4 0 1 1 0 (keyOf 3 0) 1 (omega arith) (omega arith) (omega arith) (put-stored before 0 1 0 (omega arith)) refl (sank-here between _ 4 1 3 0 (omega arith) (put-stored between 1 3 0 (omega arith)))
 
 -- there are no more levels than entries

@@ -6,7 +6,7 @@ use mathlib.Core.Path.{_≡_, refl, sym, ap, _∙_}
 use mathlib.Core.Bool.{Bool, true, false, not, _&&_}
 use mathlib.Core.Logic.{_≢_, _⊎_, ⊎-elim}
 use mathlib.Core.List.{List}
-use native.Mathlib.Decide.{ℕ-discrete, decLt}
+use native.Mathlib.Decide.{ℕ-discrete, decLt, decLe}
 use native.Mathlib.Omega.{arith}
 use lib.Dec.{eqb, ltb}
 use lib.ListN.{length, getD}
@@ -20,12 +20,13 @@ use Rattle.network.proofs.Counts.{bit-most}
 use Rattle.network.proofs.Totals.{total-same, total-split, total-at, sum-mono, sum-none}
 use Rattle.network.proofs.Tests.{and-right}
 use Rattle.expansion.specs.declared.verify.Tally.{Tally}
-use Rattle.expansion.specs.Area.{LabelAt, Kept, Blank, Started, Took, Emptied, Followed, queueBase}
+use Rattle.expansion.specs.Area.{LabelAt, Area, Moved, Blank, Took, Followed}
 use Rattle.expansion.specs.Visited.{CameTo}
 use Rattle.expansion.proofs.Search.{frontier}
-use Rattle.expansion.proofs.AreaLaws.{settledAs, label-same}
-use Rattle.expansion.proofs.AreaSearch.{label-back, search-took, search-finished, took-least, took-exact}
-use Rattle.expansion.proofs.Progress.{All, all-leads, Progress, took-word, took-small, label-taken, label-others}
+use Rattle.expansion.proofs.Origins.{one}
+use Rattle.expansion.proofs.AreaLaws.{settledAs, others-settle}
+use Rattle.expansion.proofs.AreaSearch.{label-back, search-took, search-finished, took-least, took-exact, took-moved, took-waited, took-word, took-area, settle-marks}
+use Rattle.expansion.proofs.Progress.{All, all-leads, Progress, took-small}
 
 -- ---- The others at a node, as the code reads them.
 
@@ -85,16 +86,26 @@ few-enough g P p q k n h = rw (ne-eqb (dist g p q) NONE n, lt-ltb (othersNearer 
 -- ---- The count under way.
 
 -- a node that is settled at label l
-abbrev pub atLevel : List ℕ → ℕ → ℕ → ℕ → Bool
-atLevel xs b l x = eqb (getD xs (b + x) 0) (suc l)
+abbrev pub atLevel : ℕ → List ℕ → ℕ → ℕ → ℕ → Bool
+atLevel n xs b l x = eqb (getD xs (b + x) 0) (suc (n + l))
 
 -- The expansion has come to label l. Every node nearer than l is settled, at no more than l; q is not settled.
 pub record Counted (g : Network) (P : List ℕ) (p q : ℕ) (xs : List ℕ) (b l below level : ℕ) : Type 0 where
-  pub before : (x : ℕ) → x < nodeCount g → dist g p x < l → getD xs (b + x) 0 ≢ 0
+  pub before : (x : ℕ) → x < nodeCount g → dist g p x < l → nodeCount g < getD xs (b + x) 0
   pub low : (x m : ℕ) → LabelAt (nodeCount g) xs b x m → m ≤ l
   pub nearer : below ≡ othersNearer g P p l
-  pub here : level ≡ sumOver (atLevel xs b l) (othersAt P p) (nodeCount g)
-  pub new : getD xs (b + q) 0 ≡ 0
+  pub here : level ≡ sumOver (atLevel (nodeCount g) xs b l) (othersAt P p) (nodeCount g)
+  pub new : getD xs (b + q) 0 ≤ nodeCount g
+
+-- the words of nodes that are not settled move, and no level changes
+level-moved : {n : ℕ} {xs ys : List ℕ} {b : ℕ} (l : ℕ) → Moved n xs ys b → (x : ℕ) → x < n → eqb (getD ys (b + x) 0) (suc (n + l)) ≡ eqb (getD xs (b + x) 0) (suc (n + l))
+level-moved {n} {xs} {ys} {b} l m x h =
+    elim (decLe (getD xs (b + x) 0) n) [
+      | yes k ↦
+          ne-eqb (getD ys (b + x) 0) (suc (n + l)) (λ e. absurd (omega (arith, m .others x h k)))
+          ∙ sym (ne-eqb (getD xs (b + x) 0) (suc (n + l)) (λ e. absurd (omega arith)))
+      | no k ↦ ap (λ (w : ℕ). eqb w (suc (n + l))) (m .settled x h (omega arith))
+    ]
 
 -- the tally counts as many when the expansion comes to a label
 pub came-sum : {t r : Tally} {l : ℕ} → CameTo t l r → r .below + r .level ≡ t .below + t .level
@@ -105,7 +116,7 @@ came-sum {t} {r} {l} c =
     ]
 
 -- nothing is settled yet
-pub counted-start : (g : Network) (P : List ℕ) (p q : ℕ) {xs ys : List ℕ} {b : ℕ} → q < nodeCount g → Blank xs b → Started (nodeCount g) xs ys b p
+pub counted-start : (g : Network) (P : List ℕ) (p q : ℕ) {xs ys : List ℕ} {b : ℕ} → q < nodeCount g → Blank xs b → Moved (nodeCount g) xs ys b
     → Counted g P p q ys b 0 0 0
 counted-start g P p q {xs} {ys} {b} inside blank t =
     record {
@@ -114,32 +125,32 @@ counted-start g P p q {xs} {ys} {b} inside blank t =
       nearer = sym (nearer-none g P p);
       here =
           sym
-          (sum-none (atLevel ys b 0) (othersAt P p) (nodeCount g)
-          (λ x h e. absurd (omega (arith, eqb-true (getD ys (b + x) 0) (suc 0) e, blank-word x h))));
+          (sum-none (atLevel (nodeCount g) ys b 0) (othersAt P p) (nodeCount g)
+          (λ x h e. absurd (omega (arith, eqb-true (getD ys (b + x) 0) (suc (nodeCount g + 0)) e, blank-word x h))));
       new = blank-word q inside;
     }
   where
-    blank-word : (x : ℕ) → x < nodeCount g → getD ys (b + x) 0 ≡ 0
-    blank-word x h = label-same b (t .frame) x h ∙ blank .zero (b + x) (omega arith)
+    blank-word : (x : ℕ) → x < nodeCount g → getD ys (b + x) 0 ≤ nodeCount g
+    blank-word x h = t .others x h (omega (arith, blank .zero (b + x) (omega arith)))
 
 -- the queue alone changes
-counted-same : {g : Network} {P : List ℕ} {p q : ℕ} {xs ys : List ℕ} {b l below level : ℕ} → q < nodeCount g → Kept xs ys (queueBase (nodeCount g) b)
+counted-same : {g : Network} {P : List ℕ} {p q : ℕ} {xs ys : List ℕ} {b l below level : ℕ} → q < nodeCount g → Moved (nodeCount g) xs ys b
     → Counted g P p q xs b l below level → Counted g P p q ys b l below level
 counted-same {g} {P} {p} {q} {xs} {ys} {b} {l} inside same c =
     record {
-      before = λ x h e z. c .before x h e (sym (label-same b same x h) ∙ z);
-      low = λ x m h. c .low x m (label-back b same x m h);
+      before = λ x h e. let k = c .before x h e in omega (arith, same .settled x h k);
+      low = λ x m h. c .low x m (label-back same x m h);
       nearer = c .nearer;
       here =
           c .here
           ∙ sym
-          (total-same (λ x. weighed (atLevel xs b l x) (othersAt P p x)) (λ x. weighed (atLevel ys b l x) (othersAt P p x)) (nodeCount g)
-          (λ x h. ap (λ (w : ℕ). weighed (eqb w (suc l)) (othersAt P p x)) (label-same b same x h)));
-      new = label-same b same q inside ∙ c .new;
+          (total-same (λ x. weighed (atLevel (nodeCount g) xs b l x) (othersAt P p x)) (λ x. weighed (atLevel (nodeCount g) ys b l x) (othersAt P p x)) (nodeCount g)
+          (λ x h. ap (λ (w : Bool). weighed w (othersAt P p x)) (level-moved l same x h)));
+      new = same .others q inside (c .new);
     }
 
 -- An entry of label l is taken, of node v.
-module _ {g : Network} (ok : Accepted g) {p : ℕ} {xs ys : List ℕ} {b settled len left l v u : ℕ} (e : Progress g p All All xs b settled len)
+module _ {g : Network} (ok : Accepted g) {p : ℕ} {xs ys : List ℕ} {b settled len left l v u : ℕ} (e : Progress g (one g p) All All xs b settled len)
     (t : Took (nodeCount g) xs ys b len left l v u) where
   -- its label is the distance, and every node that is nearer is settled
   pub taken-exact : l ≡ dist g p v
@@ -152,41 +163,41 @@ module _ {g : Network} (ok : Accepted g) {p : ℕ} {xs ys : List ℕ} {b settled
   nearer-settled x h =
       ⊎-elim
       (λ a. a)
-      (λ a. absurd (omega (arith, a .low, took-least ok (e .area) (e .searched) t (a .node) (a .label) (a .parent) (a .held))))
+      (λ a. absurd (omega (arith, a .low, took-least ok (e .area) (e .searched) t (a .node) (a .label) (a .held))))
       (frontier ok (all-leads ok p) (search-took ok (e .area) (e .searched) t) x tt (λ z. omega (arith, taken-small)))
 
   pub labels-exact : (x m : ℕ) → LabelAt (nodeCount g) ys b x m → m ≡ dist g p x
-  labels-exact x m h = e .searched .exact x m (label-back b (t .leaves .frame) x m h) tt
+  labels-exact x m h = e .searched .exact x m (label-back (took-moved ok (e .area) (e .searched) t) x m h) tt
 
   module _ {P : List ℕ} {q at below level : ℕ} (inside : q < nodeCount g) (c : Counted g P p q xs b at below level) where
     pub taken-high : at ≤ l
     taken-high =
         elim (decLt l at) [
-          | yes h ↦ absurd (c .before v (t .inside) (omega (arith, taken-exact)) (t .new))
+          | yes h ↦ absurd (omega (arith, c .before v (t .inside) (omega (arith, taken-exact)), took-waited ok (e .area) (e .searched) t))
           | no n ↦ omega arith
         ]
 
     same-queue : Counted g P p q ys b at below level
-    same-queue = counted-same inside (t .leaves .frame) c
+    same-queue = counted-same inside (took-moved ok (e .area) (e .searched) t) c
 
     -- above the present label, a node is nearer than l where it is nearer than the present label, or settled at it
-    split : at < l → (x w : ℕ) → x < nodeCount g → weighed (ltb (dist g p x) l) w ≡ weighed (ltb (dist g p x) at) w + weighed (eqb (getD ys (b + x) 0) (suc at)) w
+    split : at < l → (x w : ℕ) → x < nodeCount g → weighed (ltb (dist g p x) l) w ≡ weighed (ltb (dist g p x) at) w + weighed (eqb (getD ys (b + x) 0) (suc (nodeCount g + at))) w
     split h x w i =
         elim (decLt (dist g p x) at) [
           | yes k ↦
               let u = nearer-settled x (omega arith) in
-              rw (lt-ltb (dist g p x) l (omega arith), lt-ltb (dist g p x) at k, ne-eqb (getD ys (b + x) 0) (suc at) (λ z. omega (arith, u .is))) (omega arith)
+              rw (lt-ltb (dist g p x) l (omega arith), lt-ltb (dist g p x) at k, ne-eqb (getD ys (b + x) 0) (suc (nodeCount g + at)) (λ z. omega (arith, u .is))) (omega arith)
           | no k ↦
-              elim (ℕ-discrete (getD ys (b + x) 0) (suc at)) [
+              elim (ℕ-discrete (getD ys (b + x) 0) (suc (nodeCount g + at))) [
                 | yes z ↦
                     let d = labels-exact x at (record { inside = i; is = z }) in
-                    rw (lt-ltb (dist g p x) l (omega arith), le-ltb (dist g p x) at (omega arith), eq-eqb (getD ys (b + x) 0) (suc at) z) (omega arith)
+                    rw (lt-ltb (dist g p x) l (omega arith), le-ltb (dist g p x) at (omega arith), eq-eqb (getD ys (b + x) 0) (suc (nodeCount g + at)) z) (omega arith)
                 | no z ↦
-                    rw (le-ltb (dist g p x) l (far k z), le-ltb (dist g p x) at (omega arith), ne-eqb (getD ys (b + x) 0) (suc at) z)
+                    rw (le-ltb (dist g p x) l (far k z), le-ltb (dist g p x) at (omega arith), ne-eqb (getD ys (b + x) 0) (suc (nodeCount g + at)) z)
               ]
         ]
       where
-        far : (dist g p x < at → ⊥) → getD ys (b + x) 0 ≢ suc at → l ≤ dist g p x
+        far : (dist g p x < at → ⊥) → getD ys (b + x) 0 ≢ suc (nodeCount g + at) → l ≤ dist g p x
         far k z =
             elim (decLt (dist g p x) l) [
               | yes y ↦
@@ -204,19 +215,19 @@ module _ {g : Network} (ok : Accepted g) {p : ℕ} {xs ys : List ℕ} {b settled
           others-are g P p l,
           others-are g P p at,
           total-split (λ x. weighed (ltb (dist g p x) l) (othersAt P p x)) (λ x. weighed (ltb (dist g p x) at) (othersAt P p x))
-              (λ x. weighed (atLevel ys b at x) (othersAt P p x)) (nodeCount g) (λ x i. split h x (othersAt P p x) i),
+              (λ x. weighed (atLevel (nodeCount g) ys b at x) (othersAt P p x)) (nodeCount g) (λ x i. split h x (othersAt P p x) i),
         )
 
     risen : at < l → Counted g P p q ys b l (below + level) 0
     risen h =
         record {
-          before = λ x i k z. omega (arith, nearer-settled x k .is);
+          before = λ x i k. omega (arith, nearer-settled x k .is);
           low = λ x m k. omega (arith, same-queue .low x m k);
           nearer = sym (nearer-risen h);
           here =
               sym
-              (sum-none (atLevel ys b l) (othersAt P p) (nodeCount g)
-              (λ x i e. absurd (omega (arith, h, same-queue .low x l (record { inside = i; is = eqb-true (getD ys (b + x) 0) (suc l) e })))));
+              (sum-none (atLevel (nodeCount g) ys b l) (othersAt P p) (nodeCount g)
+              (λ x i e. absurd (omega (arith, h, same-queue .low x l (record { inside = i; is = eqb-true (getD ys (b + x) 0) (suc (nodeCount g + l)) e })))));
           new = same-queue .new;
         }
 
@@ -241,39 +252,47 @@ module _ {g : Network} (ok : Accepted g) {p : ℕ} {xs ys : List ℕ} {b settled
   -- the entry's node is settled at l, and its arcs are followed
   module _ {P : List ℕ} {q below level : ℕ} (inside : q < nodeCount g) (other : v ≢ q) (c : Counted g P p q ys b l below level) {ws : List ℕ} {more : ℕ}
       (f : Followed g (settledAs (nodeCount g) ys b settled v l) ws b left more v l (length (neighboursOf g v))) where
-    word-v : getD ws (b + v) 0 ≡ suc l
-    word-v = label-taken ok e t (f .frame)
+    area : Area (nodeCount g) ys b settled left
+    area = took-area ok (e .area) (e .searched) t
 
-    word : (x : ℕ) → x < nodeCount g → x ≢ v → getD ws (b + x) 0 ≡ getD ys (b + x) 0
-    word = label-others ok e t (f .frame)
+    new : getD ys (b + v) 0 ≡ 0
+    new = took-word ok (e .area) (e .searched) t
 
-    level-settled : sumOver (atLevel ws b l) (othersAt P p) (nodeCount g) ≡ level + othersAt P p v
+    word-v : getD ws (b + v) 0 ≡ suc (nodeCount g + l)
+    word-v = settle-marks ok area l (t .inside) new (f .frame) .here .is
+
+    others : (x : ℕ) → x < nodeCount g → x ≢ v → getD (settledAs (nodeCount g) ys b settled v l) (b + x) 0 ≡ getD ys (b + x) 0
+    others = others-settle area v l (t .inside) new
+
+    level-settled : sumOver (atLevel (nodeCount g) ws b l) (othersAt P p) (nodeCount g) ≡ level + othersAt P p v
     level-settled =
         let z =
-        total-at (λ x. weighed (atLevel ys b l x) (othersAt P p x)) (λ x. weighed (atLevel ws b l x) (othersAt P p x)) v (nodeCount g) (t .inside)
-        (λ x h n. ap (λ (w : ℕ). weighed (eqb w (suc l)) (othersAt P p x)) (word x h n)) in
-        let was : weighed (atLevel ys b l v) (othersAt P p v) ≡ 0 = rw (ne-eqb (getD ys (b + v) 0) (suc l) (λ k. omega (arith, took-word ok e t))) in
-        let is : weighed (atLevel ws b l v) (othersAt P p v) ≡ othersAt P p v = rw (eq-eqb (getD ws (b + v) 0) (suc l) word-v) in
+        total-at (λ x. weighed (atLevel (nodeCount g) ys b l x) (othersAt P p x)) (λ x. weighed (atLevel (nodeCount g) ws b l x) (othersAt P p x)) v (nodeCount g) (t .inside)
+        (λ x h n.
+        ap (λ (w : Bool). weighed w (othersAt P p x))
+        (level-moved l (f .frame) x h ∙ ap (λ (w : ℕ). eqb w (suc (nodeCount g + l))) (others x h n))) in
+        let was : weighed (atLevel (nodeCount g) ys b l v) (othersAt P p v) ≡ 0 = rw (ne-eqb (getD ys (b + v) 0) (suc (nodeCount g + l)) (λ k. omega (arith, new))) in
+        let is : weighed (atLevel (nodeCount g) ws b l v) (othersAt P p v) ≡ othersAt P p v = rw (eq-eqb (getD ws (b + v) 0) (suc (nodeCount g + l)) word-v) in
         omega (arith, z, was, is, c .here)
 
     pub counted-settled : Counted g P p q ws b l below (level + othersAt P p v)
     counted-settled =
         record {
           before =
-              λ x h k z.
+              λ x h k.
               elim (ℕ-discrete x v) [
                 | yes y ↦ omega (arith, word-v, ap (λ (m : ℕ). getD ws (b + m) 0) y)
-                | no n ↦ c .before x h k (sym (word x h n) ∙ z)
+                | no n ↦ let d = c .before x h k in omega (arith, others x h n, f .frame .settled x h (omega (arith, others x h n)))
               ];
           low =
               λ x m h.
               elim (ℕ-discrete x v) [
                 | yes y ↦ omega (arith, word-v, ap (λ (m : ℕ). getD ws (b + m) 0) y, h .is)
-                | no n ↦ c .low x m (record { inside = h .inside; is = sym (word x (h .inside) n) ∙ h .is })
+                | no n ↦ c .low x m (record { inside = h .inside; is = sym (others x (h .inside) n) ∙ label-back (f .frame) x m h .is })
               ];
           nearer = c .nearer;
           here = sym level-settled;
-          new = word q inside (λ y. other (sym y)) ∙ c .new;
+          new = f .frame .others q inside (omega (arith, others q inside (λ y. other (sym y)), c .new));
         }
 
     -- the same, as the tally counts it
@@ -304,8 +323,8 @@ module _ {g : Network} (ok : Accepted g) {p : ℕ} {xs ys : List ℕ} {b settled
       ]
 
 -- no entry is left: q can't be reached
-pub answer-none : {g : Network} (ok : Accepted g) {P : List ℕ} {p q : ℕ} {xs ys : List ℕ} {b settled len l below level : ℕ} (k : ℕ)
-    → Progress g p All All xs b settled len → Emptied (nodeCount g) xs ys b len → Counted g P p q xs b l below level → false ≡ verified g P p q k
+pub answer-none : {g : Network} (ok : Accepted g) {P : List ℕ} {p q : ℕ} {xs : List ℕ} {b settled len l below level : ℕ} (k : ℕ)
+    → Progress g (one g p) All All xs b settled len → len ≡ 0 → Counted g P p q xs b l below level → false ≡ verified g P p q k
 answer-none {g} ok {P} {p} {q} k e t c =
     not-reached g P p q k
     (elim (ℕ-discrete (dist g p q) NONE) [

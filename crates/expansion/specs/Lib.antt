@@ -1,8 +1,8 @@
 -- What the contracts of this crate cite. The theorems stand in proofs/.
 pub mod Queue
 pub mod Tags
+pub mod NodeQueue
 pub mod Area
-pub mod Room
 pub mod Taken
 pub mod Expand
 pub mod Distances

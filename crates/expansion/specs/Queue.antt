@@ -1,5 +1,5 @@
--- The queue: a binary heap in a list of words. Entry i is two words, its distance at 2 i and its tag at 2 i + 1. Entries are ordered by one
--- number, the key; the entries 2 i + 1 and 2 i + 2 are the children of entry i, and no entry has a key less than its parent's.
+-- The queue: a binary heap in a list of words. Entry i is two words, its tag at 2 i and its distance at 2 i + 1: its key, as a machine has a 64-bit
+-- number. Entries are ordered by one number, the key; the entries 2 i + 1 and 2 i + 2 are the children of entry i, and no entry has a key less than its parent's.
 -- Assumes nothing.
 use mathlib.Core.Path.{_≡_}
 use mathlib.Core.Logic.{_⊎_, _≢_, _↔_}
@@ -13,7 +13,7 @@ keyOf distance tag = distance * 4294967296 + tag
 
 -- the key of entry i
 unfoldable pub keyAt : List ℕ → ℕ → ℕ
-keyAt xs i = keyOf (getD xs (2 * i) 0) (getD xs (2 * i + 1) 0)
+keyAt xs i = keyOf (getD xs (2 * i + 1) 0) (getD xs (2 * i) 0)
 
 -- the index of entry i's parent
 abbrev pub parentOf : ℕ → ℕ
@@ -88,8 +88,8 @@ pub record ClearedAt (xs ys : List ℕ) (at : ℕ) : Type 0 where
 -- ys is xs with entry i made (distance, tag)
 pub record Put (xs ys : List ℕ) (i distance tag : ℕ) : Type 0 where
   pub size : length ys ≡ length xs
-  pub first : getD ys (2 * i) 0 ≡ distance
-  pub second : getD ys (2 * i + 1) 0 ≡ tag
+  pub first : getD ys (2 * i) 0 ≡ tag
+  pub second : getD ys (2 * i + 1) 0 ≡ distance
   pub words : (j : ℕ) → j ≢ 2 * i → j ≢ 2 * i + 1 → getD ys j 0 ≡ getD xs j 0
   pub here : keyAt ys i ≡ keyOf distance tag
   pub other : (j : ℕ) → j ≢ i → keyAt ys j ≡ keyAt xs j

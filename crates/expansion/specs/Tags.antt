@@ -11,3 +11,7 @@ tagNode tag = tag / 65536
 
 abbrev pub tagParent : ℕ → ℕ
 tagParent tag = tag % 65536
+
+-- the node of the entry with the key
+abbrev pub nodeOf : ℕ → ℕ
+nodeOf key = tagNode (key % 4294967296)

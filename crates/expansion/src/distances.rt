@@ -9,6 +9,7 @@ ghost use Rattle.expansion.specs.Expand.{CanExpand, SettledAll, wordDist
 ghost use Rattle.expansion.specs.Distances.{DistancesLeft};
 use crate::step;
 use crate::step::Taken;
+use network::arcs::wide;
 use network::distance::Distance;
 
 // Settles every node that can be reached from the source, each with its distance. Returns how many.
@@ -44,27 +45,28 @@ pub fn settle_all(
     }
 }
 
-// Writes the distances that n label words stand for.
+// Writes the distances that n seats stand for.
 fn write_distances(words: &[u32], answers: &mut [u32], n: usize)
     requires { ⌜ (n ≤ length (now words)) × (n ≤ length (now answers)) ⌝ }
-    ensures { λ _. ⌜ now (answers .exit) ≡ answered (tabulate (λ v. wordDistance (getD (now (words .entry)) v 0)) n) (now (answers .entry)) ⌝ }
+    ensures { λ _. ⌜ now (answers .exit) ≡ answered (tabulate (λ v. wordDistance n (getD (now (words .entry)) v 0)) n) (now (answers .entry)) ⌝ }
 {
     let mut v = 0;
     while v < n {
-        let distance = distance_of(words[v]);
+        let distance = distance_of(n, words[v]);
         answers[v] = distance.value;
         v += 1;
     }
 }
 
-// The distance that a label word stands for.
-pub fn distance_of(word: u32) -> Distance
-    ensures { λ r. ⌜ r .value ≡ wordDistance word ⌝ }
+// The distance that a node's seat stands for.
+pub fn distance_of(n: usize, word: u32) -> Distance
+    ensures { λ r. ⌜ r .value ≡ wordDistance n word ⌝ }
 {
-    if word == 0 {
+    let all = wide(word);
+    if all <= n {
         return Distance::new(Distance::NONE);
     }
-    Distance::new(word - 1)
+    Distance::new(word - 1 - n as u32)
 }
 
 // The distances from a node. The area is blank before and after.

@@ -1,5 +1,5 @@
-// The queue: a binary heap in a lent slice of words, least entry first. Entry i is two words, its distance at 2 i and its tag at 2 i + 1, and
-// entries are ordered by one number, the key: distance * 2^32 + tag. Words behind the queue's entries are zero, so that a queue
+// The queue: a binary heap in a lent slice of words, least entry first. Entry i is two words, its tag at 2 i and its distance at 2 i + 1, and
+// entries are ordered by one number, the key: distance * 2^32 + tag. So the words are those of the key, the lower one first: one load reads it. Words behind the queue's entries are zero, so that a queue
 // that is popped empty or cleared is all zero.
 ghost use mathlib.Core.Path.{_≡_};
 ghost use Prim.Native.Nat.{_+_, _*_, _≤_, _<_};
@@ -24,7 +24,7 @@ fn key_at(q: &[u32], i: usize) -> u64
     requires { ⌜ 2 * i + 2 ≤ length (now q) ⌝ }
     ensures { λ r. ⌜ r ≡ keyAt (now (q .entry)) i ⌝ }
 {
-    key_of(q[2 * i], q[2 * i + 1])
+    key_of(q[2 * i + 1], q[2 * i])
 }
 
 // Stores an entry as entry i.
@@ -32,17 +32,17 @@ fn put(q: &mut [u32], i: usize, distance: u32, tag: u32)
     requires { ⌜ 2 * i + 2 ≤ length (now q) ⌝ }
     ensures { λ _. ⌜ Put (now (q .entry)) (now (q .exit)) i distance tag ⌝ }
 {
-    q[2 * i] = distance;
-    q[2 * i + 1] = tag;
+    q[2 * i] = tag;
+    q[2 * i + 1] = distance;
 }
 
 // Copies the entry at `from` over the one at `to`.
 fn copy(q: &mut [u32], from: usize, to: usize)
     requires { ⌜ (2 * to + 2 ≤ length (now q)) × (2 * from + 2 ≤ length (now q)) ⌝ }
-    ensures { λ _. ⌜ Put (now (q .entry)) (now (q .exit)) to (getD (now (q .entry)) (2 * from) 0) (getD (now (q .entry)) (2 * from + 1) 0) ⌝ }
+    ensures { λ _. ⌜ Put (now (q .entry)) (now (q .exit)) to (getD (now (q .entry)) (2 * from + 1) 0) (getD (now (q .entry)) (2 * from) 0) ⌝ }
 {
-    let distance = q[2 * from];
-    let tag = q[2 * from + 1];
+    let tag = q[2 * from];
+    let distance = q[2 * from + 1];
     put(q, to, distance, tag);
 }
 
@@ -101,19 +101,22 @@ fn choose_index(a: u64, b: u64, x: usize, y: usize) -> usize
     if b < a { y } else { x }
 }
 
-// Fills the hole as `sink` does, given the keys a and b of its two children. It reads the keys of all four grandchildren before it knows which two
-// of them come next, so that the waits for memory of two levels overlap. It counts as `sink` does.
+// Fills the hole as `sink` does, given the keys a and b of its two children and the lesser of both. It reads the keys of all four grandchildren before
+// it knows which two of them come next, so that the waits for memory of two levels overlap: as it compares them too, the back end can't put off a load
+// until then. It counts as `sink` does.
 fn sink_ahead(
     q: &mut [u32],
     len: usize,
     hole: usize,
     a: u64,
     b: u64,
+    least: u64,
     distance: u32,
     tag: u32,
 ) -> usize
     requires { ⌜ CanSink (now q) len hole (keyOf distance tag) ⌝ }
     requires { ⌜ Children (now q) len hole a b ⌝ }
+    requires { ⌜ Chosen a b a b least ⌝ }
     ensures { λ _. ⌜ Filled (now (q .entry)) (now (q .exit)) len hole (keyOf distance tag) ⌝ }
     ensures { λ r. ⌜ Sank (now (q .entry)) (now (q .exit)) len hole (keyOf distance tag) r ⌝ }
 {
@@ -123,14 +126,16 @@ fn sink_ahead(
         let d = key_at(q, below + 1);
         let e = key_at(q, below + 2);
         let f = key_at(q, below + 3);
-        let least = choose_key(a, b, a, b);
         let key = key_of(distance, tag);
         if least < key {
             let child = choose_index(a, b, 2 * hole + 1, 2 * hole + 2);
             copy(q, child, hole);
             let next_a = choose_key(a, b, c, e);
             let next_b = choose_key(a, b, d, f);
-            sink_ahead(q, len, child, next_a, next_b, distance, tag) + 1
+            let under_left = choose_key(c, d, c, d);
+            let under_right = choose_key(e, f, e, f);
+            let next = choose_key(a, b, under_left, under_right);
+            sink_ahead(q, len, child, next_a, next_b, next, distance, tag) + 1
         } else {
             put(q, hole, distance, tag);
             1
@@ -152,7 +157,8 @@ fn sink_first(q: &mut [u32], len: usize, distance: u32, tag: u32) -> usize
     if AHEAD_FROM <= len {
         let a = key_at(q, 1);
         let b = key_at(q, 2);
-        sink_ahead(q, len, 0, a, b, distance, tag)
+        let least = choose_key(a, b, a, b);
+        sink_ahead(q, len, 0, a, b, least, distance, tag)
     } else {
         sink(q, len, 0, distance, tag)
     }
@@ -193,11 +199,11 @@ pub fn pop(q: &mut [u32], len: usize) -> Entry
     requires { ⌜ 0 < len ⌝ }
     ensures { λ r. ⌜ Popped (now (q .entry)) (now (q .exit)) len (keyOf (r .distance) (r .tag)) ⌝ }
 {
-    let distance = q[0];
-    let tag = q[1];
+    let tag = q[0];
+    let distance = q[1];
     let last = len - 1;
-    let last_distance = q[2 * last];
-    let last_tag = q[2 * last + 1];
+    let last_tag = q[2 * last];
+    let last_distance = q[2 * last + 1];
     put(q, last, 0, 0);
     if last == 0 {
         return Entry { distance, tag };

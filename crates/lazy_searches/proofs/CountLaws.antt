@@ -16,7 +16,7 @@ use Rattle.lazy_searches.specs.Lazy.{visitBase, isLess, CanCount, Rises,
 pub counted-same : {n : ℕ} {xs : List ℕ} {b l c u : ℕ} → CountedNode n xs xs b l c u
 counted-same = record { size = refl; words = λ i h. refl; count = inl refl }
 
-pub counted-more : {n : ℕ} {xs : List ℕ} {b l c u : ℕ} → u < length xs → isLess (getD xs (visitBase n + u) 0) (getD xs (b + u) 0) l ≡ true
+pub counted-more : {n : ℕ} {xs : List ℕ} {b l c u : ℕ} → u < length xs → isLess n (getD xs (visitBase n + u) 0) (getD xs (b + u) 0) l ≡ true
     → CountedNode n xs (set xs u (getD xs u 0 + c)) b l c u
 counted-more {xs} {c} {u} h e =
     record {

@@ -9,7 +9,7 @@ use native.Mathlib.Decide.{decLt}
 use native.Mathlib.Omega.{arith}
 use lib.ListN.{length, getD, set, take, drop, length-set, List·getD-eq-default}
 use lib.Seq.{getD-set-same, getD-set-other, getD-take, length-take-le}
-use borrow.Author.Tests.{eq-eqb, ne-eqb, leb-true, ltb-true, lt-ltb}
+use borrow.Author.Tests.{le-leb, lt-leb, leb-true, ltb-true, lt-ltb}
 use Rattle.network.specs.Network.{Network, nodeCount}
 use Rattle.network.specs.Distance.{dist}
 use Rattle.network.specs.Points.{lockers, isListed}
@@ -25,11 +25,11 @@ use Rattle.searches.proofs.FlagLaws.{listed-verified, verified-listed}
 use Rattle.lazy_searches.proofs.Places.{place-labelled, places-distinct}
 
 -- the test, for a node that the search has not settled, and for one that it has
-less-ahead : (near word l : ℕ) → word ≡ 0 → isLess near word l ≡ true → near ≤ l
-less-ahead near word l z e = leb-true near l (rw (eq-eqb word 0 z) at e)
+less-ahead : (n near word l : ℕ) → word ≤ n → isLess n near word l ≡ true → near ≤ l + n
+less-ahead n near word l z e = leb-true near (l + n) (rw (le-leb word n z) at e)
 
-less-behind : (near word l : ℕ) → word ≢ 0 → isLess near word l ≡ true → near < word
-less-behind near word l n e = ltb-true near word (rw (ne-eqb word 0 n) at e)
+less-behind : (n near word l : ℕ) → n < word → isLess n near word l ≡ true → near < word
+less-behind n near word l h e = ltb-true near word (rw (lt-leb word n h) at e)
 
 module _ {g : Network} {P : List ℕ} {q k : ℕ} {xs : List ℕ} {b v : ℕ} (c : CanDiscover g P q k xs b v) where
   fits : b ≤ length xs
@@ -90,6 +90,7 @@ module _ {g : Network} {P : List ℕ} {q k : ℕ} {xs : List ℕ} {b v : ℕ} (c
     pub can-count : {more : ℕ} → more ≤ 255 → CanCount (nodeCount g) (zs ++ drop b xs) b (r .settled) more
     can-count byte =
         record {
+          bound = c .accepted .few;
           low = omega (arith, c .base);
           fits = omega (arith, c .fits, visit-size);
           few = few;
@@ -128,11 +129,11 @@ module _ {g : Network} {P : List ℕ} {q k : ℕ} {xs : List ℕ} {b v : ℕ} (c
 
       -- the point is nearer to u than the site
       word : (u : ℕ) → Stands (nodeCount g) (zs ++ drop b xs) (visitBase (nodeCount g)) (r .settled) u → u < nodeCount g
-          → getD (zs ++ drop b xs) (visitBase (nodeCount g) + u) 0 ≡ suc (dist g v u)
+          → getD (zs ++ drop b xs) (visitBase (nodeCount g) + u) 0 ≡ suc (nodeCount g + dist g v u)
       word u s h =
           let e = sym (place (s .place) (s .low)) ∙ s .is in
           let d = word-label {n = nodeCount g} {xs = zs} (visitBase (nodeCount g)) u h (rw e at (place-labelled (w .area) (s .place) (s .low))) in
-          inner (visitBase (nodeCount g) + u) (omega (arith, c .base)) ∙ d .1 .is ∙ ap suc (w .exact u (d .0) (d .1))
+          inner (visitBase (nodeCount g) + u) (omega (arith, c .base)) ∙ d .1 .is ∙ ap (λ (m : ℕ). suc (nodeCount g + m)) (w .exact u (d .0) (d .1))
 
       -- ---- Its area is cleared.
       module _ {vs : List ℕ} (e : Wiped (take b us) vs (visitBase (nodeCount g))) where
@@ -165,8 +166,8 @@ module _ {g : Network} {P : List ℕ} {q k : ℕ} {xs : List ℕ} {b v : ℕ} (c
             (record {
               byte = omega (arith, byte .0, byte .1);
               more = omega (arith, byte .0, low-word u (omega arith), a .1 .more, front u (omega arith));
-              ahead = λ z. less-ahead (suc (dist g v u)) (getD xs (b + u) 0) l z less;
-              behind = λ m y. omega (arith, y .is, less-behind (suc (dist g v u)) (getD xs (b + u) 0) l (omega (arith, y .is)) less);
+              ahead = λ z. omega (arith, less-ahead (nodeCount g) (suc (nodeCount g + dist g v u)) (getD xs (b + u) 0) l z less);
+              behind = λ m y. omega (arith, y .is, less-behind (nodeCount g) (suc (nodeCount g + dist g v u)) (getD xs (b + u) 0) l (omega (arith, y .is)) less);
             }))
             (t .counts u h)
 

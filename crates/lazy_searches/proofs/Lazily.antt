@@ -2,11 +2,11 @@
 -- are nearer to it than the site; so a node with a count of k is beaten.
 -- Assumes nothing.
 use Prim.Native.Nat.{ℕ, _+_, _*_, _≤_, _<_}
-use mathlib.Core.Path.{_≡_, sym, ap, _∙_}
+use mathlib.Core.Path.{_≡_, ap, _∙_}
 use mathlib.Core.Bool.{false}
 use mathlib.Core.Logic.{_⊎_, inl, inr, ⊎-elim}
 use mathlib.Core.List.{List}
-use native.Mathlib.Decide.{ℕ-discrete}
+use native.Mathlib.Decide.{decLe}
 use native.Mathlib.Omega.{arith}
 use lib.ListN.{length, getD, replicate, length-replicate}
 use Rattle.network.specs.Network.{Network, nodeCount, neighboursOf}
@@ -19,15 +19,18 @@ use Rattle.network.proofs.Tests.{bool-cases}
 use Rattle.network.proofs.Totals.{total-more, weighed-le, weighed-most}
 use Rattle.network.proofs.Distances.{dist-symmetric}
 use Rattle.network.proofs.Rank.{nearer-passes, passes-nearer}
-use Rattle.expansion.specs.Area.{queueBase, Kept, Started, Took, Emptied, Followed, Wiped}
-use Rattle.expansion.proofs.AreaLaws.{room, settledAs, label-same}
-use Rattle.expansion.proofs.AreaSearch.{word-label, label-back, took-held}
+use Rattle.expansion.specs.Queue.{keyOf}
+use Rattle.expansion.specs.Tags.{tagOf}
+use Rattle.expansion.specs.NodeQueue.{PushedNode}
+use Rattle.expansion.specs.Area.{queueBase, Moved, Took, Followed, Wiped}
+use Rattle.expansion.proofs.AreaLaws.{moved-same, settledAs}
+use Rattle.expansion.proofs.AreaSearch.{word-label, label-back, took-moved}
 use Rattle.expansion.proofs.Progress.{took-place}
 use Rattle.expansion.proofs.Settled.{zero-blank}
 use Rattle.searches.specs.Eager.{isFound}
 use Rattle.lazy_searches.specs.Lazy.{visitBase, CanDiscover, CountedBy, Discovered, CanExplore}
 use Rattle.searches.proofs.Beaten.{Unbeaten, Part, part-marked, beaten-part}
-use Rattle.expansion.proofs.Stopping.{kept-same}
+use Rattle.lazy_searches.proofs.Parents.{parent-low}
 use Rattle.lazy_searches.proofs.LazySearch.{Discovering, Arrived, discovering-start, took-unverified, label-least, discovering-dropped, Joins, joined, joins-grow, shrinks, tells-joined, arrive, front, discovering-stopped, discovering-opened, discovered-listed}
 
 -- the lockers of v are nearer too
@@ -62,9 +65,9 @@ pub record Lazily (g : Network) (P : List ℕ) (q k : ℕ) (xs : List ℕ) (b se
   pub few : (u : ℕ) → u < nodeCount g → getD xs u 0 ≤ 255 * settled
 
 -- the node v is verified, where it is a point, and not yet settled
-pub record Arriving (g : Network) (P : List ℕ) (q k most : ℕ) (ys : List ℕ) (b settled left l v : ℕ) : Type 0 where
+pub record Arriving (g : Network) (P : List ℕ) (q k : ℕ) (ys : List ℕ) (b settled left l v : ℕ) : Type 0 where
   pub verified : List ℕ
-  pub arrived : Arrived g P verified q k most ys b (nodeCount g) settled left l v
+  pub arrived : Arrived g P verified q k ys b (nodeCount g) settled left l v
   pub blank : (j : ℕ) → visitBase (nodeCount g) ≤ j → j < b → getD ys j 0 ≡ 0
   pub counts : Counts g verified q k ys
   pub few : (u : ℕ) → u < nodeCount g → getD ys u 0 ≤ 255 * (settled + 1)
@@ -80,7 +83,7 @@ module _ {g : Network} {P : List ℕ} {q b : ℕ} {s₀ : List ℕ} (c : CanExpl
   pub low : nodeCount g + nodeCount g ≤ b
   low = omega (arith, c .base)
 
-  pub lazily-start : {k : ℕ} {xs : List ℕ} → Started (nodeCount g) s₀ xs b q → Lazily g P q k xs b 0 1
+  pub lazily-start : {k : ℕ} {xs : List ℕ} → PushedNode (nodeCount g) s₀ xs b (queueBase (nodeCount g) b) 0 (keyOf 0 (tagOf q q)) → Lazily g P q k xs b 0 1
   lazily-start {k} {xs} t =
       record {
         verified = replicate (nodeCount g) 0;
@@ -91,22 +94,22 @@ module _ {g : Network} {P : List ℕ} {q b : ℕ} {s₀ : List ℕ} (c : CanExpl
       }
     where
       word : (j : ℕ) → j < b → getD xs j 0 ≡ 0
-      word j h = t .frame .words j (omega arith) ∙ c .blank .zero j (omega arith)
+      word j h = t .frame .before j h ∙ c .blank .zero j (omega arith)
 
   -- ---- An entry is taken.
   module _ {k : ℕ} {xs : List ℕ} {settled len : ℕ} (e : Lazily g P q k xs b settled len) {ys : List ℕ} {left l v u : ℕ}
       (t : Took (nodeCount g) xs ys b len left l v u) where
     front-taken : (i : ℕ) → i < b → getD ys i 0 ≡ getD xs i 0
-    front-taken i h = t .leaves .frame .words i (omega arith)
+    front-taken i h = t .popped .frame .before i h
 
     counts-taken : Counts g (e .verified) q k ys
     counts-taken = record { most = λ x h o. rw (front-taken x (omega (arith, low))) (e .counts .most x h o) }
 
     pub parent-inside : u < nodeCount g
-    parent-inside = took-held ok (e .searched .progress .area) (e .searched .progress .searched) t .parent
+    parent-inside = parent-low ok (e .searched .progress) t (e .searched .came)
 
     pub node-fits : (x : ℕ) → x < nodeCount g → x < length ys
-    node-fits x h = omega (arith, low, e .searched .progress .size, t .leaves .frame .size)
+    node-fits x h = omega (arith, low, e .searched .progress .area .queue .room, t .popped .frame .size)
 
     -- it is dropped
     pub lazily-dropped : (k ≤ getD ys v 0) ⊎ (k ≤ getD ys u 0) → Lazily g P q k ys b settled left
@@ -132,7 +135,7 @@ module _ {g : Network} {P : List ℕ} {q b : ℕ} {s₀ : List ℕ} (c : CanExpl
           points = c .points;
           site = c .site;
           base = c .base;
-          fits = omega (arith, e .searched .progress .size, t .leaves .frame .size);
+          fits = omega (arith, e .searched .progress .area .queue .room, t .popped .frame .size);
           inside = t .inside;
           small = λ x h. rw (front-taken x (omega (arith, low))) (omega (arith, e .few x h, took-place ok (e .searched .progress) t, ok .few));
           blank = λ j h m. front-taken j m ∙ e .blank j h m;
@@ -140,30 +143,40 @@ module _ {g : Network} {P : List ℕ} {q b : ℕ} {s₀ : List ℕ} (c : CanExpl
         }
 
     module _ {zs : List ℕ} (d : Discovered g P q k ys zs b v l) where
+      moved : Moved (nodeCount g) xs ys b
+      moved = took-moved ok (e .searched .progress .area) (e .searched .progress .searched) t
+
+      unsettled : (x : ℕ) → x < nodeCount g → getD ys (b + x) 0 ≤ nodeCount g → getD xs (b + x) 0 ≤ nodeCount g
+      unsettled x h z =
+          elim (decLe (getD xs (b + x) 0) (nodeCount g)) [
+            | yes y ↦ y
+            | no y ↦ absurd (omega (arith, moved .settled x h (omega arith)))
+          ]
+
       -- a node that is counted: the point is nearer to it than the site
       nearer : (x : ℕ) → x < nodeCount g → Unbeaten g (e .verified) q k x → CountedBy g P ys zs b l v x → dist g x v < dist g x q
       nearer x h o r =
-          elim (ℕ-discrete (getD ys (b + x) 0) 0) [
+          elim (decLe (getD ys (b + x) 0) (nodeCount g)) [
             | yes z ↦
                 omega (
                   arith,
                   r .ahead z,
-                  label-least ok low (e .searched) t x h (sym (label-same b (t .leaves .frame) x h) ∙ z) o,
+                  label-least ok low (e .searched) t x h (unsettled x h z) o,
                   dist-symmetric ok x v,
                   dist-symmetric ok x q,
                 )
             | no n ↦
-                let m = word-label {n = nodeCount g} {xs = ys} b x h n in
+                let m = word-label {n = nodeCount g} {xs = ys} b x h (omega arith) in
                 omega (
                   arith,
                   r .behind (m .0) (m .1),
-                  e .searched .progress .searched .exact x (m .0) (label-back b (t .leaves .frame) x (m .0) (m .1)) o,
+                  e .searched .progress .searched .exact x (m .0) (label-back moved x (m .0) (m .1)) o,
                   dist-symmetric ok x v,
                   dist-symmetric ok x q,
                 )
           ]
 
-      pub discovered : Arriving g P q k (room g xs b len) zs b settled left l v
+      pub discovered : Arriving g P q k zs b settled left l v
       discovered =
           record {
             verified = j .0;
@@ -205,8 +218,8 @@ module _ {g : Network} {P : List ℕ} {q b : ℕ} {s₀ : List ℕ} (c : CanExpl
               (d .counts x h)
 
   -- ---- The node is settled.
-  module _ {k most : ℕ} {ys : List ℕ} {settled left l v : ℕ} (a : Arriving g P q k most ys b settled left l v) where
-    module _ {ws : List ℕ} (same : Kept (settledAs (nodeCount g) ys b settled v l) ws (queueBase (nodeCount g) b)) where
+  module _ {k : ℕ} {ys : List ℕ} {settled left l v : ℕ} (a : Arriving g P q k ys b settled left l v) where
+    module _ {ws : List ℕ} (same : Moved (nodeCount g) (settledAs (nodeCount g) ys b settled v l) ws b) where
       kept-front : (i : ℕ) → i < b → getD ws i 0 ≡ getD ys i 0
       kept-front = front ok low (a .arrived) same
 
@@ -226,8 +239,8 @@ module _ {g : Network} {P : List ℕ} {q b : ℕ} {s₀ : List ℕ} (c : CanExpl
     -- the search stops behind it
     stopped : k ≤ getD (settledAs (nodeCount g) ys b settled v l) v 0 → Lazily g P q k (settledAs (nodeCount g) ys b settled v l) b (settled + 1) left
     stopped full =
-        next kept-same
-        (discovering-stopped ok low (a .arrived) (closed (counts-kept kept-same) v (a .arrived .took .inside) full))
+        next moved-same
+        (discovering-stopped ok low (a .arrived) (closed (counts-kept moved-same) v (a .arrived .took .inside) full))
 
     pub lazily-stopped : {ws : List ℕ} → ws ≡ settledAs (nodeCount g) ys b settled v l → k ≤ getD ws v 0 → Lazily g P q k ws b (settled + 1) left
     lazily-stopped e full = rw e (stopped (rw e at full))
@@ -237,7 +250,7 @@ module _ {g : Network} {P : List ℕ} {q b : ℕ} {s₀ : List ℕ} (c : CanExpl
     lazily-opened w = next (w .frame) (discovering-opened ok low (a .arrived) w)
 
   -- ---- No entry waits.
-  pub lazily-listed : {k : ℕ} {xs ys : List ℕ} {settled len : ℕ} → Lazily g P q k xs b settled len → Emptied (nodeCount g) xs ys b len → select (isFound (nodeCount g) ys) (nodeCount g) ≡ listed g P q k
+  pub lazily-listed : {k : ℕ} {xs : List ℕ} {settled len : ℕ} → Lazily g P q k xs b settled len → len ≡ 0 → select (isFound (nodeCount g) xs) (nodeCount g) ≡ listed g P q k
   lazily-listed e t = discovered-listed ok low (e .searched) t
 
 -- all words are 0 at the end

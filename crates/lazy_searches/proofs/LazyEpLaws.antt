@@ -16,12 +16,15 @@ use Rattle.network.specs.Accepted.{Accepted}
 use Rattle.network.specs.Walk.{here}
 use Rattle.network.specs.Count.{weighed, select}
 use Rattle.network.specs.Points.{lockers, marked, listed}
-use Rattle.expansion.specs.Area.{queueBase, Kept, Started, Took, Emptied, Followed}
+use Rattle.expansion.specs.Queue.{keyOf}
+use Rattle.expansion.specs.Tags.{tagOf}
+use Rattle.expansion.specs.NodeQueue.{PushedNode}
+use Rattle.expansion.specs.Area.{queueBase, LabelAt, Kept, Moved, Took, Followed}
 use Rattle.expansion.specs.Visited.{CanVisit, VerifyLeft}
-use Rattle.expansion.proofs.AreaLaws.{room, settledAs, frame-settle, label-same}
-use Rattle.expansion.proofs.AreaSearch.{took-exact, took-held}
-use Rattle.expansion.proofs.Progress.{took-small, room-taken}
-use Rattle.expansion.proofs.Beside.{Beside, beside-first, drop-beside, label-beside, progress-beside, room-beside}
+use Rattle.expansion.proofs.AreaLaws.{moved-same, settledAs, frame-settle}
+use Rattle.expansion.proofs.AreaSearch.{label-back, took-area, took-word, took-moved, took-exact}
+use Rattle.expansion.proofs.Progress.{took-small}
+use Rattle.expansion.proofs.Beside.{Beside, beside-first, drop-beside, label-beside, beside-label-at, progress-beside}
 use Rattle.searches.specs.Eager.{isFound}
 use Rattle.lazy_searches.specs.Second.{wordsBase, secondBase, secondQueue, idAt, wordAt, Second, Sound, CanSpread, Admitted, CanAdvance, Advanced, isBelow, Closed}
 use Rattle.lazy_searches.specs.LazyEp.{CanSettle, ClosedBehind, TakenBack, CanDiscover, PointVerified, Discovered}
@@ -30,8 +33,8 @@ use Rattle.searches.proofs.Listed.{listed-parts}
 use Rattle.searches.proofs.FlagLaws.{verified-listed, listed-verified}
 use Rattle.network.proofs.Lends.{row-fits, first-size, first-part, first-after}
 use Rattle.network.proofs.Totals.{total-same}
-use Rattle.expansion.proofs.Stopping.{kept-same}
 use Rattle.lazy_searches.proofs.SecondLaws.{sound-part, second-start, sound-start, closed-nearer}
+use Rattle.lazy_searches.proofs.Parents.{came-beside, parent-low}
 use Rattle.lazy_searches.proofs.LazySearch.{joins-here, Discovering, Arrived, leads, tells-same, discovering-start, label-exact, discovering-dropped, joined, joins-grow, tells-joined, arrive, front, discovering-stopped, discovering-opened, discovered-listed}
 
 -- ---- The first words of a list.
@@ -245,9 +248,9 @@ pub record Extending (g : Network) (P : List ℕ) (q k : ℕ) (xs : List ℕ) (i
   pub second : Second g (take inner xs) k waiting
   pub sound : Sound g marks (take inner xs) k waiting
 
-pub record Coming (g : Network) (P : List ℕ) (q k most : ℕ) (xs : List ℕ) (inner outer settled left waiting l v : ℕ) : Type 0 where
+pub record Coming (g : Network) (P : List ℕ) (q k : ℕ) (xs : List ℕ) (inner outer settled left waiting l v : ℕ) : Type 0 where
   pub marks : List ℕ
-  pub arrived : Arrived g P marks q k most xs outer 0 settled left l v
+  pub arrived : Arrived g P marks q k xs outer 0 settled left l v
   pub blank : (j : ℕ) → inner ≤ j → j < outer → getD xs j 0 ≡ 0
   pub second : Second g (take inner xs) k waiting
   pub sound : Sound g marks (take inner xs) k waiting
@@ -264,6 +267,7 @@ discovering-beside ok same flags d =
       whole = d .whole;
       come = λ p h m. rw (label-beside same p) (d .come p h m);
       met = λ p h m n. d .met p h m (rw (label-beside same p) at n);
+      came = came-beside same (d .came);
     }
 
 module _ {g : Network} {P s₀ : List ℕ} {inner outer q k : ℕ} (c : CanSettle g P s₀ inner outer q k) where
@@ -276,7 +280,7 @@ module _ {g : Network} {P s₀ : List ℕ} {inner outer q k : ℕ} (c : CanSettl
   inner-low : inner ≤ outer
   inner-low = omega (arith, c .middle)
 
-  pub extending-start : {xs : List ℕ} → Started (nodeCount g) s₀ xs outer q → Extending g P q k xs inner outer 0 1 0
+  pub extending-start : {xs : List ℕ} → PushedNode (nodeCount g) s₀ xs outer (queueBase (nodeCount g) outer) 0 (keyOf 0 (tagOf q q)) → Extending g P q k xs inner outer 0 1 0
   extending-start {xs} t =
       record {
         marks = _;
@@ -287,7 +291,7 @@ module _ {g : Network} {P s₀ : List ℕ} {inner outer q k : ℕ} (c : CanSettl
       }
     where
       zero : (j : ℕ) → j < outer → getD xs j 0 ≡ 0
-      zero j l = t .frame .words j (omega arith) ∙ c .blank .zero j (omega arith)
+      zero j l = t .frame .before j l ∙ c .blank .zero j (omega arith)
 
       room-inner : inner ≤ length xs
       room-inner = omega (arith, t .frame .size, c .size, inner-low)
@@ -305,13 +309,13 @@ module _ {g : Network} {P s₀ : List ℕ} {inner outer q k : ℕ} (c : CanSettl
     d = e .discovering
 
     fits-old : outer ≤ length xs
-    fits-old = omega (arith, d .progress .size)
+    fits-old = omega (arith, d .progress .area .queue .room)
 
     fits-taken : outer ≤ length ys
-    fits-taken = omega (arith, fits-old, t .leaves .frame .size)
+    fits-taken = omega (arith, fits-old, t .popped .frame .size)
 
     same-part : take inner ys ≡ take inner xs
-    same-part = take-same inner xs ys (omega (arith, fits-old, inner-low)) (t .leaves .frame .size) (λ i h. t .leaves .frame .words i (omega (arith, inner-low)))
+    same-part = take-same inner xs ys (omega (arith, fits-old, inner-low)) (t .popped .frame .size) (λ i h. t .popped .frame .before i (omega (arith, inner-low)))
 
     small : l + 65535 ≤ 4294836225
     small = took-small ok (d .progress) t
@@ -349,7 +353,7 @@ module _ {g : Network} {P s₀ : List ℕ} {inner outer q k : ℕ} (c : CanSettl
       sound-on = rw again (a .sound (e .marks) (rw same-part (e .sound)))
 
       blank-on : (j : ℕ) → inner ≤ j → j < outer → getD ws j 0 ≡ 0
-      blank-on j h m = advanced-beside .words j h ∙ t .leaves .frame .words j (omega arith) ∙ e .blank j h m
+      blank-on j h m = advanced-beside .words j h ∙ t .popped .frame .before j m ∙ e .blank j h m
 
       -- its entry is taken back: its node is beaten, or the node that put it in is
       back-node : Closed P (nodeCount g) ws k v l → Unbeaten g (e .marks) q k v → ⊥
@@ -359,16 +363,19 @@ module _ {g : Network} {P s₀ : List ℕ} {inner outer q k : ℕ} (c : CanSettl
           (closed-nearer ok second-on sound-on (d .whole) (t .inside) (omega (arith, small)) (closed-part inner (t .inside) (c .rows) h)))
 
       pub parent-inside : u < nodeCount g
-      parent-inside = took-held ok (d .progress .area) (d .progress .searched) t .parent
+      parent-inside = parent-low ok (d .progress) t (d .came)
 
       back-parent : ClosedBehind P (nodeCount g) ws outer k u → Unbeaten g (e .marks) q k u → ⊥
       back-parent h o =
-          let is = sym (label-same outer (t .leaves .frame) u parent-inside) ∙ sym (label-beside beside-outer u) ∙ h .is in
+          let at : LabelAt (nodeCount g) xs outer u (h .label) =
+          label-back (took-moved ok (d .progress .area) (d .progress .searched) t) u (h .label)
+          (beside-label-at beside-outer (record { inside = parent-inside; is = h .is }))
+          in
           let area = d .progress .area in
           o
-          (stops ok (e .marks) q k u (h .label) (d .progress .searched .exact u (h .label) (record { inside = parent-inside; is = is }))
+          (stops ok (e .marks) q k u (h .label) (d .progress .searched .exact u (h .label) at)
           (closed-nearer ok second-on sound-on (d .whole) parent-inside
-          (omega (arith, area .low u parent-inside (omega arith), area .counted, ok .few))
+          (omega (arith, at .is, area .low u parent-inside (omega (arith, at .is)), area .counted, ok .few))
           (closed-part inner parent-inside (c .rows) (h .closed))))
 
       pub extending-dropped : TakenBack P (nodeCount g) ws outer k v l u → Extending g P q k ws inner outer settled left waits
@@ -383,16 +390,13 @@ module _ {g : Network} {P s₀ : List ℕ} {inner outer q k : ℕ} (c : CanSettl
             sound = sound-on;
           }
 
-      pub room-back : room g ws outer left < room g xs outer len
-      room-back = omega (arith, room-beside beside-outer g left, room-taken ok (d .progress) t)
-
       pub advanced-size : length ws ≡ length xs
-      advanced-size = advanced-beside .size ∙ t .leaves .frame .size
+      advanced-size = advanced-beside .size ∙ t .popped .frame .size
 
       pub can-take-back : (secondBase (nodeCount g) k ≤ length ws) × (outer + nodeCount g ≤ length ws) × (v < nodeCount g) × (u < nodeCount g)
       can-take-back = (
         omega (arith, advanced-size, fits-old, inner-low, c .rows),
-        omega (arith, advanced-size, d .progress .size),
+        omega (arith, advanced-size, d .progress .area .queue .room),
         t .inside,
         parent-inside,
       )
@@ -454,13 +458,13 @@ module _ {g : Network} {P s₀ : List ℕ} {inner outer q k : ℕ} (c : CanSettl
         flag-before p h =
             getD-take outer ws p 0 (omega (arith, flags-low))
             ∙ flags-kept p (omega arith)
-            ∙ t .leaves .frame .words p (omega (arith, flags-low))
+            ∙ t .popped .frame .before p (omega (arith, flags-low))
             ∙ ap (λ (i : ℕ). getD xs i 0) (sym (zero-add p))
 
         flag-after : (p : ℕ) → p < nodeCount g → getD us (0 + p) 0 ≡ getD vs p 0
         flag-after p h = ap (λ (i : ℕ). getD us i 0) (zero-add p) ∙ outer-part p (omega (arith, flags-low))
 
-        pub coming : Coming g P q k (room g xs outer len) us inner outer settled left more l v
+        pub coming : Coming g P q k us inner outer settled left more l v
         coming =
             let j = joined ok flags-low d t in
             record {
@@ -483,18 +487,23 @@ module _ {g : Network} {P s₀ : List ℕ} {inner outer q k : ℕ} (c : CanSettl
             }
 
   -- ---- The node is settled.
-  module _ {most : ℕ} {xs : List ℕ} {settled left waiting l v : ℕ} (e : Coming g P q k most xs inner outer settled left waiting l v) where
-    abbrev a : Arrived g P (e .marks) q k most xs outer 0 settled left l v
+  module _ {xs : List ℕ} {settled left waiting l v : ℕ} (e : Coming g P q k xs inner outer settled left waiting l v) where
+    abbrev a : Arrived g P (e .marks) q k xs outer 0 settled left l v
     a = e .arrived
 
     fits-come : outer ≤ length xs
-    fits-come = omega (arith, a .progress .size, a .took .leaves .frame .size)
+    fits-come = omega (arith, a .progress .area .queue .room, a .took .popped .frame .size)
 
-    module _ {ws : List ℕ} (same : Kept (settledAs (nodeCount g) xs outer settled v l) ws (queueBase (nodeCount g) outer)) where
+    pub kept-settled : Kept xs (settledAs (nodeCount g) xs outer settled v l) outer
+    kept-settled =
+        frame-settle (took-area ok (a .progress .area) (a .progress .searched) (a .took)) v l (a .took .inside)
+        (took-word ok (a .progress .area) (a .progress .searched) (a .took))
+
+    module _ {ws : List ℕ} (same : Moved (nodeCount g) (settledAs (nodeCount g) xs outer settled v l) ws outer) where
       part-same : take inner ws ≡ take inner xs
       part-same =
           take-same inner xs ws (omega (arith, fits-come, inner-low))
-          (same .size ∙ frame-settle (nodeCount g) xs outer settled v l .size)
+          (same .size ∙ kept-settled .size)
           (λ i h. front ok flags-low a same i (omega (arith, inner-low)))
 
       next : {len : ℕ} → Discovering g P (e .marks) q k ws outer 0 (settled + 1) len → Extending g P q k ws inner outer (settled + 1) len waiting
@@ -508,7 +517,7 @@ module _ {g : Network} {P s₀ : List ℕ} {inner outer q k : ℕ} (c : CanSettl
           }
 
     pub can-close : (secondBase (nodeCount g) k ≤ length (settledAs (nodeCount g) xs outer settled v l)) × (v < nodeCount g)
-    can-close = (omega (arith, frame-settle (nodeCount g) xs outer settled v l .size, fits-come, inner-low, c .rows), a .took .inside)
+    can-close = (omega (arith, kept-settled .size, fits-come, inner-low, c .rows), a .took .inside)
 
     closed-beaten : Closed P (nodeCount g) (settledAs (nodeCount g) xs outer settled v l) k v l → Unbeaten g (e .marks) q k v → ⊥
     closed-beaten h o =
@@ -516,17 +525,17 @@ module _ {g : Network} {P s₀ : List ℕ} {inner outer q k : ℕ} (c : CanSettl
         o
         (stops ok (e .marks) q k v l (λ n. took-exact ok (a .progress .area) (a .progress .searched) (a .took) (leads ok (e .marks) q k) n)
         (closed-nearer ok (e .second) (e .sound) (a .whole) inside (omega (arith, took-small ok (a .progress) (a .took)))
-        (rw (part-same kept-same) at (closed-part inner inside (c .rows) h))))
+        (rw (part-same moved-same) at (closed-part inner inside (c .rows) h))))
 
     pub extending-stopped : Closed P (nodeCount g) (settledAs (nodeCount g) xs outer settled v l) k v l
         → Extending g P q k (settledAs (nodeCount g) xs outer settled v l) inner outer (settled + 1) left waiting
-    extending-stopped h = next kept-same (discovering-stopped ok flags-low a (closed-beaten h))
+    extending-stopped h = next moved-same (discovering-stopped ok flags-low a (closed-beaten h))
 
     pub extending-opened : {ws : List ℕ} {more : ℕ} → Followed g (settledAs (nodeCount g) xs outer settled v l) ws outer left more v l (length (neighboursOf g v))
         → Extending g P q k ws inner outer (settled + 1) more waiting
     extending-opened w = next (w .frame) (discovering-opened ok flags-low a w)
 
   -- ---- No entry waits.
-  pub extended-listed : {xs ys : List ℕ} {settled len waiting : ℕ} → Extending g P q k xs inner outer settled len waiting → Emptied (nodeCount g) xs ys outer len
-      → select (isFound 0 ys) (nodeCount g) ≡ listed g P q k
+  pub extended-listed : {xs : List ℕ} {settled len waiting : ℕ} → Extending g P q k xs inner outer settled len waiting → len ≡ 0
+      → select (isFound 0 xs) (nodeCount g) ≡ listed g P q k
   extended-listed e t = discovered-listed ok flags-low (e .discovering) t

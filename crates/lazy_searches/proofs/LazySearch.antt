@@ -2,39 +2,45 @@
 -- arcs of the nodes that M leaves unbeaten, and answers for these; more nodes are beaten when M grows. How a search tells that a node is beaten is its
 -- own affair. The found flags start at word f, before the area.
 -- Assumes nothing.
-use Prim.Native.Nat.{ℕ, _+_, _*_, _≤_, _<_}
+use Prim.Native.Nat.{ℕ, suc, _+_, _*_, _≤_, _<_}
 use mathlib.Core.Path.{_≡_, refl, sym, ap, _∙_}
-use mathlib.Core.Bool.{Bool, true, false, not, false≢true}
+use mathlib.Core.Bool.{Bool, true, false, false≢true}
 use mathlib.Core.Logic.{_≢_, _⊎_, inl, inr, ⊎-elim}
 use mathlib.Core.List.{List, _++_}
-use native.Mathlib.Decide.{ℕ-discrete}
+use native.Mathlib.Decide.{ℕ-discrete, decLe}
 use native.Mathlib.Omega.{arith}
-use lib.Dec.{eqb, ltb}
+use lib.Dec.{ltb}
 use lib.ListN.{length, getD, set, take, drop, replicate, length-set, length-replicate}
 use lib.Seq.{getD-set-same, getD-set-other, getD-take, length-take-le}
 use borrow.Author.Tests.{ltb-true}
-use Rattle.network.specs.Network.{Network, nodeCount, arcCount, neighboursOf}
+use Rattle.network.specs.Network.{Network, nodeCount, neighboursOf}
 use Rattle.network.specs.Accepted.{Accepted}
 use Rattle.network.specs.Distance.{NONE, dist}
 use Rattle.network.specs.Count.{select}
 use Rattle.network.proofs.Tests.{bool-cases}
 use Rattle.network.proofs.Distances.{dist-symmetric}
 use Rattle.network.specs.Points.{lockers, marked, isListed, listed}
-use Rattle.expansion.specs.Area.{queueBase, LabelAt, HeldAt, Kept, Blank, Started, Took, Emptied, Followed}
+use Rattle.expansion.specs.Queue.{keyOf}
+use Rattle.expansion.specs.Tags.{tagOf}
+use Rattle.expansion.specs.NodeQueue.{PushedNode}
+use Rattle.expansion.specs.Area.{queueBase, LabelAt, HeldAt, Area, Moved, Blank, Took, Followed}
+use Rattle.expansion.specs.Expand.{CanExpand}
+use Rattle.expansion.proofs.Origins.{one, one-lawful}
 use Rattle.expansion.proofs.Search.{Leads, monotone, closed-leads, frontier}
-use Rattle.expansion.proofs.Steps.{Outcome, waits, not-seen, not-open, requeue}
+use Rattle.expansion.proofs.Steps.{Outcome, waits, not-seen, requeue}
 use Rattle.expansion.proofs.Settled.{zero-blank}
-use Rattle.expansion.proofs.AreaLaws.{room, settledAs, frame-settle, label-same}
-use Rattle.expansion.proofs.AreaSearch.{AndOne, search-took, took-least, took-exact, search-finished}
-use Rattle.expansion.proofs.Progress.{Progress, progress-start, progress-settled, took-area, took-small, room-taken, room-falls, label-taken, label-others}
-use Rattle.expansion.proofs.Beside.{Beside, beside-first, label-beside, progress-beside, room-beside}
+use Rattle.expansion.proofs.AreaLaws.{moved-same, settledAs, frame-settle, others-settle}
+use Rattle.expansion.proofs.AreaSearch.{AndOne, search-took, took-area, took-word, took-moved, took-waited, took-least, took-exact, search-finished, settle-marks}
+use Rattle.expansion.proofs.Progress.{Progress, progress-begun, progress-start, progress-settled, took-small}
+use Rattle.expansion.proofs.Beside.{Beside, beside-first, label-beside, progress-beside}
 use Rattle.searches.specs.Eager.{isFound}
 use Rattle.searches.proofs.Beaten.{Unbeaten, Part, unbeaten-part, unbeaten-closed}
 use Rattle.searches.proofs.Listed.{listed-parts, lazy-open}
 use Rattle.searches.proofs.FlagLaws.{flag-right}
 use Rattle.network.proofs.Lends.{first-part}
-use Rattle.expansion.proofs.Stopping.{kept-same, room-stopped, progress-stopped, took-beside}
+use Rattle.expansion.proofs.Stopping.{progress-stopped, took-beside}
 use Rattle.searches.proofs.Selected.{select-same}
+use Rattle.lazy_searches.proofs.Parents.{AllCame, came-start, came-beside, came-took, came-stopped, came-followed, parent-seen}
 
 -- a flagged node is listed, and a listed one of M is flagged
 pub record Tells (g : Network) (P M : List ℕ) (q k : ℕ) (xs : List ℕ) (f : ℕ) : Type 0 where
@@ -47,30 +53,30 @@ Whole P M = (p : ℕ) → marked M p ≡ true → lockers P p ≤ lockers M p
 
 -- the search between two entries: M are the points settled
 pub record Discovering (g : Network) (P M : List ℕ) (q k : ℕ) (xs : List ℕ) (b f settled len : ℕ) : Type 0 where
-  pub progress : Progress g q (Unbeaten g M q k) (Unbeaten g M q k) xs b settled len
+  pub progress : Progress g (one g q) (Unbeaten g M q k) (Unbeaten g M q k) xs b settled len
   pub tells : Tells g P M q k xs f
   pub size : length M ≡ nodeCount g
   pub part : Part M P
   pub whole : Whole P M
-  pub come : (p : ℕ) → p < nodeCount g → marked M p ≡ true → getD xs (b + p) 0 ≢ 0
-  pub met : (p : ℕ) → p < nodeCount g → marked P p ≡ true → getD xs (b + p) 0 ≢ 0 → marked M p ≡ true
+  pub come : (p : ℕ) → p < nodeCount g → marked M p ≡ true → nodeCount g < getD xs (b + p) 0
+  pub met : (p : ℕ) → p < nodeCount g → marked P p ≡ true → nodeCount g < getD xs (b + p) 0 → marked M p ≡ true
+  pub came : AllCame g q xs b len
 
--- the search when an entry of v at label l is taken, and v, where it is a point, is verified and among M, but not yet settled; before it took the entry
--- it had no more room than `most`
-pub record Arrived (g : Network) (P M : List ℕ) (q k most : ℕ) (ys : List ℕ) (b f settled left l v : ℕ) : Type 0 where
+-- the search when an entry of v at label l is taken, and v, where it is a point, is verified and among M, but not yet settled
+pub record Arrived (g : Network) (P M : List ℕ) (q k : ℕ) (ys : List ℕ) (b f settled left l v : ℕ) : Type 0 where
   pub before : List ℕ
   pub len : ℕ
   pub parent : ℕ
-  pub progress : Progress g q (Unbeaten g M q k) (Unbeaten g M q k) before b settled len
+  pub progress : Progress g (one g q) (Unbeaten g M q k) (Unbeaten g M q k) before b settled len
   pub took : Took (nodeCount g) before ys b len left l v parent
-  pub had : room g before b len ≤ most
   pub tells : Tells g P M q k ys f
   pub size : length M ≡ nodeCount g
   pub part : Part M P
   pub whole : Whole P M
   pub here : marked P v ≡ true → marked M v ≡ true
-  pub come : (p : ℕ) → p < nodeCount g → p ≢ v → marked M p ≡ true → getD ys (b + p) 0 ≢ 0
-  pub met : (p : ℕ) → p < nodeCount g → p ≢ v → marked P p ≡ true → getD ys (b + p) 0 ≢ 0 → marked M p ≡ true
+  pub come : (p : ℕ) → p < nodeCount g → p ≢ v → marked M p ≡ true → nodeCount g < getD ys (b + p) 0
+  pub met : (p : ℕ) → p < nodeCount g → p ≢ v → marked P p ≡ true → nodeCount g < getD ys (b + p) 0 → marked M p ≡ true
+  pub came : AllCame g q ys b left
 
 -- M′ is M, with the lockers of P at v
 pub record Joins (P M M′ : List ℕ) (v : ℕ) : Type 0 where
@@ -84,8 +90,8 @@ joins-other j x n = ap (ltb 0) (j .others x n)
 pub joins-here : {P M M′ : List ℕ} {v : ℕ} → Joins P M M′ v → marked M′ v ≡ marked P v
 joins-here j = ap (ltb 0) (j .own)
 
-pub leads : {g : Network} → Accepted g → (M : List ℕ) (q k : ℕ) → Leads g q (Unbeaten g M q k) (Unbeaten g M q k)
-leads ok M q k = closed-leads ok (unbeaten-closed ok M q k)
+pub leads : {g : Network} → Accepted g → (M : List ℕ) (q k : ℕ) → Leads g (one g q) (Unbeaten g M q k) (Unbeaten g M q k)
+leads ok M q k = closed-leads (one-lawful ok q) (unbeaten-closed ok M q k)
 
 -- flags that are the same words
 pub tells-same : {g : Network} {P M : List ℕ} {q k f : ℕ} {xs ys : List ℕ} → ((i : ℕ) → i < f + nodeCount g → getD ys i 0 ≡ getD xs i 0) → Tells g P M q k xs f → Tells g P M q k ys f
@@ -97,23 +103,27 @@ tells-same {f} same t =
 
 module _ {g : Network} (ok : Accepted g) {P : List ℕ} {q k b f : ℕ} (low : f + nodeCount g ≤ b) where
   -- ---- The search begins: no point is verified.
-  pub discovering-start : {xs ys : List ℕ} → Blank xs f → queueBase (nodeCount g) b + 2 * (arcCount g + 1) ≤ length xs → q < nodeCount g
-      → Started (nodeCount g) xs ys b q → Discovering g P (replicate (nodeCount g) 0) q k ys b f 0 1
+  pub discovering-start : {xs ys : List ℕ} → Blank xs f → queueBase (nodeCount g) b + 2 * nodeCount g ≤ length xs → q < nodeCount g
+      → PushedNode (nodeCount g) xs ys b (queueBase (nodeCount g) b) 0 (keyOf 0 (tagOf q q)) → Discovering g P (replicate (nodeCount g) 0) q k ys b f 0 1
   discovering-start {xs} {ys} blank size site t =
       record {
-        progress = progress-start ok (record { zero = λ j h. blank .zero j (omega arith) }) size site t;
+        progress = progress-start ok can t;
         tells =
             record {
-              sound = λ p h n. absurd (n (t .frame .words (f + p) (omega arith) ∙ blank .zero (f + p) (omega arith)));
+              sound = λ p h n. absurd (n (t .frame .before (f + p) (omega (arith, low)) ∙ blank .zero (f + p) (omega arith)));
               told = λ p h m a. absurd (none p m);
             };
         size = length-replicate (nodeCount g) 0;
         part = λ x. omega (arith, zero-blank {xs = replicate (nodeCount g) 0} (nodeCount g) 0 refl .zero x (omega arith));
         whole = λ p m. absurd (none p m);
         come = λ p h m. absurd (none p m);
-        met = λ p h m n. absurd (n (t .frame .words (b + p) (omega arith) ∙ blank .zero (b + p) (omega arith)));
+        met = λ p h m n. absurd (omega (arith, progress-begun ok can t .others p h (omega (arith, blank .zero (b + p) (omega (arith, low)))), n));
+        came = came-start site t;
       }
     where
+      can : CanExpand g xs b q
+      can = record { accepted = ok; inside = site; blank = record { zero = λ j h. blank .zero j (omega (arith, low)) }; size = size }
+
       none : (x : ℕ) → marked (replicate (nodeCount g) 0) x ≡ true → ⊥
       none x m =
           omega (
@@ -124,52 +134,69 @@ module _ {g : Network} (ok : Accepted g) {P : List ℕ} {q k b f : ℕ} (low : f
 
   module _ {M : List ℕ} {xs : List ℕ} {settled len : ℕ} (d : Discovering g P M q k xs b f settled len)
       {ys : List ℕ} {left l v u : ℕ} (t : Took (nodeCount g) xs ys b len left l v u) where
+    moved : Moved (nodeCount g) xs ys b
+    moved = took-moved ok (d .progress .area) (d .progress .searched) t
+
+    -- a node is settled in ys as it is in xs
+    settled-on : (p : ℕ) → p < nodeCount g → nodeCount g < getD xs (b + p) 0 → nodeCount g < getD ys (b + p) 0
+    settled-on p h w = omega (arith, moved .settled p h w)
+
+    settled-back : (p : ℕ) → p < nodeCount g → nodeCount g < getD ys (b + p) 0 → nodeCount g < getD xs (b + p) 0
+    settled-back p h w =
+        elim (decLe (getD xs (b + p) 0) (nodeCount g)) [
+          | yes z ↦ absurd (omega (arith, moved .others p h z))
+          | no z ↦ omega arith
+        ]
+
     -- ---- What an entry tells that is taken. Its node was not verified; its label is the distance where its node is unbeaten, and no more than the
     -- distance of any unbeaten node that is not settled.
     pub took-unverified : marked M v ≡ false
-    took-unverified = ⊎-elim (λ m. absurd (d .come v (t .inside) m (t .new))) (λ m. m) (bool-cases (marked M v))
+    took-unverified = ⊎-elim (λ m. absurd (omega (arith, d .come v (t .inside) m, took-waited ok (d .progress .area) (d .progress .searched) t))) (λ m. m) (bool-cases (marked M v))
 
     pub label-exact : Unbeaten g M q k v → l ≡ dist g q v
     label-exact o = took-exact ok (d .progress .area) (d .progress .searched) t (leads ok M q k) o
 
-    pub label-least : (x : ℕ) → x < nodeCount g → getD xs (b + x) 0 ≡ 0 → Unbeaten g M q k x → l ≤ dist g q x
+    pub label-least : (x : ℕ) → x < nodeCount g → getD xs (b + x) 0 ≤ nodeCount g → Unbeaten g M q k x → l ≤ dist g q x
     label-least x h z o =
         elim (ℕ-discrete (dist g q x) NONE) [
           | yes e ↦ omega (arith, took-small ok (d .progress) t)
           | no n ↦
               ⊎-elim
-              (λ a. absurd (omega (arith, a .is, label-same b (t .leaves .frame) x h)))
-              (λ w. omega (arith, w .low, took-least ok (d .progress .area) (d .progress .searched) t (w .node) (w .label) (w .parent) (w .held)))
+              (λ a. absurd (omega (arith, a .is, moved .others x h z)))
+              (λ w. omega (arith, w .low, took-least ok (d .progress .area) (d .progress .searched) t (w .node) (w .label) (w .held)))
               (frontier ok (leads ok M q k) (search-took ok (d .progress .area) (d .progress .searched) t) x o n)
         ]
 
     -- ---- The entry is dropped: its node is beaten, or the node that put it in is.
     dropped-tells : Tells g P M q k ys f
-    dropped-tells = tells-same (λ i h. t .leaves .frame .words i (omega (arith, low))) (d .tells)
+    dropped-tells = tells-same (λ i h. t .popped .frame .before i (omega (arith, low))) (d .tells)
 
     pub discovering-dropped : (Unbeaten g M q k v → ⊥) ⊎ (Unbeaten g M q k u → ⊥) → Discovering g P M q k ys b f settled left
     discovering-dropped closed =
         record {
           progress =
               record {
-                area = took-area ok (d .progress) t;
+                area = took-area ok (d .progress .area) (d .progress .searched) t;
                 searched =
                     requeue ok (search-took ok (d .progress .area) (d .progress .searched) t) becomes
-                    (λ x m w h. search-took ok (d .progress .area) (d .progress .searched) t .held-walk x m w (inl h));
-                left = omega (arith, room-taken ok (d .progress) t, d .progress .left);
-                size = omega (arith, d .progress .size, t .leaves .frame .size);
+                    (λ x m h. search-took ok (d .progress .area) (d .progress .searched) t .held-walk x m (inl h));
               };
           tells = dropped-tells;
           size = d .size;
           part = d .part;
           whole = d .whole;
-          come = λ p h m. rw (label-same b (t .leaves .frame) p h) (d .come p h m);
-          met = λ p h m n. d .met p h m (rw (label-same b (t .leaves .frame) p h) at n);
+          come = λ p h m. settled-on p h (d .come p h m);
+          met = λ p h m n. d .met p h m (settled-back p h n);
+          came = came-took ok (d .progress) t (d .came);
         }
       where
-        becomes : (x m w : ℕ) → AndOne (nodeCount g) ys b left v l u x m w → Outcome (Unbeaten g M q k) (Unbeaten g M q k) (LabelAt (nodeCount g) ys b) (HeldAt (nodeCount g) ys b left) x m w
-        becomes x m w (inl h) = waits h
-        becomes x m w (inr e) = ⊎-elim (λ n. not-seen (rw (e .0) n)) (λ n. not-open (rw (e .2) n)) closed
+        becomes : (x m : ℕ) → AndOne (nodeCount g) ys b left v l x m → Outcome (Unbeaten g M q k) (Unbeaten g M q k) (LabelAt (nodeCount g) ys b) (HeldAt (nodeCount g) ys b left) x m
+        becomes x m (inl h) = waits m (omega arith) h
+        becomes x m (inr e) =
+            ⊎-elim
+            (λ n. not-seen (rw (e .0) n))
+            (λ n. not-seen (rw (e .0) (parent-seen ok (d .progress) t (d .came) (leads ok M q k) (unbeaten-closed ok M q k) n)))
+            closed
 
     -- ---- Its node is verified, where it is a point.
     -- the points verified then
@@ -230,18 +257,18 @@ module _ {g : Network} (ok : Accepted g) {P : List ℕ} {q k b f : ℕ} (low : f
       -- words before the area changed, and the flags are right
       module _ {zs : List ℕ} (new : Beside ys zs b) (tells : Tells g P M′ q k zs f) where
         fits : b ≤ length xs
-        fits = omega (arith, d .progress .size)
+        fits = omega (arith, d .progress .area .queue .room)
 
         same : length (take b zs) ≡ length (take b xs)
-        same = omega (arith, length-take-le b xs fits, length-take-le b zs (omega (arith, fits, new .size, t .leaves .frame .size)))
+        same = omega (arith, length-take-le b xs fits, length-take-le b zs (omega (arith, fits, new .size, t .popped .frame .size)))
 
         old : Beside xs (take b zs ++ drop b xs) b
         old = beside-first b xs (take b zs) fits same
 
-        word : (p : ℕ) → p < nodeCount g → getD zs (b + p) 0 ≡ getD xs (b + p) 0
-        word p h = label-beside new p ∙ label-same b (t .leaves .frame) p h
+        word : (p : ℕ) → getD zs (b + p) 0 ≡ getD ys (b + p) 0
+        word p = label-beside new p
 
-        pub arrive : Arrived g P M′ q k (room g xs b len) zs b f settled left l v
+        pub arrive : Arrived g P M′ q k zs b f settled left l v
         arrive =
             record {
               before = take b zs ++ drop b xs;
@@ -251,30 +278,40 @@ module _ {g : Network} (ok : Accepted g) {P : List ℕ} {q k b f : ℕ} (low : f
               took =
                   took-beside (nodeCount g) old new
                   (λ i h. sym (first-part b xs (take b zs) fits same i h ∙ getD-take b zs i 0 h)) t;
-              had = omega (arith, room-beside old g len);
               tells = tells;
               size = j .size ∙ d .size;
               part = joins-part;
               whole = joins-whole;
               here = λ m. joins-here j ∙ m;
-              come = λ p h n m. rw (word p h) (d .come p h (sym (joins-other j p n) ∙ m));
-              met = λ p h n m w. joins-other j p n ∙ d .met p h m (rw (word p h) at w);
+              come = λ p h n m. rw (word p) (settled-on p h (d .come p h (sym (joins-other j p n) ∙ m)));
+              met = λ p h n m w. joins-other j p n ∙ d .met p h m (settled-back p h (rw (word p) at w));
+              came = came-beside new (came-took ok (d .progress) t (d .came));
             }
           where
-            shrunk : {ws : List ℕ} → Progress g q (Unbeaten g M q k) (Unbeaten g M q k) ws b settled len → Progress g q (Unbeaten g M′ q k) (Unbeaten g M′ q k) ws b settled len
-            shrunk p = record { area = p .area; searched = monotone shrinks shrinks (p .searched); left = p .left; size = p .size }
+            shrunk : {ws : List ℕ} → Progress g (one g q) (Unbeaten g M q k) (Unbeaten g M q k) ws b settled len → Progress g (one g q) (Unbeaten g M′ q k) (Unbeaten g M′ q k) ws b settled len
+            shrunk p = record { area = p .area; searched = monotone shrinks shrinks (p .searched) }
 
   -- ---- The node is settled; the search stops behind it or follows its arcs.
-  module _ {M : List ℕ} {most : ℕ} {ys : List ℕ} {settled left l v : ℕ} (a : Arrived g P M q k most ys b f settled left l v) where
-    module _ {ws : List ℕ} (same : Kept (settledAs (nodeCount g) ys b settled v l) ws (queueBase (nodeCount g) b)) where
+  module _ {M : List ℕ} {ys : List ℕ} {settled left l v : ℕ} (a : Arrived g P M q k ys b f settled left l v) where
+    area : Area (nodeCount g) ys b settled left
+    area = took-area ok (a .progress .area) (a .progress .searched) (a .took)
+
+    free : getD ys (b + v) 0 ≡ 0
+    free = took-word ok (a .progress .area) (a .progress .searched) (a .took)
+
+    module _ {ws : List ℕ} (same : Moved (nodeCount g) (settledAs (nodeCount g) ys b settled v l) ws b) where
       pub front : (i : ℕ) → i < b → getD ws i 0 ≡ getD ys i 0
-      front i h = same .words i (omega arith) ∙ frame-settle (nodeCount g) ys b settled v l .words i h
+      front i h = same .before i h ∙ frame-settle area v l (a .took .inside) free .words i h
 
-      other : (p : ℕ) → p < nodeCount g → p ≢ v → getD ws (b + p) 0 ≡ getD ys (b + p) 0
-      other = label-others ok (a .progress) (a .took) same
+      here : getD ws (b + v) 0 ≡ suc (nodeCount g + l)
+      here = settle-marks ok area l (a .took .inside) free same .here .is
 
-      next : {more : ℕ} → Progress g q (Unbeaten g M q k) (Unbeaten g M q k) ws b (settled + 1) more → Discovering g P M q k ws b f (settled + 1) more
-      next p =
+      other : (p : ℕ) → p < nodeCount g → p ≢ v → getD (settledAs (nodeCount g) ys b settled v l) (b + p) 0 ≡ getD ys (b + p) 0
+      other = others-settle area v l (a .took .inside) free
+
+      next : {more : ℕ} → Progress g (one g q) (Unbeaten g M q k) (Unbeaten g M q k) ws b (settled + 1) more → AllCame g q ws b more
+          → Discovering g P M q k ws b f (settled + 1) more
+      next p all =
           record {
             progress = p;
             tells = tells-same (λ i h. front i (omega (arith, low))) (a .tells);
@@ -283,40 +320,40 @@ module _ {g : Network} (ok : Accepted g) {P : List ℕ} {q k b f : ℕ} (low : f
             whole = a .whole;
             come = come;
             met = met;
+            came = all;
           }
         where
-          come : (x : ℕ) → x < nodeCount g → marked M x ≡ true → getD ws (b + x) 0 ≢ 0
+          come : (x : ℕ) → x < nodeCount g → marked M x ≡ true → nodeCount g < getD ws (b + x) 0
           come x h m =
               elim (ℕ-discrete x v) [
-                | yes e ↦ rw e (λ z. omega (arith, label-taken ok (a .progress) (a .took) same))
-                | no n ↦ rw (other x h n) (a .come x h n m)
+                | yes e ↦ rw e (omega (arith, here))
+                | no n ↦ let w = a .come x h n m in omega (arith, other x h n, same .settled x h (omega (arith, other x h n)))
               ]
 
-          met : (x : ℕ) → x < nodeCount g → marked P x ≡ true → getD ws (b + x) 0 ≢ 0 → marked M x ≡ true
+          met : (x : ℕ) → x < nodeCount g → marked P x ≡ true → nodeCount g < getD ws (b + x) 0 → marked M x ≡ true
           met x h m w =
               elim (ℕ-discrete x v) [
                 | yes e ↦ rw e (a .here (rw e at m))
-                | no n ↦ a .met x h n m (rw (other x h n) at w)
+                | no n ↦
+                    elim (decLe (getD (settledAs (nodeCount g) ys b settled v l) (b + x) 0) (nodeCount g)) [
+                      | yes z ↦ absurd (omega (arith, same .others x h z))
+                      | no z ↦ a .met x h n m (omega (arith, other x h n))
+                    ]
               ]
 
     -- the search stops behind the node
-    pub room-left : room g (settledAs (nodeCount g) ys b settled v l) b left < most
-    room-left = omega (arith, room-stopped ok (a .progress) (a .took), a .had)
-
     pub discovering-stopped : (Unbeaten g M q k v → ⊥) → Discovering g P M q k (settledAs (nodeCount g) ys b settled v l) b f (settled + 1) left
-    discovering-stopped closed = next kept-same (progress-stopped ok (a .progress) (a .took) (leads ok M q k) closed)
+    discovering-stopped closed =
+        next moved-same (progress-stopped ok (a .progress) (a .took) (leads ok M q k) closed) (came-stopped ok (a .progress) (a .took) (a .came))
 
     -- or follows its arcs
     module _ {ws : List ℕ} {more : ℕ} (w : Followed g (settledAs (nodeCount g) ys b settled v l) ws b left more v l (length (neighboursOf g v))) where
-      pub room-followed : room g ws b more < most
-      room-followed = omega (arith, room-falls ok (a .progress) (a .took) (leads ok M q k) w, a .had)
-
       pub discovering-opened : Discovering g P M q k ws b f (settled + 1) more
-      discovering-opened = next (w .frame) (progress-settled ok (a .progress) (a .took) (leads ok M q k) w)
+      discovering-opened =
+          next (w .frame) (progress-settled ok (a .progress) (a .took) (leads ok M q k) w) (came-followed ok (a .progress) (a .took) w (a .came))
 
   -- ---- No entry waits: the found flags are those of the listed points.
-  module _ {M : List ℕ} {xs : List ℕ} {settled len : ℕ} (d : Discovering g P M q k xs b f settled len)
-      {ys : List ℕ} (t : Emptied (nodeCount g) xs ys b len) where
+  module _ {M : List ℕ} {xs : List ℕ} {settled len : ℕ} (d : Discovering g P M q k xs b f settled len) (z : len ≡ 0) where
     listed-verified : (p : ℕ) → p < nodeCount g → isListed g P q k p ≡ true → marked M p ≡ true
     listed-verified p h a = by (marked M p) refl
       where
@@ -325,15 +362,14 @@ module _ {g : Network} (ok : Accepted g) {P : List ℕ} {q k b f : ℕ} (low : f
         by false e =
             let s = listed-parts g P q k p .0 a in
             let w =
-            search-finished ok (d .progress .area) (d .progress .searched) t (leads ok M q k) p (lazy-open g P M q k p a (d .part) e)
+            search-finished ok (d .progress .area) (d .progress .searched) z (leads ok M q k) p (lazy-open g P M q k p a (d .part) e)
             (omega (arith, s .reach, dist-symmetric ok q p))
             in absurd (false≢true (sym e ∙ d .met p h (s .mark) (omega (arith, w .is))))
 
-    pub discovered-all : (p : ℕ) → p < nodeCount g → isFound f ys p ≡ isListed g P q k p
+    pub discovered-all : (p : ℕ) → p < nodeCount g → isFound f xs p ≡ isListed g P q k p
     discovered-all p h =
-        ap (λ (w : ℕ). not (eqb w 0)) (t .leaves .frame .words (f + p) (omega (arith, low)))
-        ∙ flag-right (getD xs (f + p) 0) (isListed g P q k p) (λ a. d .tells .told p h (listed-verified p h a) a) (d .tells .sound p h)
+        flag-right (getD xs (f + p) 0) (isListed g P q k p) (λ a. d .tells .told p h (listed-verified p h a) a) (d .tells .sound p h)
 
-    pub discovered-listed : select (isFound f ys) (nodeCount g) ≡ listed g P q k
+    pub discovered-listed : select (isFound f xs) (nodeCount g) ≡ listed g P q k
     unfolding listed
-    discovered-listed = select-same (isFound f ys) (isListed g P q k) (nodeCount g) discovered-all
+    discovered-listed = select-same (isFound f xs) (isListed g P q k) (nodeCount g) discovered-all

@@ -5,10 +5,10 @@ use mathlib.Core.Path.{_≡_, refl, sym, ap, _∙_}
 use mathlib.Core.Bool.{Bool, true, false, not, false≢true}
 use mathlib.Core.Logic.{_≢_}
 use mathlib.Core.List.{List}
-use native.Mathlib.Decide.{ℕ-discrete}
+use native.Mathlib.Decide.{ℕ-discrete, decLt}
 use native.Mathlib.Omega.{arith}
 use lib.ListN.{getD}
-use borrow.Author.Tests.{eqb-false, not-true}
+use borrow.Author.Tests.{leb-false, not-true}
 use Rattle.network.specs.Count.{count, bit}
 use Rattle.network.proofs.Counts.{count-none, count-all, count-but, without, without-other, count-without, without-not}
 use Rattle.expansion.specs.Area.{unsettled, Area}
@@ -51,25 +51,25 @@ placed-most f p n (suc m) t h = by (λ u. placed-most f p n m u) (p m) refl
 
 module _ {n : ℕ} {xs : List ℕ} {b settled len : ℕ} (a : Area n xs b settled len) where
   abbrev labelled : ℕ → Bool
-  labelled v = not (unsettled xs b v)
+  labelled v = not (unsettled n xs b v)
 
   -- as many nodes are labelled as are settled
-  both : (m : ℕ) → count labelled m + count (unsettled xs b) m ≡ m
+  both : (m : ℕ) → count labelled m + count (unsettled n xs b) m ≡ m
   unfolding count
   both zero = refl
-  both (suc m) = omega (arith, both m, bits (unsettled xs b m))
+  both (suc m) = omega (arith, both m, bits (unsettled n xs b m))
     where
       bits : (x : Bool) → bit (not x) + bit x ≡ 1
       bits true = refl
       bits false = refl
 
   -- no place can be spared
-  needed : (i : ℕ) → i < settled → ((v : ℕ) → v < n → getD xs (b + v) 0 ≢ 0 → Placed (λ j. getD xs (b + n + j) 0) (without (λ _. true) i) settled v) → ⊥
+  needed : (i : ℕ) → i < settled → ((v : ℕ) → v < n → n < getD xs (b + v) 0 → Placed (λ j. getD xs (b + n + j) 0) (without (λ _. true) i) settled v) → ⊥
   needed i h all =
       omega (
         arith,
         placed-most (λ j. getD xs (b + n + j) 0) (without (λ _. true) i) n settled labelled
-            (λ v l e. all v l (eqb-false (getD xs (b + v) 0) 0 (not-true (unsettled xs b v) e))),
+            (λ v l e. all v l (leb-false (getD xs (b + v) 0) n (not-true (unsettled n xs b v) e))),
         count-without (λ _. true) i settled h refl,
         count-all settled,
         both n,
@@ -79,17 +79,20 @@ module _ {n : ℕ} {xs : List ℕ} {b settled len : ℕ} (a : Area n xs b settle
   other : (i j : ℕ) → j ≢ i → without (λ _. true) i j ≡ true
   other i j ne = without-other (λ _. true) i j ne
 
-  pub place-labelled : (i : ℕ) → i < settled → getD xs (b + getD xs (b + n + i) 0) 0 ≢ 0
-  place-labelled i h z =
-      needed i h
-      (λ v l w.
-      let s = a .labelled v l w in
-      record {
-        place = s .place;
-        low = s .low;
-        passes = other i (s .place) (λ e. w (ap (λ (y : ℕ). getD xs (b + y) 0) (sym (s .is) ∙ ap (λ (y : ℕ). getD xs (b + n + y) 0) e) ∙ z));
-        is = s .is;
-      })
+  pub place-labelled : (i : ℕ) → i < settled → n < getD xs (b + getD xs (b + n + i) 0) 0
+  place-labelled i h =
+      elim (decLt n (getD xs (b + getD xs (b + n + i) 0) 0)) [ yes y ↦ y | no z ↦ absurd (unlabelled z) ]
+    where
+      unlabelled : (n < getD xs (b + getD xs (b + n + i) 0) 0 → ⊥) → ⊥
+      unlabelled z = needed i h
+          (λ v l w.
+          let s = a .labelled v l w in
+          record {
+            place = s .place;
+            low = s .low;
+            passes = other i (s .place) (λ e. z (rw (sym (s .is) ∙ ap (λ (y : ℕ). getD xs (b + n + y) 0) e) at w));
+            is = s .is;
+          })
 
   pub places-distinct : (i j : ℕ) → i < settled → j < settled → getD xs (b + n + i) 0 ≡ getD xs (b + n + j) 0 → i ≡ j
   places-distinct i j h k e =

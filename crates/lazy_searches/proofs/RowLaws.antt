@@ -1,21 +1,22 @@
 -- Rows of k places: no two places meet; a place that is written; the farthest place; and the sum over all places.
 -- Assumes nothing.
 use Prim.Native.Nat.{ℕ, zero, suc, _+_, _*_, _≤_, _<_}
-use mathlib.Core.Path.{_≡_, refl, ap}
+use mathlib.Core.Path.{_≡_, refl, ap, _∙_}
 use mathlib.Core.Logic.{_≢_}
 use mathlib.Core.List.{List}
 use native.Mathlib.Decide.{ℕ-discrete, decLt}
 use native.Mathlib.Omega.{arith}
 use lib.ListN.{getD}
 use lib.Dec.{ltb}
-use borrow.Author.Tests.{ne-eqb, lt-ltb, le-ltb}
+use borrow.Author.Tests.{lt-ltb, le-ltb}
 use Rattle.network.specs.Distance.{NONE}
 use Rattle.network.specs.Count.{total, weighed, sumOver}
 use Rattle.network.specs.Points.{lockers}
 use Rattle.network.proofs.Lends.{row-fits}
 use Rattle.network.proofs.Totals.{total-next, total-upto, total-more}
 use Rattle.expansion.specs.Expand.{wordDistance}
-use Rattle.lazy_searches.specs.Second.{PlaceFor, Closed}
+use Rattle.expansion.proofs.Settled.{word-some}
+use Rattle.lazy_searches.specs.Second.{rowDistance, PlaceFor, Closed}
 
 -- rows do not meet
 pub same-place : (k u i v j : ℕ) → i < k → j < k → u * k + i ≡ v * k + j → (u ≡ v) × (i ≡ j)
@@ -30,11 +31,10 @@ same-place k u i v j h l e =
     ]
 
 -- the distance of a word: that of a place that is taken; only such a place is below l
-pub word-suc : (d : ℕ) → wordDistance (suc d) ≡ d
-unfolding wordDistance
-word-suc d = rw (ne-eqb (suc d) 0 (omega arith)) (omega arith)
+pub word-suc : (d : ℕ) → rowDistance (suc d) ≡ d
+word-suc d = let e : suc d ≡ suc (0 + d) = omega arith in ap rowDistance e ∙ word-some 0 d
 
-pub word-below : (w l : ℕ) → l ≤ NONE → wordDistance w < l → w ≢ 0
+pub word-below : (w l : ℕ) → l ≤ NONE → rowDistance w < l → w ≢ 0
 unfolding wordDistance
 word-below zero l m h e = omega arith
 word-below (suc w) l m h e = omega arith
@@ -44,7 +44,7 @@ pub record Looking (xs : List ℕ) (ids words k p d place most j : ℕ) : Type 0
   pub low : j ≤ k
   pub inside : place ≤ k
   pub from : d ≤ most
-  pub farther : place < k → d < wordDistance (getD xs (words + place) 0)
+  pub farther : place < k → d < rowDistance (getD xs (words + place) 0)
   pub absent : (i : ℕ) → i < j → getD xs (words + i) 0 ≢ 0 → getD xs (ids + i) 0 ≢ p
 
 module _ {xs : List ℕ} {ids words k p d : ℕ} where
@@ -56,7 +56,7 @@ module _ {xs : List ℕ} {ids words k p d : ℕ} where
     absent-more : (i : ℕ) → i < j + 1 → getD xs (words + i) 0 ≢ 0 → getD xs (ids + i) 0 ≢ p
     absent-more i m = elim (ℕ-discrete i j) [ yes e ↦ rw e other | no n ↦ l .absent i (omega arith) ]
 
-    pub looking-farther : (far : ℕ) → far ≡ wordDistance (getD xs (words + j) 0) → most < far → Looking xs ids words k p d j far (j + 1)
+    pub looking-farther : (far : ℕ) → far ≡ rowDistance (getD xs (words + j) 0) → most < far → Looking xs ids words k p d j far (j + 1)
     looking-farther far e m =
         record { low = omega arith; inside = omega arith; from = omega (arith, l .from); farther = λ _. omega (arith, l .from); absent = absent-more }
 
@@ -81,7 +81,7 @@ total-less f h v n l a e =
 
 -- the lockers at the first places of a row with distances below l
 abbrev pub tallyOf : List ℕ → List ℕ → ℕ → ℕ → ℕ → ℕ → ℕ
-tallyOf P xs ids words l j = sumOver (λ i. ltb (wordDistance (getD xs (words + i) 0)) l) (λ i. lockers P (getD xs (ids + i) 0)) j
+tallyOf P xs ids words l j = sumOver (λ i. ltb (rowDistance (getD xs (words + i) 0)) l) (λ i. lockers P (getD xs (ids + i) 0)) j
 
 module _ (P xs : List ℕ) (ids words l : ℕ) where
   pub tally-none : tallyOf P xs ids words l 0 ≡ 0
@@ -89,16 +89,16 @@ module _ (P xs : List ℕ) (ids words l : ℕ) where
   tally-none = refl
 
   abbrev weight : ℕ → ℕ
-  weight i = weighed (ltb (wordDistance (getD xs (words + i) 0)) l) (lockers P (getD xs (ids + i) 0))
+  weight i = weighed (ltb (rowDistance (getD xs (words + i) 0)) l) (lockers P (getD xs (ids + i) 0))
 
-  module _ (j far : ℕ) (e : far ≡ wordDistance (getD xs (words + j) 0)) where
+  module _ (j far : ℕ) (e : far ≡ rowDistance (getD xs (words + j) 0)) where
     pub tally-more : far < l → tallyOf P xs ids words l (j + 1) ≡ tallyOf P xs ids words l j + lockers P (getD xs (ids + j) 0)
     tally-more h =
-        omega (arith, total-next weight j, ap (λ b. weighed b (lockers P (getD xs (ids + j) 0))) (lt-ltb (wordDistance (getD xs (words + j) 0)) l (omega arith)))
+        omega (arith, total-next weight j, ap (λ b. weighed b (lockers P (getD xs (ids + j) 0))) (lt-ltb (rowDistance (getD xs (words + j) 0)) l (omega arith)))
 
     pub tally-same : l ≤ far → tallyOf P xs ids words l (j + 1) ≡ tallyOf P xs ids words l j
     tally-same h =
-        omega (arith, total-next weight j, ap (λ b. weighed b (lockers P (getD xs (ids + j) 0))) (le-ltb (wordDistance (getD xs (words + j) 0)) l (omega arith)))
+        omega (arith, total-next weight j, ap (λ b. weighed b (lockers P (getD xs (ids + j) 0))) (le-ltb (rowDistance (getD xs (words + j) 0)) l (omega arith)))
 
   pub tally-upto : (j k : ℕ) → j ≤ k → tallyOf P xs ids words l j ≤ tallyOf P xs ids words l k
   tally-upto j k h = total-upto weight j k h

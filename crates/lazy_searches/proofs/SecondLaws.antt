@@ -26,10 +26,9 @@ use Rattle.network.proofs.Totals.{total-same, sum-le, sum-different}
 use Rattle.expansion.specs.Queue.{PushedAt, PoppedAt, keyOf, keyAt}
 use Rattle.expansion.specs.Tags.{tagOf, tagNode, tagParent}
 use Rattle.expansion.specs.Area.{Kept}
-use Rattle.expansion.specs.Expand.{wordDistance}
-use Rattle.lazy_searches.specs.Second.{pointOf, besideOf, farOf, wordsBase, secondBase, secondQueue, idAt, wordAt, Source, Second, Sound, spread, work, PlaceFor, CanSpread, Offered, Admitted, Advanced, isBelow, Closed}
+use Rattle.lazy_searches.specs.Second.{rowDistance, pointOf, besideOf, farOf, wordsBase, secondBase, secondQueue, idAt, wordAt, Source, Second, Sound, spread, work, PlaceFor, CanSpread, Offered, Admitted, Advanced, isBelow, Closed}
 use Rattle.searches.proofs.Beaten.{Part, part-marked}
-use Rattle.expansion.proofs.Stopping.{kept-same}
+use Rattle.expansion.proofs.AreaLaws.{kept-same}
 use Rattle.network.proofs.Lends.{row-fits}
 use Rattle.lazy_searches.proofs.RowLaws.{same-place, word-suc, word-below, total-less}
 
@@ -81,8 +80,8 @@ module _ {n k : ℕ} {xs ys : List ℕ} (same : Kept xs ys (secondBase n k)) (u 
 
 pub spread-kept : (n k : ℕ) {xs ys : List ℕ} → Kept xs ys (secondBase n k) → spread n k ys ≡ spread n k xs
 spread-kept n k {xs} {ys} same =
-    total-same (λ i. wordDistance (getD xs (wordsBase n k + i) 0)) (λ i. wordDistance (getD ys (wordsBase n k + i) 0)) (n * k)
-    (λ x h. ap wordDistance (same .words (wordsBase n k + x) (omega arith)))
+    total-same (λ i. rowDistance (getD xs (wordsBase n k + i) 0)) (λ i. rowDistance (getD ys (wordsBase n k + i) 0)) (n * k)
+    (λ x h. ap rowDistance (same .words (wordsBase n k + x) (omega arith)))
 
 -- ---- The queue alone changes: what is held then is sound.
 module _ {g : Network} {k : ℕ} {xs ys : List ℕ} (same : Kept xs ys (secondBase (nodeCount g) k)) where
@@ -258,9 +257,9 @@ module _ {g : Network} {xs : List ℕ} {k len p u d i : ℕ} (c : CanSpread g xs
 
   pub taken-less : spread n k taken < spread n k xs
   taken-less =
-      total-less (λ x. wordDistance (getD xs (wordsBase n k + x) 0)) (λ x. wordDistance (getD taken (wordsBase n k + x) 0)) (u * k + i) (n * k)
+      total-less (λ x. rowDistance (getD xs (wordsBase n k + x) 0)) (λ x. rowDistance (getD taken (wordsBase n k + x) 0)) (u * k + i) (n * k)
       (omega (arith, row)) (rw (at taken, at xs, word-here, add-one d, word-suc d) (f .farther low))
-      (λ x h m. ap wordDistance (other (wordsBase n k + x) (omega (arith, row)) (omega arith)))
+      (λ x h m. ap rowDistance (other (wordsBase n k + x) (omega (arith, row)) (omega arith)))
     where
       at : (l : List ℕ) → getD l (wordsBase n k + (u * k + i)) 0 ≡ getD l words 0
       at l = let e : wordsBase n k + (u * k + i) ≡ words = omega arith in ap (λ (x : ℕ). getD l x 0) e
@@ -318,7 +317,7 @@ module _ {g : Network} {xs ys zs : List ℕ} {k len left : ℕ} (far tag : ℕ) 
   popped-node = omega (arith, a .second .nodes (keyOf far tag) (t .queue .was))
 
   -- its distance is no more than that of the first entry
-  pub popped-low : 0 < left → getD ys (secondBase (nodeCount g) k + 1) 0 < 4294967296 → far ≤ getD ys (secondBase (nodeCount g) k) 0
+  pub popped-low : 0 < left → getD ys (secondBase (nodeCount g) k) 0 < 4294967296 → far ≤ getD ys (secondBase (nodeCount g) k + 1) 0
   unfolding keyAt
   popped-low some word =
       let q = secondQueue (nodeCount g) k ys in
@@ -377,8 +376,8 @@ closed-nearer {g} {P} {M} {xs} {k} {len} {u} {l} ok second sound all h top c =
     below : ℕ → Bool
     below = isBelow (nodeCount g) k xs u l
 
-    less : (j : ℕ) → below j ≡ true → wordDistance (wordAt (nodeCount g) k xs u j) < l
-    less j a = ltb-true (wordDistance (wordAt (nodeCount g) k xs u j)) l a
+    less : (j : ℕ) → below j ≡ true → rowDistance (wordAt (nodeCount g) k xs u j) < l
+    less j a = ltb-true (rowDistance (wordAt (nodeCount g) k xs u j)) l a
 
     filled : (j : ℕ) → below j ≡ true → wordAt (nodeCount g) k xs u j ≢ 0
     filled j a = word-below (wordAt (nodeCount g) k xs u j) l top (less j a)
@@ -388,7 +387,7 @@ closed-nearer {g} {P} {M} {xs} {k} {len} {u} {l} ok second sound all h top c =
       where
         by : (w : ℕ) → wordAt (nodeCount g) k xs u j ≡ w → (d : ℕ) × Source g M u (id j) d × (d < l)
         by zero e = absurd (filled j a e)
-        by (suc d) e = (d, sound .stands u j d h m e, omega (arith, word-suc d, ap wordDistance e, less j a))
+        by (suc d) e = (d, sound .stands u j d h m e, omega (arith, word-suc d, ap rowDistance e, less j a))
 
     nearer : (j : ℕ) → j < k → below j ≡ true → (id j < nodeCount g) × (isNearer g M u l (id j) ≡ true)
     nearer j m a =

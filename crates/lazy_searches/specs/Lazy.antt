@@ -1,14 +1,14 @@
 -- What lazy, and lazy with extended pruning, leave. And of lazy alone, what its functions require and leave: its words are: counts n | found flags n
--- | the area of the verifications | the area of the search. The count and the found flag of node u are the words u and n + u.
+-- | the area of the verifications, 4 n | the area of the search, 4 n. The count and the found flag of node u are the words u and n + u.
 -- Assumes nothing.
 use Prim.Native.Nat.{ℕ, _+_, _*_, _≤_, _<_}
 use mathlib.Core.Path.{_≡_}
 use mathlib.Core.Logic.{_≢_, _⊎_}
 use mathlib.Core.Bool.{Bool, true, cond}
 use mathlib.Core.List.{List}
-use lib.Dec.{eqb, ltb, leb}
+use lib.Dec.{ltb, leb}
 use lib.ListN.{length, getD}
-use Rattle.network.specs.Network.{Network, nodeCount, arcCount}
+use Rattle.network.specs.Network.{Network, nodeCount}
 use Rattle.network.specs.Accepted.{Accepted}
 use Rattle.network.specs.Distance.{dist}
 use Rattle.network.specs.Count.{select}
@@ -28,10 +28,11 @@ abbrev pub visitBase : ℕ → ℕ
 visitBase n = 2 * n
 
 abbrev pub searchBase : Network → ℕ
-searchBase g = queueBase (nodeCount g) (visitBase (nodeCount g)) + 2 * (arcCount g + 1)
+searchBase g = queueBase (nodeCount g) (visitBase (nodeCount g)) + 2 * nodeCount g
 
 -- c lockers can be added to the counts of the nodes that a verification has settled: they are nodes, and no two are one
 pub record CanCount (n : ℕ) (xs : List ℕ) (b settled c : ℕ) : Type 0 where
+  pub bound : n ≤ 65535
   pub low : queueBase n (visitBase n) ≤ b
   pub fits : b + n ≤ length xs
   pub few : settled ≤ n
@@ -42,15 +43,15 @@ pub record CanCount (n : ℕ) (xs : List ℕ) (b settled c : ℕ) : Type 0 where
       → getD xs (visitBase n + n + i) 0 ≡ getD xs (visitBase n + n + j) 0
       → i ≡ j
 
--- A verification settled a node with label word `near`; the search has the word `word` for it, and has come to label l. Whether the verified point is
+-- A verification settled a node with the seat `near`; the search has the seat `word` for it, and has come to label l. Whether the verified point is
 -- strictly nearer to the node than the site: a node that the search has not settled is no nearer to the site than l. Equal distances never count.
-abbrev pub isLess : ℕ → ℕ → ℕ → Bool
-isLess near word l = cond (eqb word 0) (leb near l) (ltb near word)
+abbrev pub isLess : ℕ → ℕ → ℕ → ℕ → Bool
+isLess n near word l = cond (leb word n) (leb near (l + n)) (ltb near word)
 
 -- the count of u rises by c
 pub record Rises (n : ℕ) (xs ys : List ℕ) (b l c u : ℕ) : Type 0 where
   pub more : getD ys u 0 ≡ getD xs u 0 + c
-  pub less : isLess (getD xs (visitBase n + u) 0) (getD xs (b + u) 0) l ≡ true
+  pub less : isLess n (getD xs (visitBase n + u) 0) (getD xs (b + u) 0) l ≡ true
 
 pub record CountedNode (n : ℕ) (xs ys : List ℕ) (b l c u : ℕ) : Type 0 where
   pub size : length ys ≡ length xs
@@ -78,7 +79,7 @@ pub record CanDiscover (g : Network) (P : List ℕ) (q k : ℕ) (xs : List ℕ) 
 pub record CountedBy (g : Network) (P xs ys : List ℕ) (b l v u : ℕ) : Type 0 where
   pub byte : lockers P v ≤ 255
   pub more : getD ys u 0 ≡ getD xs u 0 + lockers P v
-  pub ahead : getD xs (b + u) 0 ≡ 0 → dist g v u < l
+  pub ahead : getD xs (b + u) 0 ≤ nodeCount g → dist g v u < l
   pub behind : (m : ℕ) → LabelAt (nodeCount g) xs b u m → dist g v u < m
 
 pub record Discovered (g : Network) (P : List ℕ) (q k : ℕ) (xs ys : List ℕ) (b v l : ℕ) : Type 0 where
@@ -97,7 +98,7 @@ pub record CanExplore (g : Network) (P xs : List ℕ) (b q : ℕ) : Type 0 where
   pub site : q < nodeCount g
   pub base : b ≡ searchBase g
   pub blank : Blank xs 0
-  pub size : queueBase (nodeCount g) b + 2 * (arcCount g + 1) ≤ length xs
+  pub size : queueBase (nodeCount g) b + 2 * nodeCount g ≤ length xs
 
 pub record ExploreLeft (g : Network) (P : List ℕ) (q k : ℕ) (xs ys : List ℕ) : Type 0 where
   pub size : length ys ≡ length xs

@@ -7,7 +7,7 @@ use mathlib.Core.Logic.{_≢_, _⊎_}
 use mathlib.Core.Bool.{true}
 use mathlib.Core.List.{List}
 use lib.ListN.{length, getD, take}
-use Rattle.network.specs.Network.{Network, nodeCount, arcCount}
+use Rattle.network.specs.Network.{Network, nodeCount}
 use Rattle.network.specs.Accepted.{Accepted}
 use Rattle.network.specs.Count.{select}
 use Rattle.network.specs.Points.{marked, isListed, listed}
@@ -17,7 +17,7 @@ use Rattle.lazy_searches.specs.Second.{secondBase, Second, Sound, Closed
 
 -- the words of an expansion's area
 abbrev pub areaSize : Network → ℕ
-areaSize g = 2 * nodeCount g + 2 * (arcCount g + 1)
+areaSize g = 4 * nodeCount g
 
 -- an accepted network with a byte for each node, a site that is a node, words that are all 0 with room for the flags, the rows and two areas, and
 -- room for the answers
@@ -47,7 +47,7 @@ pub record SettledFound (g : Network) (P : List ℕ) (q k : ℕ) (xs ys : List �
 -- node u is settled, and k lockers stand in its row at distances below its label
 pub record ClosedBehind (P : List ℕ) (n : ℕ) (xs : List ℕ) (outer k u : ℕ) : Type 0 where
   pub label : ℕ
-  pub is : getD xs (outer + u) 0 ≡ suc label
+  pub is : getD xs (outer + u) 0 ≡ suc (n + label)
   pub closed : Closed P n xs k u label
 
 -- an entry of v at label l, put in by u, is taken back: v's row has k lockers below l, or u's has k below its own label

@@ -20,6 +20,10 @@ use Rattle.expansion.specs.Tags.{tagNode, tagParent}
 use Rattle.expansion.specs.Area.{Kept}
 use Rattle.expansion.specs.Expand.{wordDistance}
 
+-- the distance of a word of a row: NONE where the place is empty, else one less than the word
+abbrev pub rowDistance : ℕ → ℕ
+rowDistance word = wordDistance 0 word
+
 -- the point, the node and the distance of the entry with the key
 abbrev pub pointOf : ℕ → ℕ
 pointOf key = tagNode (key % 4294967296)
@@ -71,7 +75,7 @@ pub record Sound (g : Network) (M xs : List ℕ) (k len : ℕ) : Type 0 where
 -- what the second expansion has left to do: each put lessens the distances in the rows, where an empty place counts as NONE, and adds at most A
 -- entries
 abbrev pub spread : ℕ → ℕ → List ℕ → ℕ
-spread n k xs = total (λ i. wordDistance (getD xs (wordsBase n k + i) 0)) (n * k)
+spread n k xs = total (λ i. rowDistance (getD xs (wordsBase n k + i) 0)) (n * k)
 
 abbrev pub work : Network → ℕ → List ℕ → ℕ → ℕ
 work g k xs len = spread (nodeCount g) k xs * (arcCount g + 2) + len
@@ -80,7 +84,7 @@ work g k xs len = spread (nodeCount g) k xs * (arcCount g + 2) + len
 -- p is not in the row; or k
 pub record PlaceFor (xs : List ℕ) (ids words k p d r : ℕ) : Type 0 where
   pub most : r ≤ k
-  pub farther : r < k → d < wordDistance (getD xs (words + r) 0)
+  pub farther : r < k → d < rowDistance (getD xs (words + r) 0)
   pub absent : r < k → (j : ℕ) → j < k → getD xs (words + j) 0 ≢ 0 → getD xs (ids + j) 0 ≢ p
 
 -- point p, at distance d from node u, can be put into u's row and offered to u's neighbours
@@ -118,7 +122,7 @@ pub record Advanced (g : Network) (xs ys : List ℕ) (k len r : ℕ) : Type 0 wh
 
 -- k of P's lockers stand in node u's row at distances below l
 abbrev pub isBelow : ℕ → ℕ → List ℕ → ℕ → ℕ → ℕ → Bool
-isBelow n k xs u l j = ltb (wordDistance (wordAt n k xs u j)) l
+isBelow n k xs u l j = ltb (rowDistance (wordAt n k xs u j)) l
 
 pub record Closed (P : List ℕ) (n : ℕ) (xs : List ℕ) (k u l : ℕ) : Type 0 where
   pub enough : k ≤ sumOver (isBelow n k xs u l) (λ j. lockers P (idAt n k xs u j)) k

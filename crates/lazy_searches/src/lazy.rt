@@ -27,26 +27,28 @@ fn is_closed(s: &[u32], node: u32, k: usize) -> bool
     k <= count
 }
 
-// Whether a verified point is strictly nearer to a node than the site, by the words of the node: `near` in the verification, `word` in the search, which
+// Whether a verified point is strictly nearer to a node than the site, by the seats of the node: `near` in the verification, `word` in the search, which
 // has come to the label.
-fn is_nearer(near: u32, word: u32, label: u32) -> bool
-    ensures { λ r. ⌜ r ≡ isLess near word label ⌝ }
+fn is_nearer(n: usize, near: u32, word: u32, label: u32) -> bool
+    requires { ⌜ n ≤ 65535 ⌝ }
+    ensures { λ r. ⌜ r ≡ isLess n near word label ⌝ }
 {
-    if word == 0 {
-        return near <= label;
+    let all = wide(word);
+    if all <= n {
+        return wide(near) <= wide(label) + n;
     }
     near < word
 }
 
 // Adds so many lockers to the count of a node that a verification has settled, where its point is strictly nearer to the node than the site.
 fn count_node(s: &mut [u32], n: usize, b: usize, node: u32, label: u32, lockers: u32)
-    requires { ⌜ (queueBase n (visitBase n) ≤ b) × (b + n ≤ length (now s)) × (node < n) × (getD (now s) node 0 + lockers < 4294967296) ⌝ }
+    requires { ⌜ (queueBase n (visitBase n) ≤ b) × (b + n ≤ length (now s)) × (node < n) × (getD (now s) node 0 + lockers < 4294967296) × (n ≤ 65535) ⌝ }
     ensures { λ _. ⌜ CountedNode n (now (s .entry)) (now (s .exit)) b label lockers node ⌝ }
 {
     let at = wide(node);
     let near = s[2 * n + at];
     let word = s[b + at];
-    if is_nearer(near, word, label) {
+    if is_nearer(n, near, word, label) {
         s[at] += lockers;
     }
 }
@@ -169,7 +171,7 @@ pub fn lazy(
     ensures { λ r. ⌜ SearchLeft (network (now (starts .entry)) (now (neighbours .entry)) (now (weights .entry))) (now (points .entry)) q k (now (s .entry)) (now (s .exit)) (now (answers .entry)) (now (answers .exit)) r ⌝ }
 {
     let n = starts.len() - 1;
-    let b = 4 * n + 2 * (neighbours.len() + 1);
+    let b = 6 * n;
     explore(starts, neighbours, weights, points, s, b, q, k);
     let size = flags::write_found(s, answers, n, n);
     words::zero(s);

@@ -12,6 +12,7 @@ ghost use Rattle.lazy_searches.specs.Second.{secondBase};
 ghost use Rattle.lazy_searches.specs.Lazy.{SearchLeft};
 ghost use Rattle.lazy_searches.specs.LazyEp.{CanExtend, CanSettle, SettledFound, TakenBack, CanDiscover, PointVerified, Discovered};
 use crate::second;
+use expansion::distances;
 use expansion::step;
 use expansion::step::Taken;
 use expansion::verify;
@@ -38,7 +39,9 @@ fn taken_back(
     if second::closed(points, s, n, k, v, l) {
         return true;
     }
-    let label = second::distance_at(s, outer + wide(u));
+    let at = outer + wide(u);
+    let distance = distances::distance_of(n, s[at]);
+    let label = distance.value;
     if label == Distance::NONE {
         return false;
     }
@@ -171,7 +174,7 @@ pub fn lazy_ep(
     ensures { λ r. ⌜ SearchLeft (network (now (starts .entry)) (now (neighbours .entry)) (now (weights .entry))) (now (points .entry)) q k (now (s .entry)) (now (s .exit)) (now (answers .entry)) (now (answers .exit)) r ⌝ }
 {
     let n = starts.len() - 1;
-    let area = 2 * n + 2 * (neighbours.len() + 1);
+    let area = 4 * n;
     let outer = s.len() - area;
     let inner = outer - area;
     settle_found(starts, neighbours, weights, points, s, inner, outer, q, k);

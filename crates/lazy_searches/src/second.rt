@@ -5,8 +5,7 @@ ghost use mathlib.Core.Bool.{true};
 ghost use Prim.Native.Nat.{_+_, _*_, _≤_, _<_};
 ghost use lib.ListN.{length, getD};
 ghost use Rattle.network.specs.Network.{network, neighboursOf};
-ghost use Rattle.expansion.specs.Expand.{wordDistance};
-ghost use Rattle.lazy_searches.specs.Second.{wordsBase, secondBase, PlaceFor, CanSpread, Offered, Admitted, CanAdvance, Advanced, Closed};
+ghost use Rattle.lazy_searches.specs.Second.{rowDistance, wordsBase, secondBase, PlaceFor, CanSpread, Offered, Admitted, CanAdvance, Advanced, Closed};
 use expansion::distances;
 use expansion::queue;
 use expansion::tags;
@@ -15,12 +14,12 @@ use network::arcs::wide;
 use network::distance::Distance;
 use network::points::lockers_at;
 
-// The distance that a word stands for, at a place of a row or as a label: NONE where the place is empty, or the node not settled.
+// The distance that a word stands for at a place of a row: NONE where the place is empty.
 pub fn distance_at(s: &[u32], at: usize) -> u32
     requires { ⌜ at < length (now s) ⌝ }
-    ensures { λ r. ⌜ r ≡ wordDistance (getD (now (s .entry)) at 0) ⌝ }
+    ensures { λ r. ⌜ r ≡ rowDistance (getD (now (s .entry)) at 0) ⌝ }
 {
-    let distance = distances::distance_of(s[at]);
+    let distance = distances::distance_of(0, s[at]);
     distance.value
 }
 
@@ -141,7 +140,7 @@ pub fn advance(
     let n = starts.len() - 1;
     let at = n + 2 * (n * k);
     let mut left = len;
-    while 0 < left && s[at] < l {
+    while 0 < left && s[at + 1] < l {
         let e = queue::pop_at(s, at, left);
         let d = e.distance;
         let tag = e.tag;

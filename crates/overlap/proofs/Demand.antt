@@ -23,6 +23,7 @@ use Rattle.network.proofs.Tests.{or-parts, any-none, none-any}
 use Rattle.network.proofs.NumberZero.{number-zero}
 use Rattle.rows.specs.Flat.{Sized, IsTable}
 use Rattle.rows.proofs.Laid.{table-sizes}
+use Rattle.searches.specs.Eager.{eagerWords}
 use Rattle.searches.proofs.Expanded.{expanded-most}
 use Rattle.overlap.specs.declared.Update.{Update}
 use Rattle.overlap.specs.declared.Listing.{Listing}
@@ -30,6 +31,7 @@ use Rattle.overlap.specs.declared.updated.Kind.{Kind}
 use Rattle.overlap.specs.declared.updated.Kind.the-variants.{Insert, Remove}
 use Rattle.overlap.specs.Numbers.{firstNumber, badByteAt, pointsNumber, nodeNumber, kNumber, tableNumber, tableKNumber, scratchWords, shortNumber, networkPointsNumber, siteNumber, queryNumber, tableCheckNumber, tableNodeNumber, buildNumber, tableQueryNumber}
 use Rattle.overlap.specs.Listed.{searchNumber}
+use Rattle.overlap.specs.Eager.{eagerNumber}
 use Rattle.overlap.specs.Build.{BuildOutcome, buildOutcome}
 use Rattle.overlap.specs.Updated.{kindMarks, kindNumber, changeNumber, Arrays, ChangeLeft}
 use Rattle.overlap.specs.Book.{Call, bookNumber, bookCall, bookAnswers, bookMarks}
@@ -200,7 +202,7 @@ module _ (g : Network) (net : networkNumber g ≡ 0) (K : ℕ) where
 
   -- the searches that are lent what the list left
   module _ {P ids distances : List ℕ} (s : Standing g K P ids distances) (most : K ≤ 17) (q k : ℕ) (site : q < nodeCount g) (some : 1 ≤ k) (few : k ≤ 16)
-      (scratch old : List ℕ) (room : scratchWords g k ≤ length scratch) (places : nodeCount g ≤ length old) where
+      (scratch old : List ℕ) (places : nodeCount g ≤ length old) where
     node-zero : nodeNumber (nodeCount g) q ≡ 0
     unfolding nodeNumber
     node-zero = rw (lt-leb (nodeCount g) q site)
@@ -219,9 +221,9 @@ module _ (g : Network) (net : networkNumber g ≡ 0) (K : ℕ) where
         let z = table-sizes P K ids distances (s .table) in
         rw (le-ltb K 2 least, le-ltb 17 K most, eq-eqb (length ids) (nodeCount g * K) (z .all-ids), eq-eqb (length distances) (nodeCount g * K) (z .all-dists))
 
-    scratch-zero : shortNumber (length scratch) (scratchWords g k) ≡ 0
+    scratch-zero : (m : ℕ) → m ≤ length scratch → shortNumber (length scratch) m ≡ 0
     unfolding shortNumber
-    scratch-zero = rw (le-ltb (length scratch) (scratchWords g k) room)
+    scratch-zero m room = rw (le-ltb (length scratch) m room)
 
     answers-zero : shortNumber (length old) (nodeCount g) ≡ 0
     unfolding shortNumber
@@ -231,27 +233,34 @@ module _ (g : Network) (net : networkNumber g ≡ 0) (K : ℕ) where
     unfolding siteNumber
     site-zero = first-skip (networkPointsNumber g P) _ (points-zero s) ∙ first-skip (nodeNumber (nodeCount g) q) [] node-zero ∙ sym first-none
 
-    search-zero : searchNumber g P q k scratch old ≡ 0
+    search-zero : scratchWords g k ≤ length scratch → searchNumber g P q k scratch old ≡ 0
     unfolding searchNumber queryNumber
-    search-zero =
+    search-zero room =
         first-skip (queryNumber g P q k scratch) _
-        (first-skip (siteNumber g P q) _ site-zero ∙ first-skip (kNumber k) _ k-zero ∙ first-skip (shortNumber (length scratch) (scratchWords g k)) [] scratch-zero ∙ sym first-none)
+        (first-skip (siteNumber g P q) _ site-zero ∙ first-skip (kNumber k) _ k-zero ∙ first-skip (shortNumber (length scratch) (scratchWords g k)) [] (scratch-zero (scratchWords g k) room) ∙ sym first-none)
         ∙ first-skip (shortNumber (length old) (nodeCount g)) [] answers-zero ∙ sym first-none
 
-    query-zero : 2 ≤ K → k < K → tableQueryNumber g P q k K ids distances scratch old ≡ 0
+    query-zero : scratchWords g k ≤ length scratch → 2 ≤ K → k < K → tableQueryNumber g P q k K ids distances scratch old ≡ 0
     unfolding tableQueryNumber tableNodeNumber
-    query-zero least fewer =
+    query-zero room least fewer =
         first-skip (tableNodeNumber g P q K ids distances) _
         (first-skip (siteNumber g P q) _ site-zero ∙ first-skip (tableNumber (nodeCount g) K (length ids) (length distances)) [] (table-zero least) ∙ sym first-none)
-        ∙ first-skip (tableKNumber k K) _ (table-k-zero fewer) ∙ first-skip (shortNumber (length scratch) (scratchWords g k)) _ scratch-zero
+        ∙ first-skip (tableKNumber k K) _ (table-k-zero fewer) ∙ first-skip (shortNumber (length scratch) (scratchWords g k)) _ (scratch-zero (scratchWords g k) room)
+        ∙ first-skip (shortNumber (length old) (nodeCount g)) [] answers-zero ∙ sym first-none
+
+    eager-zero : eagerWords g ≤ length scratch → eagerNumber g P q k scratch old ≡ 0
+    unfolding eagerNumber
+    eager-zero room =
+        first-skip (siteNumber g P q) _ site-zero ∙ first-skip (kNumber k) _ k-zero
+        ∙ first-skip (shortNumber (length scratch) (eagerWords g)) _ (scratch-zero (eagerWords g) room)
         ∙ first-skip (shortNumber (length old) (nodeCount g)) [] answers-zero ∙ sym first-none
 
     agreed : 2 ≤ K → (scratch′ new : List ℕ) (r : Listing) → Agree g P K ids distances q k scratch old scratch′ new r
     agreed least scratch′ new r =
         record {
           eager =
-              λ limit within h.
-              let x = rw (← eager-done g P q k limit scratch old search-zero refl within refl refl refl) at h in (
+              λ room limit within h.
+              let x = rw (← eager-done g P q k limit scratch old (eager-zero room) refl within refl refl refl) at h in (
                 record {
                   number = ap (λ (l : Listing). l .number) (x .answer);
                   sized = ap (λ (l : Listing). l .length) (x .answer);
@@ -260,16 +269,16 @@ module _ (g : Network) (net : networkNumber g ≡ 0) (K : ℕ) where
                 ap (λ (l : Listing). l .count) (x .answer),
               );
           lazy =
-              λ h.
-              let x = rw (← lazy-done g P q k scratch old search-zero refl refl refl) at h in
+              λ room h.
+              let x = rw (← lazy-done g P q k scratch old (search-zero room) refl refl refl) at h in
               record {
                 number = ap (λ (l : Listing). l .number) (x .answer);
                 sized = ap (λ (l : Listing). l .length) (x .answer);
                 answers = x .answers-left;
               };
           by-table =
-              λ fewer h.
-              let d = h .accepted (query-zero least fewer) in
+              λ room fewer h.
+              let d = h .accepted (query-zero room least fewer) in
               record { number = d .number; sized = d .sized (s .table); answers = d .answers (s .table) };
         }
 
@@ -312,9 +321,9 @@ demand g P₀ K scratch ids distances e calls answers P ids′ distances′ run 
       marks = f .marks;
       table-ids = f .standing .table .same-ids;
       table-distances = f .standing .table .same-dists;
-      agree = λ q k site some few s old s′ new r room places. agreed g (b .0) K (f .standing) (t .1) q k site some few s old room places (t .0) s′ new r;
+      agree = λ q k site some few s old s′ new r places. agreed g (b .0) K (f .standing) (t .1) q k site some few s old places (t .0) s′ new r;
       short =
           λ q site s old s′ new r room places.
-          agreed g (b .0) K (f .standing) (t .1) q 1 site (omega arith) (omega arith) s old room places (t .0) s′ new r .eager 65535 (expanded-most (number-zero g .0 (b .0)) P q 1);
+          agreed g (b .0) K (f .standing) (t .1) q 1 site (omega arith) (omega arith) s old places (t .0) s′ new r .eager room 65535 (expanded-most (number-zero g .0 (b .0)) P q 1);
       afresh = rebuilt g (b .0) K (f .standing) (t .0) (t .1);
     }

@@ -27,7 +27,7 @@ use Rattle.overlap.specs.Numbers.{buildNumber, tableCheckNumber}
 use Rattle.overlap.specs.TableCheck.{tableCheckAnswer}
 use Rattle.overlap.specs.Build.{BuildOutcome, buildOutcome}
 use Rattle.overlap.specs.Listed.{SearchOutcome, searchNumber, listedListing}
-use Rattle.overlap.specs.Eager.{eagerOutcome}
+use Rattle.overlap.specs.Eager.{eagerNumber, eagerOutcome}
 use Rattle.overlap.specs.Lazy.{lazyOutcome}
 use Rattle.overlap.specs.Exported.{NearestExported, SearchExported}
 
@@ -69,22 +69,22 @@ module _ (g : Network) (P : List ℕ) (p q k : ℕ) (scratch : List ℕ) where
   verify-done e z h = rw (eq-eqb (verifyNumber g P p q k scratch) 0 e, z, h)
 
 module _ (g : Network) (P : List ℕ) (q k limit : ℕ) (scratch answers : List ℕ) where
-  pub eager-refused : (number : ℕ) → number ≡ searchNumber g P q k scratch answers → number ≢ 0
+  pub eager-refused : (number : ℕ) → number ≡ eagerNumber g P q k scratch answers → number ≢ 0
       → _≡_ {A = SearchOutcome} (record { answer = is.Refused number; scratch = scratch; answers = answers }) (eagerOutcome g P q k limit scratch answers)
   unfolding eagerOutcome
   eager-refused number e n = rw (← e, ne-eqb number 0 n)
 
-  pub eager-beyond : {s a : List ℕ} → searchNumber g P q k scratch answers ≡ 0 → s ≡ replicate (length scratch) 0 → limit < expanded g P q k
+  pub eager-beyond : {s a : List ℕ} → eagerNumber g P q k scratch answers ≡ 0 → s ≡ replicate (length scratch) 0 → limit < expanded g P q k
       → a ≡ answers
       → _≡_ {A = SearchOutcome} (record { answer = is.Refused 12; scratch = s; answers = a }) (eagerOutcome g P q k limit scratch answers)
   unfolding eagerOutcome exceedsLimit
-  eager-beyond e z l h = rw (eq-eqb (searchNumber g P q k scratch answers) 0 e, lt-ltb limit (expanded g P q k) l, z, h)
+  eager-beyond e z l h = rw (eq-eqb (eagerNumber g P q k scratch answers) 0 e, lt-ltb limit (expanded g P q k) l, z, h)
 
-  pub eager-done : {s a : List ℕ} {size count : ℕ} → searchNumber g P q k scratch answers ≡ 0 → s ≡ replicate (length scratch) 0
+  pub eager-done : {s a : List ℕ} {size count : ℕ} → eagerNumber g P q k scratch answers ≡ 0 → s ≡ replicate (length scratch) 0
       → expanded g P q k ≤ limit → size ≡ length (listed g P q k) → count ≡ expanded g P q k → a ≡ answered (listed g P q k) answers
       → _≡_ {A = SearchOutcome} (record { answer = is.Points size count; scratch = s; answers = a }) (eagerOutcome g P q k limit scratch answers)
   unfolding eagerOutcome exceedsLimit
-  eager-done e z l m n h = rw (eq-eqb (searchNumber g P q k scratch answers) 0 e, le-ltb limit (expanded g P q k) l, z, m, n, h)
+  eager-done e z l m n h = rw (eq-eqb (eagerNumber g P q k scratch answers) 0 e, le-ltb limit (expanded g P q k) l, z, m, n, h)
 
 module _ (g : Network) (P : List ℕ) (q k : ℕ) (scratch answers : List ℕ) where
   pub lazy-refused : (number : ℕ) → number ≡ searchNumber g P q k scratch answers → number ≢ 0

@@ -17,12 +17,14 @@ use Rattle.network.specs.Check.{networkNumber}
 use Rattle.network.specs.Points.{lockers, marked}
 use Rattle.network.proofs.Tests.{or-parts}
 use Rattle.network.proofs.NumberZero.{number-zero}
+use Rattle.searches.specs.Eager.{eagerWords}
 use Rattle.overlap.specs.declared.updated.Kind.{Kind}
 use Rattle.overlap.specs.declared.updated.Kind.the-variants.{Insert, Remove}
 use Rattle.overlap.specs.Numbers.{firstNumber, badByteAt, pointsNumber, nodeNumber, tableNumber, kNumber, scratchWords, shortNumber, fullNumber, unmarkedNumber, networkPointsNumber, siteNumber, queryNumber, tableCheckNumber, tableNodeNumber, tableKNumber, tableQueryNumber, buildNumber, QueryReady}
 use Rattle.overlap.specs.Distances.{distancesNumber}
 use Rattle.overlap.specs.Nearest.{nearestNumber, NearestReady}
 use Rattle.overlap.specs.Verify.{verifyNumber}
+use Rattle.overlap.specs.Eager.{eagerNumber}
 use Rattle.overlap.specs.Build.{TableReady, BuildReady}
 use Rattle.overlap.specs.Updated.{kindNumber, KindReady, changeNumber, ChangeReady}
 use Rattle.overlap.specs.TableQuery.{TableQueryReady}
@@ -178,9 +180,38 @@ search-ready g P q k scratch answers e =
     let b = first-zero (shortNumber (length answers) (nodeCount g)) [] (a .1) in
     record { query = query-ready g P q k scratch (a .0); places = short-ready (length answers) (nodeCount g) (b .0) }
 
+pub record EagerReady (g : Network) (P : List ℕ) (q k : ℕ) (scratch answers : List ℕ) : Type 0 where
+  pub accepted : Accepted g
+  pub points : length P ≡ nodeCount g
+  pub inside : q < nodeCount g
+  pub some : 1 ≤ k
+  pub room : eagerWords g ≤ length scratch
+  pub places : nodeCount g ≤ length answers
+
+pub eager-ready : (g : Network) (P : List ℕ) (q k : ℕ) (scratch answers : List ℕ) → eagerNumber g P q k scratch answers ≡ 0
+    → EagerReady g P q k scratch answers
+unfolding eagerNumber
+eager-ready g P q k scratch answers e =
+    let a = first-zero (siteNumber g P q) _ e in
+    let b = first-zero (kNumber k) _ (a .1) in
+    let c = first-zero (shortNumber (length scratch) (eagerWords g)) _ (b .1) in
+    let d = first-zero (shortNumber (length answers) (nodeCount g)) [] (c .1) in
+    let s = site-ready g P q (a .0) in
+    record {
+      accepted = s .0;
+      points = s .1;
+      inside = s .2;
+      some = k-ready k (b .0) .0;
+      room = short-ready (length scratch) (eagerWords g) (c .0);
+      places = short-ready (length answers) (nodeCount g) (d .0);
+    }
+
 pub record VerifyReady (g : Network) (P : List ℕ) (p q k : ℕ) (scratch : List ℕ) : Type 0 where
-  pub query : QueryReady g P p k scratch
+  pub accepted : Accepted g
+  pub points : length P ≡ nodeCount g
+  pub inside : p < nodeCount g
   pub inside-q : q < nodeCount g
+  pub room : eagerWords g ≤ length scratch
 
 pub verify-ready : (g : Network) (P : List ℕ) (p q k : ℕ) (scratch : List ℕ) → verifyNumber g P p q k scratch ≡ 0 → VerifyReady g P p q k scratch
 unfolding verifyNumber
@@ -188,20 +219,14 @@ verify-ready g P p q k scratch e =
     let a = first-zero (siteNumber g P p) _ e in
     let b = first-zero (nodeNumber (nodeCount g) q) _ (a .1) in
     let c = first-zero (kNumber k) _ (b .1) in
-    let d = first-zero (shortNumber (length scratch) (scratchWords g k)) _ (c .1) in
+    let d = first-zero (shortNumber (length scratch) (eagerWords g)) _ (c .1) in
     let s = site-ready g P p (a .0) in
-    let r = k-ready k (c .0) in
     record {
-      query =
-          record {
-            accepted = s .0;
-            points = s .1;
-            inside = s .2;
-            some = r .0;
-            few = r .1;
-            room = short-ready (length scratch) (scratchWords g k) (d .0);
-          };
+      accepted = s .0;
+      points = s .1;
+      inside = s .2;
       inside-q = node-ready (nodeCount g) q (b .0);
+      room = short-ready (length scratch) (eagerWords g) (d .0);
     }
 
 -- of an accepted network with a byte for each node, and 8

@@ -68,16 +68,15 @@ part-wiped xs {ys} {zs} used e fits w =
 pub words-enough : (g : Network) (m : ℕ) → 1 ≤ m → 16 * nodeCount g + 8 * (arcCount g + nodeCount g) ≤ scratchWords g m
 words-enough g m h = omega (arith, mul-le-mul-left (8 * (arcCount g + nodeCount g)) h)
 
--- nearest and eager: 2 k + 6 n + 4 (A + 1) at most
-pub words-for-search : (g : Network) (k : ℕ) → 1 ≤ k → k ≤ 16 → 1 ≤ nodeCount g → 2 * k + 6 * nodeCount g + 4 * (arcCount g + 1) ≤ scratchWords g k
-words-for-search g k h few some =
+-- nearest: 3 k + 4 n
+pub words-for-search : (g : Network) (k : ℕ) → 1 ≤ k → 1 ≤ nodeCount g → 3 * k + 4 * nodeCount g ≤ scratchWords g k
+words-for-search g k h some =
     let low : 8 ≤ 8 * (arcCount g + nodeCount g) = omega arith in
     omega (arith, words-enough g k h, mul-le-mul-right k low)
 
--- lazy and lazy-EP: 7 n + 4 (A + 1) + 2 k (n + A)
-pub words-for-lazy : (g : Network) (k : ℕ) → 1 ≤ k → 1 ≤ nodeCount g
-    → 7 * nodeCount g + 4 * (arcCount g + 1) + 2 * k * (nodeCount g + arcCount g) ≤ scratchWords g k
-words-for-lazy g k h some = omega (arith, mul-le-mul-left (arcCount g) h, mul-le-mul-left (nodeCount g) h)
+-- lazy and lazy-EP: 12 n + 2 k (n + A)
+pub words-for-lazy : (g : Network) (k : ℕ) → 12 * nodeCount g + 2 * k * (nodeCount g + arcCount g) ≤ scratchWords g k
+words-for-lazy g k = omega arith
 
 -- build: n + 2 (n + K A)
 pub words-for-build : (g : Network) (K : ℕ) → nodeCount g + 2 * (nodeCount g + K * arcCount g) ≤ scratchWords g K

@@ -11,6 +11,7 @@ use Rattle.network.specs.Rows.{tableIds, tableDistances}
 use Rattle.network.specs.Points.{listed, expanded}
 use Rattle.network.specs.Answers.{answered}
 use Rattle.rows.specs.Flat.{Sized}
+use Rattle.searches.specs.Eager.{eagerWords}
 use Rattle.overlap.specs.declared.Update.{Update}
 use Rattle.overlap.specs.declared.Listing.{Listing}
 use Rattle.overlap.specs.declared.updated.Kind.{Kind}
@@ -54,13 +55,13 @@ pub record Quotes (g : Network) (P : List ℕ) (q k : ℕ) (old new : List ℕ) 
   pub answers : new ≡ answered (listed g P q k) old
 
 -- 'The searches are then lent this network, these marks and arrays that 10 lets pass; the table query also the table with the build's K, eager a limit
--- of at least its expanded count.' Whatever they leave by their contracts is the one list, and eager's count is the definition's. Each clause is read
--- alone, over any arrays.
+-- of at least its expanded count.' What 10 lets pass is 12 × n entries of scratch for eager (Ask 5), S for the others. Whatever they leave by their
+-- contracts is the one list, and eager's count is the definition's. Each clause is read alone, over any arrays.
 pub record Agree (g : Network) (P : List ℕ) (K : ℕ) (ids distances : List ℕ) (q k : ℕ) (scratch old scratch′ new : List ℕ) (r : Listing) : Type 0 where
-  pub eager : (limit : ℕ) → expanded g P q k ≤ limit → SearchExported (eagerOutcome g P q k limit scratch old) r scratch′ new
+  pub eager : eagerWords g ≤ length scratch → (limit : ℕ) → expanded g P q k ≤ limit → SearchExported (eagerOutcome g P q k limit scratch old) r scratch′ new
       → Quotes g P q k old new r × (r .count ≡ expanded g P q k)
-  pub lazy : SearchExported (lazyOutcome g P q k scratch old) r scratch′ new → Quotes g P q k old new r
-  pub by-table : k < K → QueryLeft (tableQueryNumber g P q k K ids distances scratch old) g P q k K ids distances scratch scratch′ old new r → Quotes g P q k old new r
+  pub lazy : scratchWords g k ≤ length scratch → SearchExported (lazyOutcome g P q k scratch old) r scratch′ new → Quotes g P q k old new r
+  pub by-table : scratchWords g k ≤ length scratch → k < K → QueryLeft (tableQueryNumber g P q k K ids distances scratch old) g P q k K ids distances scratch scratch′ old new r → Quotes g P q k old new r
 
 -- Each call's number and changed count equal the book's. 'After the list the lent marks equal the book's, [..] and both table arrays hold the rows of
 -- those marks', and the searches agree, those without a table for every k. Lazy and lazy-EP have one contract.
@@ -70,9 +71,9 @@ pub record Demand3 (g : Network) (P₀ : List ℕ) (K : ℕ) (calls : List Call)
   pub table-ids : ids ≡ tableIds g P K
   pub table-distances : distances ≡ tableDistances g P K
   pub agree : (q k : ℕ) → q < nodeCount g → 1 ≤ k → k ≤ 16 → (scratch old scratch′ new : List ℕ) (r : Listing)
-      → scratchWords g k ≤ length scratch → nodeCount g ≤ length old → Agree g P K ids distances q k scratch old scratch′ new r
+      → nodeCount g ≤ length old → Agree g P K ids distances q k scratch old scratch′ new r
   -- the short query is eager with k = 1 and limit 65,535, which no count exceeds
-  pub short : (q : ℕ) → q < nodeCount g → (scratch old scratch′ new : List ℕ) (r : Listing) → scratchWords g 1 ≤ length scratch → nodeCount g ≤ length old
+  pub short : (q : ℕ) → q < nodeCount g → (scratch old scratch′ new : List ℕ) (r : Listing) → eagerWords g ≤ length scratch → nodeCount g ≤ length old
       → SearchExported (eagerOutcome g P q 1 65535 scratch old) r scratch′ new → Quotes g P q 1 old new r × (r .count ≡ expanded g P q 1)
   -- the table is as built afresh: build, lent these marks, is accepted and writes the same arrays
   pub afresh : (scratch a b : List ℕ) → scratchWords g K ≤ length scratch → Sized g K a b

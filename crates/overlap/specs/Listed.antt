@@ -1,4 +1,4 @@
--- What the searches share: their number but for 12, what they leave, and the values that they return. 1 to 5, 6, 7, 9, 10; m is k.
+-- What the searches share: the number of lazy and lazy-EP, what they leave, and the values that they return. 1 to 5, 6, 7, 9, 10; m is k.
 -- Assumes nothing.
 use Prim.Native.Nat.{ℕ, _≤_}
 use mathlib.Core.List.{List, [], _∷_}

@@ -49,7 +49,8 @@ tableKNumber k K = cond (eqb k 0 || leb K k) 9 0
 abbrev pub scratchWords : Network → ℕ → ℕ
 scratchWords g m = 16 * nodeCount g + 8 * (arcCount g + nodeCount g) * m
 
--- 10: 'scratch shorter than S, or an array for answers shorter than n (nearest: than k)': an array of `have` entries where `need` are asked
+-- 10: 'scratch shorter than S, or an array for answers shorter than n (nearest: than k)'; 'compares with 12 × n for' eager, verify and the short query
+-- (Ask 5): an array of `have` entries where `need` are asked
 unfoldable pub shortNumber : ℕ → ℕ → ℕ
 shortNumber have need = cond (ltb have need) 10 0
 
@@ -76,7 +77,7 @@ siteNumber g P node =
     ∷ nodeNumber (nodeCount g) node
     ∷ [])
 
--- what nearest and the searches test first: 9, and 10 of scratch too, where m is k
+-- what nearest, lazy and lazy-EP test first: 9, and 10 of scratch too, where m is k
 unfoldable pub queryNumber : Network → List ℕ → ℕ → ℕ → List ℕ → ℕ
 queryNumber g P node k scratch =
     firstNumber
@@ -119,7 +120,7 @@ tableQueryNumber g P q k K ids distances scratch answers =
     ∷ shortNumber (length answers) (nodeCount g)
     ∷ [])
 
--- what a number 0 of nearest and the searches leaves
+-- what a number 0 of nearest, lazy and lazy-EP leaves
 pub record QueryReady (g : Network) (P : List ℕ) (node k : ℕ) (scratch : List ℕ) : Type 0 where
   pub accepted : Accepted g
   pub points : length P ≡ nodeCount g

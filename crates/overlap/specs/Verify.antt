@@ -1,4 +1,4 @@
--- The verify call: 1 to 5, 6, 7 (p, then q), 9, 10, 11; m is k. Document 01, 'What a site receives': 'Verify: for a marked p and q, yes or no by the
+-- The verify call: 1 to 5, 6, 7 (p, then q), 9, 10 (12 × n: Ask 5), 11. Document 01, 'What a site receives': 'Verify: for a marked p and q, yes or no by the
 -- rule above.'
 -- Assumes nothing.
 use Prim.Native.Nat.{ℕ}
@@ -7,10 +7,11 @@ use mathlib.Core.List.{List, [], _∷_}
 use lib.ListN.{length, replicate}
 use Rattle.network.specs.Network.{Network, nodeCount}
 use Rattle.network.specs.Points.{verified}
+use Rattle.searches.specs.Eager.{eagerWords}
 use Rattle.overlap.specs.declared.verify.Rule.{Rule}
 use Rattle.overlap.specs.declared.verify.Rule.the-variants.{Refused, Answer}
 use Rattle.overlap.specs.declared.Verdict.{Verdict}
-use Rattle.overlap.specs.Numbers.{firstNumber, byNumber, nodeNumber, siteNumber, kNumber, scratchWords, shortNumber, unmarkedNumber}
+use Rattle.overlap.specs.Numbers.{firstNumber, byNumber, nodeNumber, siteNumber, kNumber, shortNumber, unmarkedNumber}
 
 unfoldable pub verifyNumber : Network → List ℕ → ℕ → ℕ → ℕ → List ℕ → ℕ
 verifyNumber g P p q k scratch =
@@ -18,7 +19,7 @@ verifyNumber g P p q k scratch =
     (siteNumber g P p
     ∷ nodeNumber (nodeCount g) q
     ∷ kNumber k
-    ∷ shortNumber (length scratch) (scratchWords g k)
+    ∷ shortNumber (length scratch) (eagerWords g)
     ∷ unmarkedNumber P p
     ∷ [])
 

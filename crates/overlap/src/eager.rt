@@ -23,7 +23,7 @@ pub fn answer(
 ) -> Listed
     ensures { λ r. ⌜ record { answer = r; scratch = now (scratch .exit); answers = now (answers .exit) } ≡ eagerOutcome (network (now (starts .entry)) (now (neighbours .entry)) (now (weights .entry))) (now (points .entry)) q k limit (now (scratch .entry)) (now (answers .entry)) ⌝ }
 {
-    let refusal = numbers::search_number(
+    let refusal = numbers::eager_number(
         starts,
         neighbours,
         weights,

@@ -78,7 +78,7 @@ fn run(
     let n = starts.len() - 1;
     let arcs = neighbours.len();
     let k = wide(k);
-    let used = 7 * n + 4 * (arcs + 1) + 2 * k * (n + arcs);
+    let used = 12 * n + 2 * k * (n + arcs);
     words::zero(scratch);
     search(
         method,

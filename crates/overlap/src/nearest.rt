@@ -57,9 +57,10 @@ fn run(
         e,
         places,
     );
-    copy(scratch, 0, found, ids);
-    copy(scratch, places, found, distances);
-    let end = 2 * places;
+    copy(scratch, places, found, ids);
+    let behind = 2 * places;
+    copy(scratch, behind, found, distances);
+    let end = 3 * places;
     words::zero(&mut scratch[..end]);
     found
 }

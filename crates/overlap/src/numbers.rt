@@ -10,6 +10,7 @@ ghost use Rattle.overlap.specs.Distances.{distancesNumber};
 ghost use Rattle.overlap.specs.Nearest.{nearestNumber};
 ghost use Rattle.overlap.specs.Verify.{verifyNumber};
 ghost use Rattle.overlap.specs.Listed.{searchNumber};
+ghost use Rattle.overlap.specs.Eager.{eagerNumber};
 ghost use Rattle.overlap.specs.Updated.{changeNumber};
 use crate::updated::Kind;
 use network::arcs::wide;
@@ -126,6 +127,14 @@ fn scratch_number(n: usize, arcs: usize, m: u32, have: usize) -> u32
     short_number(have, scratch_words(n, arcs, m))
 }
 
+// 10: scratch of eager, the short query or verify has fewer words than 12 × n, whatever k is (Ask 5).
+fn eager_scratch_number(n: usize, have: usize) -> u32
+    requires { ⌜ n ≤ 65535 ⌝ }
+    ensures { λ r. ⌜ r ≡ shortNumber have (12 * n) ⌝ }
+{
+    short_number(have, 12 * n)
+}
+
 // 11: insert at 15 lockers.
 fn full_number(points: &[u8], p: u32) -> u32
     ensures { λ r. ⌜ r ≡ fullNumber (now (points .entry)) p ⌝ }
@@ -168,7 +177,7 @@ fn site_number(starts: &[u32], neighbours: &[u32], weights: &[u32], points: &[u8
     node_number(starts.len() - 1, node)
 }
 
-// What nearest and the searches test first: 1 to 5, 6, 7, 9, and 10 of scratch.
+// What nearest, lazy and lazy-EP test first: 1 to 5, 6, 7, 9, and 10 of scratch.
 fn query_number(
     starts: &[u32],
     neighbours: &[u32],
@@ -269,14 +278,43 @@ pub fn verify_number(
     if number != 0 {
         return number;
     }
-    let number = scratch_number(n, neighbours.len(), k, scratch.len());
+    let number = eager_scratch_number(n, scratch.len());
     if number != 0 {
         return number;
     }
     unmarked_number(points, p)
 }
 
-// Eager but for 12, lazy and lazy-EP: 1 to 5, 6, 7, 9, 10.
+// Eager and the short query but for 12: 1 to 5, 6, 7, 9, 10.
+pub fn eager_number(
+    starts: &[u32],
+    neighbours: &[u32],
+    weights: &[u32],
+    points: &[u8],
+    q: u32,
+    k: u32,
+    scratch: &[u32],
+    answers: &[u32],
+) -> u32
+    ensures { λ r. ⌜ r ≡ eagerNumber (network (now (starts .entry)) (now (neighbours .entry)) (now (weights .entry))) (now (points .entry)) q k (now (scratch .entry)) (now (answers .entry)) ⌝ }
+{
+    let number = site_number(starts, neighbours, weights, points, q);
+    if number != 0 {
+        return number;
+    }
+    let number = k_number(k);
+    if number != 0 {
+        return number;
+    }
+    let n = starts.len() - 1;
+    let number = eager_scratch_number(n, scratch.len());
+    if number != 0 {
+        return number;
+    }
+    short_number(answers.len(), n)
+}
+
+// Lazy and lazy-EP: 1 to 5, 6, 7, 9, 10.
 pub fn search_number(
     starts: &[u32],
     neighbours: &[u32],

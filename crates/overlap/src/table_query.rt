@@ -1,6 +1,5 @@
 // The table query: its work once no condition is met. Document 01, 'The table': 'Table query (eager-M): the list, k from 1 to K - 1, since a point's
 // row spends one place on itself.'
-ghost use mathlib.Core.Path.{_≡_};
 ghost use Rattle.network.specs.Network.{network};
 ghost use Rattle.query.specs.Query as table;
 ghost use Rattle.overlap.specs.Numbers.{tableQueryNumber};
@@ -28,7 +27,7 @@ fn run(
     requires { ⌜ TableQueryReady (network (now starts) (now neighbours) (now weights)) (now points) q k places (now ids) (now distances) (now scratch) (now answers) ⌝ }
     ensures { λ r. ⌜ table.QueryLeft (network (now (starts .entry)) (now (neighbours .entry)) (now (weights .entry))) (now (points .entry)) (now (ids .entry)) (now (distances .entry)) q k places (now (scratch .entry)) (now (scratch .exit)) (now (answers .entry)) (now (answers .exit)) r ⌝ }
 {
-    let used = 6 * (starts.len() - 1) + 4 * (neighbours.len() + 1);
+    let used = 10 * (starts.len() - 1);
     words::zero(scratch);
     query::query::query(
         starts,

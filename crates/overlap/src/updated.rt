@@ -77,7 +77,7 @@ fn run(
     requires { ⌜ ChangeReady kind (network (now starts) (now neighbours) (now weights)) (now points) node places (now scratch) (now ids) (now distances) ⌝ }
     ensures { λ r. ⌜ table.UpdateLeft (network (now (starts .entry)) (now (neighbours .entry)) (now (weights .entry))) (now (points .entry)) (kindMarks kind (now (points .entry)) node) (now (points .exit)) (now (scratch .entry)) (now (scratch .exit)) (now (ids .entry)) (now (distances .entry)) (now (ids .exit)) (now (distances .exit)) places r ⌝ }
 {
-    let used = 3 * (starts.len() - 1) + 2 * (neighbours.len() + 1);
+    let used = 4 * (starts.len() - 1) + 2 * neighbours.len();
     words::zero(scratch);
     change(
         kind,

@@ -21,8 +21,8 @@ use Rattle.network.specs.Rows.{tableDistances}
 use Rattle.network.proofs.Lends.{mid-at, row-fits}
 use Rattle.network.proofs.Rank.{marked-inside}
 use Rattle.expansion.specs.Area.{Wiped}
-use Rattle.searches.specs.Flags.{idsBase, Flags, Looked}
-use Rattle.expansion.proofs.Stopping.{kept-same}
+use Rattle.searches.specs.Flags.{flagsEnd, Flags, Looked}
+use Rattle.expansion.proofs.AreaLaws.{kept-same}
 use Rattle.searches.proofs.Listed.{listed-parts}
 use Rattle.searches.proofs.FlagLaws.{listed-verified, verified-listed, changed-grows, changed-flags}
 use Rattle.rows.specs.Flat.{IsTable}
@@ -34,7 +34,7 @@ abbrev pub part : ℕ → ℕ → List ℕ → List ℕ
 part a e xs = midOf a (e - a) xs
 
 -- nothing was expanded
-pub unwiped : {g : Network} {P others xs : List ℕ} {p q k : ℕ} → CanDecide g P others xs p q k → Wiped xs xs (idsBase g)
+pub unwiped : {g : Network} {P others xs : List ℕ} {p q k : ℕ} → CanDecide g P others xs p q k → Wiped xs xs (flagsEnd g)
 unwiped c = record { frame = kept-same; blank = c .visit .expand .blank }
 
 -- ---- One word.
@@ -140,7 +140,7 @@ module _ {g : Network} {P dists : List ℕ} {q k K : ℕ} {xs : List ℕ} (c : C
 
         word : (i : ℕ) → i ≢ p → getD zs i 0 ≡ getD xs i 0
         word i n =
-            elim (decLt i (idsBase g)) [
+            elim (decLt i (flagsEnd g)) [
               | yes h ↦ d .area .frame .words i h ∙ getD-set-other xs p i 1 0 n
               | no h ↦ d .area .blank .zero i (omega arith) ∙ sym (c .front .blank .zero i (omega arith))
             ]
@@ -256,7 +256,8 @@ module _ {g : Network} {P ids dists : List ℕ} {q k K : ℕ} {xs : List ℕ} {v
     looked t walk f =
         record {
           size = w .grown .size;
-          blank = record { zero = λ j h. w .grown .words j h ∙ c .verify .front .blank .zero j h };
+          stays = λ i h m. w .grown .words i h;
+          blank = record { zero = λ j h. w .grown .words j (omega arith) ∙ c .verify .front .blank .zero j (omega arith) };
           flags = all .flags;
           grows = w .grown .grows;
           count = row-count ok t v k (c .inside) below most (w .nearer .few) less stop;

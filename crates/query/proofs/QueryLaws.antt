@@ -8,7 +8,7 @@ use native.Mathlib.Omega.{arith}
 use lib.Dec.{eqb}
 use lib.ListN.{length, getD, set, replicate, length-set, length-replicate}
 use borrow.Author.Tests.{eqb-false, not-true}
-use Rattle.network.specs.Network.{Network, nodeCount, arcCount}
+use Rattle.network.specs.Network.{Network, nodeCount}
 use Rattle.network.specs.Count.{bit, select}
 use Rattle.network.specs.Points.{marked, isListed, listed}
 use Rattle.network.specs.Answers.{answered}
@@ -23,7 +23,7 @@ module _ {g : Network} {P ids dists xs old : List ℕ} {q k K : ℕ} (c : CanQue
   fits : nodeCount g + q < length xs
   fits = omega (arith, c .size, c .asked .site)
 
-  pub begun : CanExplore g P ids dists (set xs (nodeCount g + q) (bit (marked P q))) (4 * nodeCount g + 2 * (arcCount g + 1)) q k K
+  pub begun : CanExplore g P ids dists (set xs (nodeCount g + q) (bit (marked P q))) (6 * nodeCount g) q k K
   begun =
       record {
         asked = c .asked;

@@ -3,13 +3,12 @@
 -- answers for no node, and only points have found flags.
 -- Assumes nothing.
 use Prim.Native.Nat.{ℕ, _+_, _≤_, _<_}
-use mathlib.Core.Path.{_≡_, sym, ap, _∙_}
-use mathlib.Core.Bool.{true, not}
+use mathlib.Core.Path.{_≡_, sym, _∙_}
+use mathlib.Core.Bool.{true}
 use mathlib.Core.Logic.{_≢_, inl, ⊎-elim}
 use mathlib.Core.List.{List, _++_}
 use native.Mathlib.Decide.{decLt}
 use native.Mathlib.Omega.{arith}
-use lib.Dec.{eqb}
 use lib.ListN.{length, getD, take, drop, List·getD-eq-default}
 use lib.Seq.{getD-take, length-take-le}
 use Rattle.network.specs.Network.{Network, nodeCount, neighboursOf}
@@ -19,13 +18,18 @@ use Rattle.network.specs.Points.{isListed}
 use Rattle.network.specs.Nearest.{nearest}
 use Rattle.network.proofs.Rank.{Near}
 use Rattle.network.proofs.Rows.{nearest-length, near-listed}
-use Rattle.expansion.specs.Area.{queueBase, LabelAt, Kept, Blank, Started, Took, Emptied, Followed}
+use Rattle.expansion.specs.Queue.{keyOf}
+use Rattle.expansion.specs.Tags.{tagOf}
+use Rattle.expansion.specs.NodeQueue.{PushedNode}
+use Rattle.expansion.specs.Area.{queueBase, LabelAt, Area, Blank, Moved, Took, Followed}
+use Rattle.expansion.specs.Expand.{CanExpand}
+use Rattle.expansion.proofs.Origins.{one}
 use Rattle.expansion.proofs.Search.{Leads}
-use Rattle.expansion.proofs.AreaLaws.{room, settledAs, label-same}
-use Rattle.expansion.proofs.AreaSearch.{label-back, took-exact, search-finished, settle-marks}
-use Rattle.expansion.proofs.Progress.{Progress, progress-start, progress-settled, took-area, took-word, took-walk, room-falls, frame-settled}
-use Rattle.expansion.proofs.Beside.{Beside, beside-first, beside-label-at, progress-beside, room-beside}
-use Rattle.searches.specs.Flags.{idsBase, Flags, Looked}
+use Rattle.expansion.proofs.AreaLaws.{moved-same, settledAs, frame-settle}
+use Rattle.expansion.proofs.AreaSearch.{label-back, took-area, took-word, took-moved, took-exact, search-finished, settle-marks}
+use Rattle.expansion.proofs.Progress.{Progress, progress-begun, progress-start, progress-settled, took-walk}
+use Rattle.expansion.proofs.Beside.{Beside, beside-first, beside-label-at, progress-beside}
+use Rattle.searches.specs.Flags.{flagsEnd, Flags, Looked}
 use Rattle.searches.specs.Eager.{isFound}
 use Rattle.searches.proofs.Beaten.{Beaten, Unbeaten, stops}
 use Rattle.searches.proofs.Finds.{Met, met-leads}
@@ -33,7 +37,7 @@ use Rattle.searches.proofs.Answers.{listed-flagged}
 use Rattle.network.proofs.Lends.{first-part}
 use Rattle.searches.proofs.LookLaws.{flags-same}
 use Rattle.searches.proofs.FlagLaws.{flag-right}
-use Rattle.expansion.proofs.Stopping.{kept-same, room-stopped, progress-stopped, took-beside}
+use Rattle.expansion.proofs.Stopping.{progress-stopped, took-beside}
 use Rattle.rows.specs.Flat.{IsTable}
 use Rattle.query.specs.Query.{Only, Grown, CanLook, LookedLeft, CanExplore}
 
@@ -44,11 +48,11 @@ Follows T g P q k v = T × Unbeaten g P q k v
 abbrev pub Meets : Type 0 → Network → List ℕ → ℕ → ℕ → ℕ → Type 0
 Meets T g P q k v = T × Met g P q k v
 
-pub follows-lead : (T : Type 0) {g : Network} → Accepted g → (P : List ℕ) (q k : ℕ) → 1 ≤ k → Leads g q (Follows T g P q k) (Meets T g P q k)
+pub follows-lead : (T : Type 0) {g : Network} → Accepted g → (P : List ℕ) (q k : ℕ) → 1 ≤ k → Leads g (one g q) (Follows T g P q k) (Meets T g P q k)
 follows-lead T ok P q k some =
     let l = met-leads ok P q k some in
     record {
-      start = λ m. (m .0, l .start (m .1));
+      start = λ v e m. (m .0, l .start v e (m .1));
       through = λ v m ne n. let r = l .through v (m .1) ne n in record { last = r .last; is-open = (m .0, r .is-open); is-seen = (m .0, r .is-seen) };
     }
 
@@ -62,9 +66,9 @@ pub record Answering (g : Network) (P : List ℕ) (q k : ℕ) (xs : List ℕ) (b
 
 -- the search between two entries
 pub record Querying (T : Type 0) (g : Network) (P : List ℕ) (q k : ℕ) (xs : List ℕ) (b settled len : ℕ) : Type 0 where
-  pub progress : Progress g q (Follows T g P q k) (Meets T g P q k) xs b settled len
+  pub progress : Progress g (one g q) (Follows T g P q k) (Meets T g P q k) xs b settled len
   pub only : Only g P xs
-  pub blank : (j : ℕ) → idsBase g ≤ j → j < b → getD xs j 0 ≡ 0
+  pub blank : (j : ℕ) → flagsEnd g ≤ j → j < b → getD xs j 0 ≡ 0
   pub right : T → Answering g P q k xs b
 
 -- where T holds: r points were found from v, from label l, and the listed ones have their flags
@@ -72,15 +76,13 @@ pub record Found (g : Network) (P : List ℕ) (q k : ℕ) (xs : List ℕ) (v l r
   pub count : r ≡ length (nearest g P v l k)
   pub told : (p : ℕ) → Near g P v l k p → isListed g P q k p ≡ true → getD xs (nodeCount g + p) 0 ≢ 0
 
--- the search when an entry of v at label l is taken, and v was looked at, but is not yet settled; before it took the entry it had no more room than
--- `most`
-pub record Arrived (T : Type 0) (g : Network) (P : List ℕ) (q k most : ℕ) (ys : List ℕ) (b settled left l v r : ℕ) : Type 0 where
+-- the search when an entry of v at label l is taken, and v was looked at, but is not yet settled
+pub record Arrived (T : Type 0) (g : Network) (P : List ℕ) (q k : ℕ) (ys : List ℕ) (b settled left l v r : ℕ) : Type 0 where
   pub before : List ℕ
   pub len : ℕ
   pub parent : ℕ
   pub querying : Querying T g P q k before b settled len
   pub took : Took (nodeCount g) before ys b len left l v parent
-  pub had : room g before b len ≤ most
   pub found : T → Found g P q k before v l r
 
 module _ {g : Network} {P ids dists s₀ : List ℕ} {b q k K : ℕ} (c : CanExplore g P ids dists s₀ b q k K) where
@@ -94,19 +96,28 @@ module _ {g : Network} {P ids dists s₀ : List ℕ} {b q k K : ℕ} (c : CanExp
   site : q < nodeCount g
   site = c .asked .site
 
-  low : idsBase g ≤ b
+  low : flagsEnd g ≤ b
   low = omega (arith, c .base)
 
-  leads : Leads g q (Follows T g P q k) (Meets T g P q k)
+  leads : Leads g (one g q) (Follows T g P q k) (Meets T g P q k)
   leads = follows-lead T ok P q k (c .asked .some)
 
   -- ---- The search begins.
-  pub querying-start : {xs : List ℕ} → Started (nodeCount g) s₀ xs b q → Querying (IsTable g P K ids dists) g P q k xs b 0 1
+  pub can-expand : CanExpand g s₀ b q
+  can-expand =
+      record {
+        accepted = ok;
+        inside = site;
+        blank = record { zero = λ j h. c .blank .zero j (omega (arith, low)) };
+        size = c .size;
+      }
+
+  pub querying-start : {xs : List ℕ} → PushedNode (nodeCount g) s₀ xs b (queueBase (nodeCount g) b) 0 (keyOf 0 (tagOf q q)) → Querying (IsTable g P K ids dists) g P q k xs b 0 1
   querying-start {xs} t =
       record {
-        progress = progress-start ok (record { zero = λ j h. c .blank .zero j (omega (arith, low)) }) (c .size) site t;
+        progress = progress-start ok can-expand t;
         only = λ p h n. c .only p h (rw (word (nodeCount g + p) (omega (arith, low))) at n);
-        blank = λ j h m. t .frame .words j (omega arith) ∙ c .blank .zero j h;
+        blank = λ j h m. word j m ∙ c .blank .zero j h;
         right =
             λ _.
             record {
@@ -114,29 +125,29 @@ module _ {g : Network} {P ids dists s₀ : List ℕ} {b q k K : ℕ} (c : CanExp
               own = λ a. rw (word (nodeCount g + q) (omega (arith, low, site))) (c .own a);
               told =
                   λ v l p h near a.
-                  absurd (omega (arith, h .is, label-same b (t .frame) v (h .inside), c .blank .zero (b + v) (omega (arith, low))));
+                  absurd (omega (arith, label-back (progress-begun ok can-expand t) v l h .is, c .blank .zero (b + v) (omega (arith, low))));
             };
       }
     where
       word : (i : ℕ) → i < b → getD xs i 0 ≡ getD s₀ i 0
-      word i h = t .frame .words i (omega arith)
+      word i h = t .frame .before i h
 
   -- ---- An entry is taken, and its node looked at: flags before the area change.
   module _ {xs : List ℕ} {settled len : ℕ} (e : Querying (IsTable g P K ids dists) g P q k xs b settled len)
       {ys : List ℕ} {left l v u : ℕ} (t : Took (nodeCount g) xs ys b len left l v u) where
     fits : b ≤ length ys
-    fits = omega (arith, e .progress .size, t .leaves .frame .size)
+    fits = omega (arith, e .progress .area .queue .room, t .popped .frame .size)
 
     fits-old : b ≤ length xs
-    fits-old = omega (arith, e .progress .size)
+    fits-old = omega (arith, e .progress .area .queue .room)
 
     front : (i : ℕ) → i < b → getD (take b ys) i 0 ≡ getD xs i 0
-    front i h = getD-take b ys i 0 h ∙ t .leaves .frame .words i (omega arith)
+    front i h = getD-take b ys i 0 h ∙ t .popped .frame .before i h
 
     pub front-size : length (take b ys) ≡ b
     front-size = length-take-le b ys fits
 
-    front-blank : Blank (take b ys) (idsBase g)
+    front-blank : Blank (take b ys) (flagsEnd g)
     front-blank =
         record {
           zero =
@@ -188,9 +199,9 @@ module _ {g : Network} {P ids dists s₀ : List ℕ} {b q k K : ℕ} (c : CanExp
       seen y = look .right y (took-walk ok (e .progress) t) (flags-same (λ i h. front i (omega (arith, low))) (e .right y .flags))
 
       pub arrived-size : length (zs ++ drop b ys) ≡ length xs
-      arrived-size = new .size ∙ t .leaves .frame .size
+      arrived-size = new .size ∙ t .popped .frame .size
 
-      pub arrive : Arrived (IsTable g P K ids dists) g P q k (room g xs b len) (zs ++ drop b ys) b settled left l v r
+      pub arrive : Arrived (IsTable g P K ids dists) g P q k (zs ++ drop b ys) b settled left l v r
       arrive =
           record {
             before = zs ++ drop b xs;
@@ -212,7 +223,6 @@ module _ {g : Network} {P ids dists s₀ : List ℕ} {b q k K : ℕ} (c : CanExp
             took =
                 took-beside (nodeCount g) old new
                 (λ i h. first-part b ys zs fits (grown .size) i h ∙ sym (first-part b xs zs fits-old same-old i h)) t;
-            had = omega (arith, room-beside old g len);
             found =
                 λ y.
                 record {
@@ -225,7 +235,7 @@ module _ {g : Network} {P ids dists s₀ : List ℕ} {b q k K : ℕ} (c : CanExp
           }
 
   -- ---- The node is settled; the search stops behind it or follows its arcs.
-  module _ {most : ℕ} {ys : List ℕ} {settled left l v r : ℕ} (a : Arrived (IsTable g P K ids dists) g P q k most ys b settled left l v r) where
+  module _ {ys : List ℕ} {settled left l v r : ℕ} (a : Arrived (IsTable g P K ids dists) g P q k ys b settled left l v r) where
     -- k points were found: the node is beaten
     many-beaten : T → k ≤ r → Beaten g P q k v
     many-beaten y h =
@@ -233,11 +243,17 @@ module _ {g : Network} {P ids dists s₀ : List ℕ} {b q k K : ℕ} (c : CanExp
         (λ o. took-exact ok (a .querying .progress .area) (a .querying .progress .searched) (a .took) leads (y, inl o))
         (omega (arith, a .found y .count, nearest-length g P v l k))
 
-    module _ {ws : List ℕ} (same : Kept (settledAs (nodeCount g) ys b settled v l) ws (queueBase (nodeCount g) b)) where
-      word : (i : ℕ) → i < b → getD ws i 0 ≡ getD (a .before) i 0
-      word = frame-settled ok (a .querying .progress) (a .took) same .words
+    module _ {ws : List ℕ} (same : Moved (nodeCount g) (settledAs (nodeCount g) ys b settled v l) ws b) where
+      area : Area (nodeCount g) ys b settled left
+      area = took-area ok (a .querying .progress .area) (a .querying .progress .searched) (a .took)
 
-      next : {more : ℕ} → Progress g q (Follows T g P q k) (Meets T g P q k) ws b (settled + 1) more → Querying (IsTable g P K ids dists) g P q k ws b (settled + 1) more
+      free : getD ys (b + v) 0 ≡ 0
+      free = took-word ok (a .querying .progress .area) (a .querying .progress .searched) (a .took)
+
+      word : (i : ℕ) → i < b → getD ws i 0 ≡ getD (a .before) i 0
+      word i h = same .before i h ∙ frame-settle area v l (a .took .inside) free .words i h ∙ a .took .popped .frame .before i h
+
+      next : {more : ℕ} → Progress g (one g q) (Follows T g P q k) (Meets T g P q k) ws b (settled + 1) more → Querying (IsTable g P K ids dists) g P q k ws b (settled + 1) more
       next p =
           record {
             progress = p;
@@ -256,40 +272,30 @@ module _ {g : Network} {P ids dists s₀ : List ℕ} {b q k K : ℕ} (c : CanExp
           told y x m p h near c =
               rw (word (nodeCount g + p) (omega (arith, low, near .nearer .inside)))
               (⊎-elim
-              (λ o. a .querying .right y .told x m p (label-back b (a .took .leaves .frame) x m o) near c)
+              (λ o. a .querying .right y .told x m p (label-back (took-moved ok (a .querying .progress .area) (a .querying .progress .searched) (a .took)) x m o) near c)
               (λ s. a .found y .told p (rw (s .0, s .1) at near) c)
-              (settle-marks ok (took-area ok (a .querying .progress) (a .took)) l (a .took .inside) (took-word ok (a .querying .progress) (a .took)) same .old x m h))
+              (settle-marks ok area l (a .took .inside) free same .old x m h))
 
     -- the search stops behind the node
-    pub room-left : room g (settledAs (nodeCount g) ys b settled v l) b left < most
-    room-left = omega (arith, room-stopped ok (a .querying .progress) (a .took), a .had)
-
     pub querying-stopped : k ≤ r → Querying (IsTable g P K ids dists) g P q k (settledAs (nodeCount g) ys b settled v l) b (settled + 1) left
-    querying-stopped h = next kept-same (progress-stopped ok (a .querying .progress) (a .took) leads (λ o. o .1 (many-beaten (o .0) h)))
+    querying-stopped h = next moved-same (progress-stopped ok (a .querying .progress) (a .took) leads (λ o. o .1 (many-beaten (o .0) h)))
 
     -- or follows its arcs
     module _ {ws : List ℕ} {more : ℕ} (w : Followed g (settledAs (nodeCount g) ys b settled v l) ws b left more v l (length (neighboursOf g v))) where
-      pub room-followed : room g ws b more < most
-      room-followed = omega (arith, room-falls ok (a .querying .progress) (a .took) leads w, a .had)
-
       pub querying-opened : Querying (IsTable g P K ids dists) g P q k ws b (settled + 1) more
       querying-opened = next (w .frame) (progress-settled ok (a .querying .progress) (a .took) leads w)
 
   -- ---- No entry waits: the found flags are those of the listed points, where T holds.
-  module _ {xs : List ℕ} {settled len : ℕ} (e : Querying (IsTable g P K ids dists) g P q k xs b settled len) {ys : List ℕ} (t : Emptied (nodeCount g) xs ys b len) where
-    flag : (p : ℕ) → p < nodeCount g → getD ys (nodeCount g + p) 0 ≡ getD xs (nodeCount g + p) 0
-    flag p h = t .leaves .frame .words (nodeCount g + p) (omega (arith, low))
-
-    pub ended-only : Only g P ys
-    ended-only p h n = e .only p h (rw (flag p h) at n)
+  module _ {xs : List ℕ} {settled len : ℕ} (e : Querying (IsTable g P K ids dists) g P q k xs b settled len) (z : len ≡ 0) where
+    pub ended-only : Only g P xs
+    ended-only = e .only
 
     listed-flag : T → (p : ℕ) → p < nodeCount g → isListed g P q k p ≡ true → getD xs (nodeCount g + p) 0 ≢ 0
     listed-flag y =
         listed-flagged ok P q k (LabelAt (nodeCount g) xs b)
-        (λ v m r. search-finished ok (e .progress .area) (e .progress .searched) t leads v (y, m) r)
+        (λ v m r. search-finished ok (e .progress .area) (e .progress .searched) z leads v (y, m) r)
         (λ p. getD xs (nodeCount g + p) 0 ≢ 0) (e .right y .own) (e .right y .told)
 
-    pub ended-found : IsTable g P K ids dists → (p : ℕ) → p < nodeCount g → isFound (nodeCount g) ys p ≡ isListed g P q k p
+    pub ended-found : IsTable g P K ids dists → (p : ℕ) → p < nodeCount g → isFound (nodeCount g) xs p ≡ isListed g P q k p
     ended-found y p h =
-        ap (λ (w : ℕ). not (eqb w 0)) (flag p h)
-        ∙ flag-right (getD xs (nodeCount g + p) 0) (isListed g P q k p) (listed-flag y p h) (e .right y .flags .sound p h)
+        flag-right (getD xs (nodeCount g + p) 0) (isListed g P q k p) (listed-flag y p h) (e .right y .flags .sound p h)

@@ -1,5 +1,5 @@
 -- What the table query requires and leaves. Document 01, 'The table'. The lent words are: verified flags n | found flags n | the area of the inner
--- expansions | the area of the outer expansion. A lent table is not tested: what holds of any is said apart from what holds of the table of P.
+-- expansions, 4 n | the area of the outer expansion, 4 n. A lent table is not tested: what holds of any is said apart from what holds of the table of P.
 -- Assumes nothing.
 use Prim.Native.Nat.{ℕ, _+_, _-_, _*_, _≤_, _<_}
 use mathlib.Core.Path.{_≡_}
@@ -7,7 +7,7 @@ use mathlib.Core.Logic.{_≢_, _⊎_}
 use mathlib.Core.Bool.{Bool, true}
 use mathlib.Core.List.{List}
 use lib.ListN.{length, getD}
-use Rattle.network.specs.Network.{Network, nodeCount, arcCount}
+use Rattle.network.specs.Network.{Network, nodeCount}
 use Rattle.network.specs.Accepted.{Accepted}
 use Rattle.network.specs.Walk.{Walk}
 use Rattle.network.specs.Distance.{dist, Upto}
@@ -17,13 +17,13 @@ use Rattle.network.specs.Rows.{tableDistances}
 use Rattle.network.specs.Answers.{answered}
 use Rattle.expansion.specs.Area.{queueBase, Blank, Wiped}
 use Rattle.expansion.specs.Visited.{CanVisit}
-use Rattle.searches.specs.Flags.{idsBase, Flags, Grows, Looked}
+use Rattle.searches.specs.Flags.{flagsEnd, Flags, Grows, Looked}
 use Rattle.searches.specs.Eager.{isFound}
 use Rattle.rows.specs.Flat.{IsTable}
 
 -- where the outer area starts: the inner one starts behind the flags
 abbrev pub outerBase : Network → ℕ
-outerBase g = queueBase (nodeCount g) (idsBase g) + 2 * (arcCount g + 1)
+outerBase g = queueBase (nodeCount g) (flagsEnd g) + 2 * nodeCount g
 
 -- only points have a found flag
 abbrev pub Only : Network → List ℕ → List ℕ → Type 0
@@ -42,26 +42,26 @@ pub record Asked (g : Network) (P dists : List ℕ) (q k K : ℕ) : Type 0 where
 -- the words before the outer area
 pub record Front (g : Network) (P xs : List ℕ) : Type 0 where
   pub only : Only g P xs
-  pub blank : Blank xs (idsBase g)
+  pub blank : Blank xs (flagsEnd g)
   pub size : outerBase g ≤ length xs
 
 -- ys is xs with more flags, and the words behind them as they were
 pub record Grown (g : Network) (P xs ys : List ℕ) : Type 0 where
   pub size : length ys ≡ length xs
-  pub words : (i : ℕ) → idsBase g ≤ i → getD ys i 0 ≡ getD xs i 0
+  pub words : (i : ℕ) → flagsEnd g ≤ i → getD ys i 0 ≡ getD xs i 0
   pub only : Only g P ys
   pub grows : Grows g xs ys
 
 -- the other points' distances stand behind p's own place. p is listed at once where its k-th other point is no nearer than a way to the site, of
 -- the given sum; else the rule is tried
 pub record CanDecide (g : Network) (P others xs : List ℕ) (p q k : ℕ) : Type 0 where
-  pub visit : CanVisit g P xs (idsBase g) p q
+  pub visit : CanVisit g P xs (flagsEnd g) p q
   pub some : 1 ≤ k
   pub few : k ≤ length others
 
 pub record Decided (g : Network) (P others : List ℕ) (p q k sum : ℕ) (xs ys : List ℕ) (yes : Bool) : Type 0 where
   pub answer : ((sum ≤ getD others (k - 1) 0) × (yes ≡ true)) ⊎ (yes ≡ verified g P p q k)
-  pub area : Wiped xs ys (idsBase g)
+  pub area : Wiped xs ys (flagsEnd g)
 
 -- p, which is any word, is verified where it is a point; `sum` is that of a way from p to the site, where the table is right
 pub record CanVerify (g : Network) (P dists : List ℕ) (q k K : ℕ) (xs : List ℕ) : Type 0 where
@@ -119,8 +119,8 @@ pub record CanExplore (g : Network) (P ids dists xs : List ℕ) (b q k K : ℕ) 
   pub only : Only g P xs
   pub flags : Flags g P q k xs
   pub own : isListed g P q k q ≡ true → getD xs (nodeCount g + q) 0 ≢ 0
-  pub blank : Blank xs (idsBase g)
-  pub size : queueBase (nodeCount g) b + 2 * (arcCount g + 1) ≤ length xs
+  pub blank : Blank xs (flagsEnd g)
+  pub size : queueBase (nodeCount g) b + 2 * nodeCount g ≤ length xs
 
 pub record ExploreLeft (g : Network) (P ids dists : List ℕ) (q k K : ℕ) (xs ys : List ℕ) : Type 0 where
   pub size : length ys ≡ length xs
@@ -131,7 +131,7 @@ pub record CanQuery (g : Network) (P ids dists xs old : List ℕ) (q k K : ℕ) 
   pub asked : Asked g P dists q k K
   pub all-ids : length ids ≡ nodeCount g * K
   pub blank : Blank xs 0
-  pub size : queueBase (nodeCount g) (outerBase g) + 2 * (arcCount g + 1) ≤ length xs
+  pub size : queueBase (nodeCount g) (outerBase g) + 2 * nodeCount g ≤ length xs
   pub answers : nodeCount g ≤ length old
 
 -- On a table that the check would deny, 'the list (marked nodes, ascending) [..] [is] free': the points that pass some test

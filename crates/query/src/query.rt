@@ -253,7 +253,7 @@ pub fn query(
     ensures { λ r. ⌜ QueryLeft (network (now (starts .entry)) (now (neighbours .entry)) (now (weights .entry))) (now (points .entry)) (now (ids .entry)) (now (distances .entry)) q k places (now (s .entry)) (now (s .exit)) (now (answers .entry)) (now (answers .exit)) r ⌝ }
 {
     let n = starts.len() - 1;
-    let b = 4 * n + 2 * (neighbours.len() + 1);
+    let b = 6 * n;
     let own = n + wide(q);
     s[own] = eager::own_flag(points, q);
     explore(

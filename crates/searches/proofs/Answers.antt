@@ -16,6 +16,7 @@ use Rattle.network.specs.Nearest.{key, Nearer, before}
 use borrow.Author.Tests.{ltb-true}
 use Rattle.network.proofs.Distances.{dist-walk, dist-symmetric}
 use Rattle.network.proofs.Rank.{Near, before-step, before-most}
+use Rattle.expansion.proofs.Origins.{one, one-lawful}
 use Rattle.expansion.proofs.Search.{Explored, closed-leads, finished}
 use Rattle.searches.proofs.Beaten.{Unbeaten, Part, unbeaten-closed, expanded-unbeaten}
 use Rattle.searches.proofs.Listed.{listed-parts, lazy-open}
@@ -72,7 +73,7 @@ come-expanded {g} ok P q k m walk n =
     expanded-unbeaten g P q k m .1 (omega (arith, dist-walk ok walk .some, dist-symmetric ok q m), n)
 
 -- with some of the marks, M: each point that is listed is among them, or its node is settled
-pub lazy-finished : {g : Network} → Accepted g → (P M : List ℕ) (q k : ℕ) {Settled : ℕ → ℕ → Type 0} {Held : ℕ → ℕ → ℕ → Type 0} → Explored g q (Unbeaten g M q k) Settled Held → ((u x y : ℕ) → Held u x y → ⊥) → Part M P → (p : ℕ) → isListed g P q k p ≡ true → marked M p ≡ false → Settled p (dist g q p)
+pub lazy-finished : {g : Network} → Accepted g → (P M : List ℕ) (q k : ℕ) {Settled : ℕ → ℕ → Type 0} {Held : ℕ → ℕ → Type 0} → Explored g (one g q) (Unbeaten g M q k) Settled Held → ((u x : ℕ) → Held u x → ⊥) → Part M P → (p : ℕ) → isListed g P q k p ≡ true → marked M p ≡ false → Settled p (dist g q p)
 lazy-finished {g} ok P M q k e none sub p h new =
-    finished ok (closed-leads ok (unbeaten-closed ok M q k)) e none p (lazy-open g P M q k p h sub new)
+    finished ok (closed-leads (one-lawful ok q) (unbeaten-closed ok M q k)) e none p (lazy-open g P M q k p h sub new)
     (omega (arith, listed-parts g P q k p .0 h .reach, dist-symmetric ok q p))

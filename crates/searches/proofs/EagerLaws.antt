@@ -9,7 +9,7 @@ use native.Mathlib.Decide.{ℕ-discrete}
 use native.Mathlib.Omega.{arith}
 use lib.ListN.{length, getD, set, length-set}
 use lib.Seq.{getD-set-same, getD-set-other}
-use Rattle.network.specs.Network.{Network, nodeCount, arcCount}
+use Rattle.network.specs.Network.{Network, nodeCount}
 use Rattle.network.specs.Count.{bit, select}
 use Rattle.network.specs.Points.{marked, isListed, listed}
 use Rattle.network.specs.Accepted.{Accepted}
@@ -52,7 +52,7 @@ module _ {g : Network} (ok : Accepted g) (P : List ℕ) (q : ℕ) {xs : List ℕ
     first-own a z = omega (arith, first-here, ap bit (own-listed ok P q k some .0 a))
 
 pub begun : {g : Network} {P xs old : List ℕ} {q k : ℕ} → CanSearch g P xs old q k
-    → CanExplore g P (set xs (nodeCount g + q) (bit (marked P q))) (4 * nodeCount g + 2 * k + 2 * (arcCount g + 1)) q k
+    → CanExplore g P (set xs (nodeCount g + q) (bit (marked P q))) (8 * nodeCount g) q k
 begun {g} {P} {xs} {q} {k} c =
     let fits : nodeCount g + q < length xs = omega (arith, c .size, c .site) in
     record {

@@ -7,12 +7,12 @@ use mathlib.Core.Path.{_≡_, refl, sym, ap, _∙_}
 use mathlib.Core.Bool.{Bool, true, false, not, _&&_, false≢true}
 use mathlib.Core.Logic.{_≢_, inl, ⊎-elim}
 use mathlib.Core.List.{List, _++_}
-use native.Mathlib.Decide.{ℕ-discrete, decLt}
+use native.Mathlib.Decide.{ℕ-discrete, decLt, decLe}
 use native.Mathlib.Omega.{arith}
-use lib.Dec.{eqb}
+use lib.Dec.{leb}
 use lib.ListN.{length, getD, take, drop, List·getD-eq-default}
 use lib.Seq.{getD-take, length-take-le}
-use borrow.Author.Tests.{eq-eqb, ne-eqb, eqb-false, not-true}
+use borrow.Author.Tests.{le-leb, lt-leb, leb-false, not-true}
 use Rattle.network.specs.Network.{Network, nodeCount, neighboursOf}
 use Rattle.network.specs.Accepted.{Accepted}
 use Rattle.network.specs.Distance.{NONE, dist}
@@ -23,11 +23,18 @@ use Rattle.network.proofs.Tests.{bool-cases, and-parts, and-left, and-right}
 use Rattle.network.proofs.Counts.{count-mono, count-same, count-none, without, without-self, without-other, count-without}
 use Rattle.network.proofs.Rank.{Near}
 use Rattle.network.proofs.Rows.{nearest-length, near-listed}
-use Rattle.expansion.specs.Area.{queueBase, unsettled, LabelAt, Kept, Started, Took, Emptied, Followed}
-use Rattle.expansion.proofs.AreaLaws.{settledAs, label-same}
-use Rattle.expansion.proofs.AreaSearch.{label-back, took-exact, search-finished, settle-marks}
-use Rattle.expansion.proofs.Progress.{Progress, progress-start, progress-settled, took-area, took-word, took-walk, frame-settled, label-taken, label-others}
+use Rattle.expansion.specs.Queue.{keyOf}
+use Rattle.expansion.specs.Tags.{tagOf}
+use Rattle.expansion.specs.Area.{queueBase, unsettled, LabelAt, Area, Moved, Took, Followed}
 use Rattle.expansion.proofs.Beside.{Beside, beside-first, label-beside, beside-label-at, progress-beside}
+use Rattle.expansion.specs.Expand.{CanExpand}
+use Rattle.expansion.proofs.Origins.{one}
+use Rattle.expansion.proofs.Search.{Leads}
+use Rattle.expansion.proofs.AreaLaws.{moved-same, settledAs, others-settle, frame-settle}
+use Rattle.expansion.proofs.AreaSearch.{label-back, took-area, took-word, took-waited, took-moved, took-exact, took-held, search-finished, settle-marks}
+use Rattle.expansion.proofs.Progress.{Progress, progress-begun, progress-start, progress-settled}
+use Rattle.expansion.proofs.Stopping.{progress-stopped, took-beside}
+use Rattle.expansion.specs.NodeQueue.{PushedNode}
 use Rattle.searches.specs.Flags.{idsBase, Flags, CanLook, Looked}
 use Rattle.searches.specs.Eager.{CanExplore, isFound}
 use Rattle.searches.proofs.Beaten.{Beaten, Unbeaten, stops, goes-on, expanded-unbeaten}
@@ -36,14 +43,13 @@ use Rattle.searches.proofs.Answers.{listed-flagged, expanded-settled, c
 use Rattle.network.proofs.Lends.{first-part}
 use Rattle.searches.proofs.FlagLaws.{flag-right}
 use Rattle.searches.proofs.LookLaws.{flags-same}
-use Rattle.expansion.proofs.Stopping.{kept-same, progress-stopped, took-beside}
 
 -- a settled node that is expanded
 abbrev pub isDone : Network → List ℕ → ℕ → ℕ → List ℕ → ℕ → ℕ → Bool
-isDone g P q k xs b v = not (unsettled xs b v) && isExpanded g P q k v
+isDone g P q k xs b v = not (unsettled (nodeCount g) xs b v) && isExpanded g P q k v
 
 pub record Exploring (g : Network) (P : List ℕ) (q k limit : ℕ) (xs : List ℕ) (b settled len counted : ℕ) : Type 0 where
-  pub progress : Progress g q (Unbeaten g P q k) (Met g P q k) xs b settled len
+  pub progress : Progress g (one g q) (Unbeaten g P q k) (Met g P q k) xs b settled len
   pub flags : Flags g P q k xs
   pub own : isListed g P q k q ≡ true → getD xs (nodeCount g + q) 0 ≢ 0
   pub blank : (j : ℕ) → idsBase g ≤ j → j < b → getD xs j 0 ≡ 0
@@ -53,6 +59,13 @@ pub record Exploring (g : Network) (P : List ℕ) (q k limit : ℕ) (xs : List �
   pub done : counted ≡ count (isDone g P q k xs b) (nodeCount g)
   pub within : counted ≤ limit
 
+unsettled-moved : {n : ℕ} {xs ys : List ℕ} {b : ℕ} → Moved n xs ys b → (v : ℕ) → v < n → unsettled n ys b v ≡ unsettled n xs b v
+unsettled-moved {n} {xs} {ys} {b} m v h =
+    elim (decLe (getD xs (b + v) 0) n) [
+      | yes l ↦ le-leb (getD ys (b + v) 0) n (m .others v h l) ∙ sym (le-leb (getD xs (b + v) 0) n l)
+      | no l ↦ ap (λ (w : ℕ). leb w n) (m .settled v h (omega arith))
+    ]
+
 module _ {g : Network} {P : List ℕ} {q k b : ℕ} {s₀ : List ℕ} (c : CanExplore g P s₀ b q k) where
   ok : Accepted g
   ok = c .accepted
@@ -60,32 +73,44 @@ module _ {g : Network} {P : List ℕ} {q k b : ℕ} {s₀ : List ℕ} (c : CanEx
   low : idsBase g ≤ b
   low = omega (arith, c .base)
 
+  leads : Leads g (one g q) (Unbeaten g P q k) (Met g P q k)
+  leads = met-leads ok P q k (c .some)
+
+  pub can-expand : CanExpand g s₀ b q
+  can-expand =
+      record {
+        accepted = ok;
+        inside = c .site;
+        blank = record { zero = λ j h. c .blank .zero j (omega (arith, low)) };
+        size = omega (arith, c .size, c .base);
+      }
+
   -- the search begins
-  pub exploring-start : {xs : List ℕ} (limit : ℕ) → Started (nodeCount g) s₀ xs b q → Exploring g P q k limit xs b 0 1 0
+  pub exploring-start : {xs : List ℕ} (limit : ℕ) → PushedNode (nodeCount g) s₀ xs b (queueBase (nodeCount g) b) 0 (keyOf 0 (tagOf q q)) → Exploring g P q k limit xs b 0 1 0
   exploring-start {xs} limit t =
       record {
-        progress = progress-start ok (record { zero = λ j h. c .blank .zero j (omega (arith, low)) }) (omega (arith, c .size, c .base)) (c .site) t;
-        flags = flags-same (λ i h. t .frame .words i (omega (arith, low))) (c .flags);
-        own = λ a. rw (t .frame .words (nodeCount g + q) (omega (arith, low, c .site))) (c .own a);
-        blank = λ j h m. t .frame .words j (omega arith) ∙ c .blank .zero j h;
+        progress = progress-start ok can-expand t;
+        flags = flags-same (λ i h. t .frame .before i (omega (arith, low))) (c .flags);
+        own = λ a. rw (t .frame .before (nodeCount g + q) (omega (arith, low, c .site))) (c .own a);
+        blank = λ j h m. t .frame .before j m ∙ c .blank .zero j h;
         told = λ v l p h near a. absurd (omega (arith, h .is, word v (h .inside)));
         done =
             sym
             (count-none (isDone g P q k xs b) (nodeCount g)
-            (λ x h a. eqb-false (getD xs (b + x) 0) 0 (not-true (unsettled xs b x) (and-parts (not (unsettled xs b x)) _ a .0)) (word x h)));
+            (λ x h a. absurd (omega (arith, leb-false (getD xs (b + x) 0) (nodeCount g) (not-true (unsettled (nodeCount g) xs b x) (and-parts (not (unsettled (nodeCount g) xs b x)) _ a .0)), word x h))));
         within = omega arith;
       }
     where
-      word : (v : ℕ) → v < nodeCount g → getD xs (b + v) 0 ≡ 0
-      word v h = label-same b (t .frame) v h ∙ c .blank .zero (b + v) (omega (arith, low))
+      word : (v : ℕ) → v < nodeCount g → getD xs (b + v) 0 ≤ nodeCount g
+      word v h = progress-begun ok can-expand t .others v h (omega (arith, c .blank .zero (b + v) (omega (arith, low))))
 
   module _ {limit : ℕ} {xs : List ℕ} {settled len counted : ℕ} (e : Exploring g P q k limit xs b settled len counted)
       {ys : List ℕ} {left l v u : ℕ} (t : Took (nodeCount g) xs ys b len left l v u) where
     fits : b ≤ length ys
-    fits = omega (arith, e .progress .size, t .leaves .frame .size)
+    fits = omega (arith, e .progress .area .queue .room, t .popped .frame .size)
 
     fits-old : b ≤ length xs
-    fits-old = omega (arith, e .progress .size)
+    fits-old = omega (arith, e .progress .area .queue .room)
 
     -- what `look` requires of the words before the area
     pub can-look : CanLook g P q k (take b ys) v
@@ -96,7 +121,7 @@ module _ {g : Network} {P : List ℕ} {q k b : ℕ} {s₀ : List ℕ} (c : CanEx
                 accepted = ok;
                 points = c .points;
                 site = c .site;
-                flags = flags-same (λ i h. getD-take b ys i 0 (omega (arith, low)) ∙ t .leaves .frame .words i (omega (arith, low))) (e .flags);
+                flags = flags-same (λ i h. getD-take b ys i 0 (omega (arith, low)) ∙ t .popped .frame .before i (omega (arith, low))) (e .flags);
                 blank = record { zero = λ j h. zeros j (omega arith) };
                 size = omega (arith, length-take-le b ys fits, c .base);
               };
@@ -107,7 +132,7 @@ module _ {g : Network} {P : List ℕ} {q k b : ℕ} {s₀ : List ℕ} (c : CanEx
         zeros : (j : ℕ) → idsBase g ≤ j → getD (take b ys) j 0 ≡ 0
         zeros j h =
             elim (decLt j b) [
-              | yes m ↦ getD-take b ys j 0 m ∙ t .leaves .frame .words j (omega arith) ∙ e .blank j h m
+              | yes m ↦ getD-take b ys j 0 m ∙ t .popped .frame .before j m ∙ e .blank j h m
               | no m ↦ List·getD-eq-default (take b ys) 0 (omega (arith, length-take-le b ys fits))
             ]
 
@@ -133,7 +158,7 @@ module _ {g : Network} {P : List ℕ} {q k b : ℕ} {s₀ : List ℕ} (c : CanEx
       grows : (p : ℕ) → p < nodeCount g → getD xs (nodeCount g + p) 0 ≢ 0 → getD (zs ++ drop b xs) (nodeCount g + p) 0 ≢ 0
       grows p h n =
           rw (flag p h)
-          (seen .grows p h (rw (getD-take b ys (nodeCount g + p) 0 (omega (arith, low)), t .leaves .frame .words (nodeCount g + p) (omega (arith, low))) n))
+          (seen .grows p h (rw (getD-take b ys (nodeCount g + p) 0 (omega (arith, low)), t .popped .frame .before (nodeCount g + p) (omega (arith, low))) n))
 
       pub looked-exploring : Exploring g P q k limit (zs ++ drop b xs) b settled len counted
       looked-exploring =
@@ -147,7 +172,7 @@ module _ {g : Network} {P : List ℕ} {q k b : ℕ} {s₀ : List ℕ} (c : CanEx
                 e .done
                 ∙ sym
                 (count-same (isDone g P q k xs b) (isDone g P q k (zs ++ drop b xs) b) (nodeCount g)
-                (λ x h. ap (λ (w : ℕ). not (eqb w 0) && isExpanded g P q k x) (label-beside beside-old x)));
+                (λ x h. ap (λ (w : ℕ). not (leb w (nodeCount g)) && isExpanded g P q k x) (label-beside beside-old x)));
             within = e .within;
           }
 
@@ -158,17 +183,17 @@ module _ {g : Network} {P : List ℕ} {q k b : ℕ} {s₀ : List ℕ} (c : CanEx
     -- fewer than k: the node is expanded; k: it is beaten
     pub few-expanded : {r : ℕ} → r ≡ length (nearest g P v l k) → r < k → isExpanded g P q k v ≡ true
     few-expanded n h =
-        let walk = took-walk ok (e .progress) t in
+        let walk = e .progress .searched .held-walk v l (took-held ok (e .progress .area) (e .progress .searched) t) in
         come-expanded ok P q k v walk (goes-on ok P q k v l walk (omega (arith, nearest-length g P v l k)))
 
     pub many-beaten : {r : ℕ} → r ≡ length (nearest g P v l k) → k ≤ r → Beaten g P q k v
     many-beaten n h =
         stops ok P q k v l
-        (λ o. took-exact ok (e .progress .area) (e .progress .searched) t (met-leads ok P q k (c .some)) (inl o))
+        (λ o. took-exact ok (e .progress .area) (e .progress .searched) t leads (inl o))
         (omega (arith, nearest-length g P v l k))
 
     not-done : isDone g P q k xs b v ≡ false
-    not-done = and-left (not (unsettled xs b v)) _ (ap not (eq-eqb (getD xs (b + v) 0) 0 (t .new)))
+    not-done = and-left (not (unsettled (nodeCount g) xs b v)) _ (ap not (le-leb (getD xs (b + v) 0) (nodeCount g) (took-waited ok (e .progress .area) (e .progress .searched) t)))
 
     -- the count would exceed the limit
     pub beyond : isExpanded g P q k v ≡ true → counted < expanded g P q k
@@ -180,26 +205,31 @@ module _ {g : Network} {P : List ℕ} {q k b : ℕ} {s₀ : List ℕ} (c : CanEx
           count-mono (isDone g P q k xs b) (without (isExpanded g P q k) v) (nodeCount g)
               (λ x i a.
               without-other (isExpanded g P q k) v x (λ s. false≢true (sym not-done ∙ ap (isDone g P q k xs b) (sym s) ∙ a))
-              ∙ and-parts (not (unsettled xs b x)) _ a .1),
+              ∙ and-parts (not (unsettled (nodeCount g) xs b x)) _ a .1),
           count-without (isExpanded g P q k) v (nodeCount g) (t .inside) h,
         )
 
     -- ws is the area in which the node is settled, and perhaps its arcs are followed
-    module _ {ws : List ℕ} (same : Kept (settledAs (nodeCount g) ys b settled v l) ws (queueBase (nodeCount g) b)) where
+    module _ {ws : List ℕ} (same : Moved (nodeCount g) (settledAs (nodeCount g) ys b settled v l) ws b) where
+      area : Area (nodeCount g) ys b settled left
+      area = took-area ok (e .progress .area) (e .progress .searched) t
+
+      new : getD ys (b + v) 0 ≡ 0
+      new = took-word ok (e .progress .area) (e .progress .searched) t
+
       front : (i : ℕ) → i < b → getD ws i 0 ≡ getD xs i 0
-      front = frame-settled ok (e .progress) t same .words
+      front i h = same .before i h ∙ frame-settle area v l (t .inside) new .words i h ∙ t .popped .frame .before i h
 
-      word-here : getD ws (b + v) 0 ≡ suc l
-      word-here = label-taken ok (e .progress) t same
-
-      word-other : (x : ℕ) → x < nodeCount g → x ≢ v → getD ws (b + x) 0 ≡ getD xs (b + x) 0
-      word-other x h n = label-others ok (e .progress) t same x h n ∙ label-same b (t .leaves .frame) x h
+      word-here : getD ws (b + v) 0 ≡ suc (nodeCount g + l)
+      word-here = settle-marks ok area l (t .inside) new same .here .is
 
       done-other : (x : ℕ) → x < nodeCount g → x ≢ v → isDone g P q k ws b x ≡ isDone g P q k xs b x
-      done-other x h n = ap (λ (w : ℕ). not (eqb w 0) && isExpanded g P q k x) (word-other x h n)
+      done-other x h n =
+          ap (λ (w : Bool). not w && isExpanded g P q k x)
+          (unsettled-moved same x h ∙ ap (λ (w : ℕ). leb w (nodeCount g)) (others-settle area v l (t .inside) new x h n) ∙ unsettled-moved (took-moved ok (e .progress .area) (e .progress .searched) t) x h)
 
       done-here : isDone g P q k ws b v ≡ isExpanded g P q k v
-      done-here = rw (ne-eqb (getD ws (b + v) 0) 0 (omega (arith, word-here)))
+      done-here = rw (lt-leb (getD ws (b + v) 0) (nodeCount g) (omega (arith, word-here)))
 
       count-stopped : isExpanded g P q k v ≡ false → count (isDone g P q k ws b) (nodeCount g) ≡ count (isDone g P q k xs b) (nodeCount g)
       count-stopped n =
@@ -227,11 +257,11 @@ module _ {g : Network} {P : List ℕ} {q k b : ℕ} {s₀ : List ℕ} (c : CanEx
         told-next x m p h near a =
             rw (front (nodeCount g + p) (omega (arith, low, near .nearer .inside)))
             (⊎-elim
-            (λ o. e .told x m p (label-back b (t .leaves .frame) x m o) near a)
+            (λ o. e .told x m p (label-back (took-moved ok (e .progress .area) (e .progress .searched) t) x m o) near a)
             (λ s. told p (rw (s .0, s .1) at near) a)
-            (settle-marks ok (took-area ok (e .progress) t) l (t .inside) (took-word ok (e .progress) t) same .old x m h))
+            (settle-marks ok area l (t .inside) new same .old x m h))
 
-        next : {more now : ℕ} → Progress g q (Unbeaten g P q k) (Met g P q k) ws b (settled + 1) more
+        next : {more now : ℕ} → Progress g (one g q) (Unbeaten g P q k) (Met g P q k) ws b (settled + 1) more
             → now ≡ count (isDone g P q k ws b) (nodeCount g) → now ≤ limit → Exploring g P q k limit ws b (settled + 1) more now
         next progress done within =
             record {
@@ -249,22 +279,22 @@ module _ {g : Network} {P : List ℕ} {q k b : ℕ} {s₀ : List ℕ} (c : CanEx
       pub exploring-stopped : Beaten g P q k v → Exploring g P q k limit (settledAs (nodeCount g) ys b settled v l) b (settled + 1) left counted
       exploring-stopped h =
           let n : isExpanded g P q k v ≡ false = ⊎-elim (λ a. absurd (expanded-unbeaten g P q k v .0 a .1 h)) (λ a. a) (bool-cases (isExpanded g P q k v)) in
-          next kept-same told (progress-stopped ok (e .progress) t (met-leads ok P q k (c .some)) (λ o. o h))
-          (e .done ∙ sym (count-stopped kept-same n)) (e .within)
+          next moved-same told (progress-stopped ok (e .progress) t leads (λ o. o h))
+          (e .done ∙ sym (count-stopped moved-same n)) (e .within)
 
       -- or counts it, and follows its arcs
       pub exploring-opened : {ws : List ℕ} {more : ℕ} → isExpanded g P q k v ≡ true → counted < limit
           → Followed g (settledAs (nodeCount g) ys b settled v l) ws b left more v l (length (neighboursOf g v))
           → Exploring g P q k limit ws b (settled + 1) more (counted + 1)
       exploring-opened y h f =
-          next (f .frame) told (progress-settled ok (e .progress) t (met-leads ok P q k (c .some)) f)
+          next (f .frame) told (progress-settled ok (e .progress) t leads f)
           (omega (arith, e .done, count-opened (f .frame) y)) (omega arith)
 
   -- ---- No entry waits.
   module _ {limit : ℕ} {xs : List ℕ} {settled len counted : ℕ} (e : Exploring g P q k limit xs b settled len counted)
-      {ys : List ℕ} (t : Emptied (nodeCount g) xs ys b len) where
+      (t : len ≡ 0) where
     all : (v : ℕ) → Met g P q k v → dist g q v ≢ NONE → LabelAt (nodeCount g) xs b v (dist g q v)
-    all = search-finished ok (e .progress .area) (e .progress .searched) t (met-leads ok P q k (c .some))
+    all = search-finished ok (e .progress .area) (e .progress .searched) t leads
 
     pub count-all : counted ≡ expanded g P q k
     unfolding expanded
@@ -273,13 +303,12 @@ module _ {g : Network} {P : List ℕ} {q k b : ℕ} {s₀ : List ℕ} (c : CanEx
         by : (x : ℕ) (d : Bool) → isExpanded g P q k x ≡ d → isDone g P q k xs b x ≡ isExpanded g P q k x
         by x true a =
             let w = expanded-settled ok P q k (LabelAt (nodeCount g) xs b) all x a in
-            rw (ne-eqb (getD xs (b + x) 0) 0 (omega (arith, w .is)))
-        by x false a = and-right (not (unsettled xs b x)) (isExpanded g P q k x) a ∙ sym a
+            rw (lt-leb (getD xs (b + x) 0) (nodeCount g) (omega (arith, w .is)))
+        by x false a = and-right (not (unsettled (nodeCount g) xs b x)) (isExpanded g P q k x) a ∙ sym a
 
     listed-flag : (p : ℕ) → p < nodeCount g → isListed g P q k p ≡ true → getD xs (nodeCount g + p) 0 ≢ 0
     listed-flag = listed-flagged ok P q k (LabelAt (nodeCount g) xs b) all (λ p. getD xs (nodeCount g + p) 0 ≢ 0) (e .own) (e .told)
 
-    pub found-all : (p : ℕ) → p < nodeCount g → isFound (nodeCount g) ys p ≡ isListed g P q k p
+    pub found-all : (p : ℕ) → p < nodeCount g → isFound (nodeCount g) xs p ≡ isListed g P q k p
     found-all p h =
-        ap (λ (w : ℕ). not (eqb w 0)) (t .leaves .frame .words (nodeCount g + p) (omega (arith, low)))
-        ∙ flag-right (getD xs (nodeCount g + p) 0) (isListed g P q k p) (listed-flag p h) (e .flags .sound p h)
+        flag-right (getD xs (nodeCount g + p) 0) (isListed g P q k p) (listed-flag p h) (e .flags .sound p h)

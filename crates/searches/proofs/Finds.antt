@@ -15,6 +15,7 @@ use Rattle.network.specs.Points.{countNearer, isListed}
 use Rattle.network.specs.Nearest.{Nearer}
 use Rattle.network.proofs.Distances.{Previous, dist-at-most, dist-self, dist-symmetric, dist-triangle, dist-arc, dist-next, dist-previous}
 use Rattle.network.proofs.Rank.{count-nearer-mono, others-nearly, others-part}
+use Rattle.expansion.proofs.Origins.{Last, one, one-lawful}
 use Rattle.expansion.proofs.Search.{Through, Leads}
 use Rattle.searches.proofs.Beaten.{Beaten, Unbeaten, decBeaten, unbeaten-closed}
 use Rattle.searches.proofs.Listed.{Lists, listed-parts, own-unbeaten}
@@ -32,10 +33,10 @@ pub record Behind (g : Network) (P : List ℕ) (q k c : ℕ) : Type 0 where
 abbrev pub Met : Network → List ℕ → ℕ → ℕ → ℕ → Type 0
 Met g P q k c = Unbeaten g P q k c ⊎ Behind g P q k c
 
-pub met-leads : {g : Network} → Accepted g → (P : List ℕ) (q k : ℕ) → 1 ≤ k → Leads g q (Unbeaten g P q k) (Met g P q k)
-met-leads {g} ok P q k some = record { start = λ m. own-unbeaten ok P q k some; through = λ v m ne n. by v m (dist-previous ok q v ne n) }
+pub met-leads : {g : Network} → Accepted g → (P : List ℕ) (q k : ℕ) → 1 ≤ k → Leads g (one g q) (Unbeaten g P q k) (Met g P q k)
+met-leads {g} ok P q k some = record { start = λ v e m. rw e (own-unbeaten ok P q k some); through = λ v m ne n. by v m (one-lawful ok q .previous v ne n) }
   where
-    by : (v : ℕ) → Met g P q k v → Previous g q v → Through g q (Unbeaten g P q k) (Met g P q k) v
+    by : (v : ℕ) → Met g P q k v → Last g (one g q) v → Through g (one g q) (Unbeaten g P q k) (Met g P q k) v
     by v (inl o) p =
         let h = unbeaten-closed ok P q k .before (p .from) v (p .weight) o (p .arc) (p .sum) (p .reach) in
         record { last = p; is-open = h; is-seen = inl h }

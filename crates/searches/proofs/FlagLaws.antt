@@ -92,10 +92,10 @@ module _ {g : Network} {P : List ℕ} {q k p : ℕ} {xs : List ℕ} (c : CanVeri
       }
 
   -- what `verify` requires, when p's flag is set
-  blank-set : Blank (set xs p 1) (innerBase g k)
+  blank-set : Blank (set xs p 1) (innerBase g)
   blank-set = record { zero = λ j h. getD-set-other xs p j 1 0 (omega (arith, c .inside)) ∙ c .front .blank .zero j h }
 
-  pub can-visit : CanVisit g P (set xs p 1) (innerBase g k) p q
+  pub can-visit : CanVisit g P (set xs p 1) (innerBase g) p q
   can-visit =
       record {
         expand =
@@ -109,13 +109,13 @@ module _ {g : Network} {P : List ℕ} {q k p : ℕ} {xs : List ℕ} (c : CanVeri
         points = c .front .points;
       }
 
-  module _ {zs : List ℕ} {told : Bool} (v : VerifyLeft g P p q k (set xs p 1) zs (innerBase g k) told) where
+  module _ {zs : List ℕ} {told : Bool} (v : VerifyLeft g P p q k (set xs p 1) zs (innerBase g) told) where
     pub left-size : length zs ≡ length xs
     left-size = v .area .frame .size ∙ length-set xs p 1
 
     word : (i : ℕ) → i ≢ p → getD zs i 0 ≡ getD xs i 0
     word i n =
-        elim (decLt i (innerBase g k)) [
+        elim (decLt i (innerBase g)) [
           | yes h ↦ v .area .frame .words i h ∙ getD-set-other xs p i 1 0 n
           | no h ↦ v .area .blank .zero i (omega arith) ∙ sym (c .front .blank .zero i (omega arith))
         ]

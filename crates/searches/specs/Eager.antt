@@ -1,5 +1,5 @@
--- What eager requires and leaves. Document 01, 'What a site receives', and number 12. The lent words are: verified flags n | found flags n | found
--- ids k | found distances k | the area of the inner expansions | the area of the outer expansion.
+-- What eager requires and leaves. Document 01, 'What a site receives', and number 12. The lent words are: verified flags n | found flags n |
+-- n words that stay 0 (for the visits of Ask 4) | found nodes n | the area of the inner expansions, 4 n | the area of the outer expansion, 4 n.
 -- Assumes nothing.
 use Prim.Native.Nat.{ℕ, _+_, _*_, _≤_, _<_}
 use mathlib.Core.Path.{_≡_}
@@ -8,19 +8,23 @@ use mathlib.Core.Bool.{Bool, true, false, not}
 use mathlib.Core.List.{List}
 use lib.Dec.{eqb}
 use lib.ListN.{length, getD}
-use Rattle.network.specs.Network.{Network, nodeCount, arcCount}
+use Rattle.network.specs.Network.{Network, nodeCount}
 use Rattle.network.specs.Accepted.{Accepted}
 use Rattle.network.specs.Points.{isListed, listed, expanded}
 use Rattle.network.specs.Answers.{answered}
-use Rattle.expansion.specs.Area.{queueBase, Area, Blank, Wiped}
+use Rattle.expansion.specs.Area.{queueBase, Blank, Wiped, Area}
 use Rattle.searches.specs.declared.eager.Answer.{Answer}
 use Rattle.searches.specs.declared.eager.Answer.the-variants.{Refused, Listed}
 use Rattle.searches.specs.declared.eager.End.{End}
 use Rattle.searches.specs.Flags.{idsBase, innerBase, Flags}
 
+-- how many words eager works with, for every k and every number of arcs
+abbrev pub eagerWords : Network → ℕ
+eagerWords g = 12 * nodeCount g
+
 -- where the outer area starts
-abbrev pub outerBase : Network → ℕ → ℕ
-outerBase g k = queueBase (nodeCount g) (innerBase g k) + 2 * (arcCount g + 1)
+abbrev pub outerBase : Network → ℕ
+outerBase g = queueBase (nodeCount g) (innerBase g) + 2 * nodeCount g
 
 -- an accepted network with a byte for each node, a site that is a node, at least one nearest, words that are all 0 with room for the areas, and
 -- room for the answers
@@ -30,7 +34,7 @@ pub record CanSearch (g : Network) (P xs old : List ℕ) (q k : ℕ) : Type 0 wh
   pub site : q < nodeCount g
   pub some : 1 ≤ k
   pub blank : Blank xs 0
-  pub size : queueBase (nodeCount g) (outerBase g k) + 2 * (arcCount g + 1) ≤ length xs
+  pub size : eagerWords g ≤ length xs
   pub answers : nodeCount g ≤ length old
 
 -- the same, with the flags: the site has its found flag where it is listed
@@ -39,11 +43,11 @@ pub record CanExplore (g : Network) (P xs : List ℕ) (b q k : ℕ) : Type 0 whe
   pub points : length P ≡ nodeCount g
   pub site : q < nodeCount g
   pub some : 1 ≤ k
-  pub base : b ≡ outerBase g k
+  pub base : b ≡ outerBase g
   pub flags : Flags g P q k xs
   pub own : isListed g P q k q ≡ true → getD xs (nodeCount g + q) 0 ≢ 0
   pub blank : Blank xs (idsBase g)
-  pub size : queueBase (nodeCount g) (outerBase g k) + 2 * (arcCount g + 1) ≤ length xs
+  pub size : eagerWords g ≤ length xs
 
 -- the found flag of p, as a test
 abbrev pub isFound : ℕ → List ℕ → ℕ → Bool
@@ -62,11 +66,11 @@ pub record ExploreLeft (g : Network) (P : List ℕ) (q k limit : ℕ) (xs ys : L
   pub complete : r .refused ≡ false → Complete g P q k limit ys r
   pub beyond : r .refused ≡ true → limit < expanded g P q k
 
--- the words but the flags and the outer area are 0
+-- the words from the found nodes to the outer area are 0
 pub record CanWipe (n : ℕ) (xs : List ℕ) (b settled len : ℕ) : Type 0 where
   pub area : Area n xs b settled len
-  pub low : 2 * n ≤ b
-  pub blank : (j : ℕ) → 2 * n ≤ j → j < b → getD xs j 0 ≡ 0
+  pub low : 3 * n ≤ b
+  pub blank : (j : ℕ) → 3 * n ≤ j → j < b → getD xs j 0 ≡ 0
 
 -- Eager 'returns the list and the count of nodes expanded'; or 12: 'eager: the expanded count would exceed the limit', and the answers are as they
 -- were. All words are 0 again.

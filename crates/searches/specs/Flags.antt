@@ -1,5 +1,5 @@
--- The words in front of eager's outer area: verified flags n | found flags n | found ids k | found distances k | the area of the inner expansions.
--- What the functions over them require and leave. The flags of node p are the words p and n + p.
+-- The words in front of eager's outer area: verified flags n | found flags n | n words that stay (for the visits of Ask 4) | found nodes n
+-- | the area of the inner expansions, 4 n. What the functions over them require and leave. The flags of node p are the words p and n + p.
 -- (No sentence of document 01: the answers of the searches are network's definitions.)
 -- Assumes nothing.
 use Prim.Native.Nat.{ℕ, _+_, _*_, _≤_, _<_}
@@ -8,18 +8,21 @@ use mathlib.Core.Logic.{_≢_}
 use mathlib.Core.Bool.{true}
 use mathlib.Core.List.{List, List·Memᴰ}
 use lib.ListN.{length, getD}
-use Rattle.network.specs.Network.{Network, nodeCount, arcCount}
+use Rattle.network.specs.Network.{Network, nodeCount}
 use Rattle.network.specs.Accepted.{Accepted}
 use Rattle.network.specs.Points.{marked, isListed}
 use Rattle.network.specs.Nearest.{nearest}
 use Rattle.expansion.specs.Area.{queueBase, Blank}
 
--- where the found points start, and where the inner expansions' area does
-abbrev pub idsBase : Network → ℕ
-idsBase g = 2 * nodeCount g
+-- where the flags end, where the found nodes start, and where the inner expansions' area does
+abbrev pub flagsEnd : Network → ℕ
+flagsEnd g = 2 * nodeCount g
 
-abbrev pub innerBase : Network → ℕ → ℕ
-innerBase g k = idsBase g + 2 * k
+abbrev pub idsBase : Network → ℕ
+idsBase g = 3 * nodeCount g
+
+abbrev pub innerBase : Network → ℕ
+innerBase g = 4 * nodeCount g
 
 -- a point with a found flag is listed; a listed point that was verified has its found flag
 pub record Flags (g : Network) (P : List ℕ) (q k : ℕ) (xs : List ℕ) : Type 0 where
@@ -30,16 +33,16 @@ pub record Flags (g : Network) (P : List ℕ) (q k : ℕ) (xs : List ℕ) : Type
 abbrev pub Grows : Network → List ℕ → List ℕ → Type 0
 Grows g xs ys = (p : ℕ) → p < nodeCount g → getD xs (nodeCount g + p) 0 ≢ 0 → getD ys (nodeCount g + p) 0 ≢ 0
 
--- an accepted network with a byte for each node, a site, the flags, and a blank area for the inner expansions: 2 n + 2 (A + 1) words
+-- an accepted network with a byte for each node, a site, the flags, and a blank area for the inner expansions: 4 n words
 pub record Front (g : Network) (P : List ℕ) (q k : ℕ) (xs : List ℕ) : Type 0 where
   pub accepted : Accepted g
   pub points : length P ≡ nodeCount g
   pub site : q < nodeCount g
   pub flags : Flags g P q k xs
-  pub blank : Blank xs (innerBase g k)
-  pub size : queueBase (nodeCount g) (innerBase g k) + 2 * (arcCount g + 1) ≤ length xs
+  pub blank : Blank xs (innerBase g)
+  pub size : queueBase (nodeCount g) (innerBase g) + 2 * nodeCount g ≤ length xs
 
--- a point that can be verified; and found points that can be, the first of them at the word where the found points start
+-- a point that can be verified; and found nodes whose points can be, the first of them at the word where the found nodes start
 pub record CanVerify (g : Network) (P : List ℕ) (q k : ℕ) (xs : List ℕ) (p : ℕ) : Type 0 where
   pub front : Front g P q k xs
   pub inside : p < nodeCount g
@@ -47,18 +50,18 @@ pub record CanVerify (g : Network) (P : List ℕ) (q k : ℕ) (xs : List ℕ) (p
 
 pub record CanVerifyAll (g : Network) (P : List ℕ) (q k : ℕ) (xs : List ℕ) (found : ℕ) : Type 0 where
   pub front : Front g P q k xs
-  pub few : found ≤ k
+  pub few : found ≤ nodeCount g
   pub inside : (i : ℕ) → i < found → getD xs (idsBase g + i) 0 < nodeCount g
   pub mark : (i : ℕ) → i < found → marked P (getD xs (idsBase g + i) 0) ≡ true
 
 -- ys is xs with more flags, and the words behind them as they were
 pub record Flagged (g : Network) (P : List ℕ) (q k : ℕ) (xs ys : List ℕ) : Type 0 where
   pub size : length ys ≡ length xs
-  pub words : (i : ℕ) → idsBase g ≤ i → getD ys i 0 ≡ getD xs i 0
+  pub words : (i : ℕ) → flagsEnd g ≤ i → getD ys i 0 ≡ getD xs i 0
   pub flags : Flags g P q k ys
   pub grows : Grows g xs ys
 
--- p is verified; the found points are
+-- p is verified; the points of the found nodes are
 pub record Verified (g : Network) (P : List ℕ) (q k : ℕ) (xs ys : List ℕ) (p : ℕ) : Type 0 where
   pub flagged : Flagged g P q k xs ys
   pub told : isListed g P q k p ≡ true → getD ys (nodeCount g + p) 0 ≢ 0
@@ -69,15 +72,16 @@ pub record VerifiedAll (g : Network) (P : List ℕ) (q k : ℕ) (xs ys : List �
       (i : ℕ) → i < found → isListed g P q k (getD xs (idsBase g + i) 0) ≡ true
       → getD ys (nodeCount g + getD xs (idsBase g + i) 0) 0 ≢ 0
 
--- node v is looked at from label l: the words behind the flags are blank
+-- node v is looked at from label l: the words from the found nodes on are blank
 pub record CanLook (g : Network) (P : List ℕ) (q k : ℕ) (xs : List ℕ) (v : ℕ) : Type 0 where
   pub front : Front g P q k xs
   pub blank : Blank xs (idsBase g)
   pub inside : v < nodeCount g
 
--- then each listed point among the first k that are nearer to v than l has its found flag. r is how many there are
+-- then each listed point among the first k lockers that are nearer to v than l has its found flag. r is how many there are, cut at k
 pub record Looked (g : Network) (P : List ℕ) (q k : ℕ) (xs ys : List ℕ) (v l r : ℕ) : Type 0 where
   pub size : length ys ≡ length xs
+  pub stays : (i : ℕ) → flagsEnd g ≤ i → i < idsBase g → getD ys i 0 ≡ getD xs i 0
   pub blank : Blank ys (idsBase g)
   pub flags : Flags g P q k ys
   pub grows : Grows g xs ys

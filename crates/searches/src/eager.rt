@@ -92,14 +92,14 @@ fn verify_once(
         return;
     }
     f[at] = 1;
-    let b = 2 * n + 2 * k;
+    let b = 4 * n;
     let yes = verify::verify(starts, neighbours, weights, points, f, b, p, q, k);
     if yes {
         f[n + at] = 1;
     }
 }
 
-// Verifies the found points.
+// Verifies the points of the found nodes.
 fn verify_found(
     starts: &[u32],
     neighbours: &[u32],
@@ -113,7 +113,7 @@ fn verify_found(
     requires { ⌜ CanVerifyAll (network (now starts) (now neighbours) (now weights)) (now points) q k (now f) found ⌝ }
     ensures { λ _. ⌜ VerifiedAll (network (now (starts .entry)) (now (neighbours .entry)) (now (weights .entry))) (now (points .entry)) q k (now (f .entry)) (now (f .exit)) found ⌝ }
 {
-    let ids = 2 * (starts.len() - 1);
+    let ids = 3 * (starts.len() - 1);
     let mut i = 0;
     while i < found {
         let p = f[ids + i];
@@ -122,7 +122,7 @@ fn verify_found(
     }
 }
 
-// Finds the points nearer to a node than its label, cut after the first k, and verifies them. Returns how many.
+// Finds the nodes with the k nearest lockers that are nearer to a node than its label, and verifies them. Returns how many lockers, cut at k.
 fn look(
     starts: &[u32],
     neighbours: &[u32],
@@ -137,24 +137,27 @@ fn look(
     requires { ⌜ CanLook (network (now starts) (now neighbours) (now weights)) (now points) q k (now f) node ⌝ }
     ensures { λ r. ⌜ Looked (network (now (starts .entry)) (now (neighbours .entry)) (now (weights .entry))) (now (points .entry)) q k (now (f .entry)) (now (f .exit)) node label r ⌝ }
 {
-    let a = 2 * (starts.len() - 1);
-    let e = a + 2 * k;
-    let found = nearest::nearest(
+    let n = starts.len() - 1;
+    let a = 3 * n;
+    let near = nearest::nodes(
         starts,
         neighbours,
         weights,
         points,
         &mut f[a..],
+        n,
         node,
         label,
         k,
     );
+    let found = near.found;
     verify_found(starts, neighbours, weights, points, f, found, q, k);
+    let e = a + found;
     words::zero(&mut f[a..e]);
-    found
+    near.tally
 }
 
-// Settles nodes by rising distance from the site, and looks at each. Where fewer than k points are found, it counts the node against the limit and
+// Settles nodes by rising distance from the site, and looks at each. Where fewer than k lockers are found, it counts the node against the limit and
 // follows its arcs.
 fn explore(
     starts: &[u32],
@@ -187,14 +190,14 @@ fn explore(
             return End::complete(settled, count);
         };
         let f = &mut s[..b];
-        let found = look(starts, neighbours, weights, points, f, node, label, q, k);
-        if found < k && count == limit {
+        let tally = look(starts, neighbours, weights, points, f, node, label, q, k);
+        if tally < k && count == limit {
             return End::beyond(settled, left, count);
         }
         step::settle(s, b, n, settled, node, label);
         settled += 1;
         len = left;
-        if k <= found {
+        if k <= tally {
             continue;
         }
         count += 1;
@@ -202,13 +205,13 @@ fn explore(
     }
 }
 
-// Clears the flags and the outer area.
+// Clears the words before the found nodes, and the outer area.
 fn wipe(s: &mut [u32], n: usize, b: usize, settled: usize, len: usize)
     requires { ⌜ CanWipe n (now s) b settled len ⌝ }
     ensures { λ _. ⌜ Wiped (now (s .entry)) (now (s .exit)) 0 ⌝ }
 {
     step::clear(s, b, n, settled, len);
-    let e = 2 * n;
+    let e = 3 * n;
     words::zero(&mut s[..e]);
 }
 
@@ -228,7 +231,7 @@ pub fn eager(
     ensures { λ r. ⌜ EagerLeft (network (now (starts .entry)) (now (neighbours .entry)) (now (weights .entry))) (now (points .entry)) q k limit (now (s .entry)) (now (s .exit)) (now (answers .entry)) (now (answers .exit)) r ⌝ }
 {
     let n = starts.len() - 1;
-    let b = 4 * n + 2 * k + 2 * (neighbours.len() + 1);
+    let b = 8 * n;
     let own = n + wide(q);
     s[own] = own_flag(points, q);
     let end = explore(starts, neighbours, weights, points, s, b, q, k, limit);

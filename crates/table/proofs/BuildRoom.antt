@@ -11,7 +11,7 @@ use native.Mathlib.Omega.{arith}
 use lib.ListN.{getD}
 use Rattle.network.specs.Network.{Network, nodeCount, arcCount, startOf}
 use Rattle.network.specs.Accepted.{Accepted}
-use Rattle.expansion.specs.Room.{degree}
+use Rattle.table.specs.Room.{degree}
 
 -- the arcs of the nodes below n, each once for each free place of its node's row, where the word of a node is the size of its row
 unfoldable pub freeArcs : Network → ℕ → List ℕ → ℕ → ℕ

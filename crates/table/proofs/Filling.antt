@@ -25,7 +25,7 @@ use Rattle.network.proofs.Least.{distance}
 use Rattle.network.proofs.Distances.{dist-walk}
 use Rattle.expansion.specs.Queue.{Holds, Queue, PoppedAt}
 use Rattle.expansion.specs.Area.{PutIn, Entered}
-use Rattle.expansion.specs.Room.{degree}
+use Rattle.table.specs.Room.{degree}
 use Rattle.expansion.proofs.TagLaws.{entry-same}
 use Rattle.expansion.proofs.EnteredLaws.{entered-held}
 use Rattle.rows.specs.Exact.{Placed}

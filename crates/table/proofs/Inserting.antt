@@ -7,7 +7,7 @@ use mathlib.Core.Path.{_≡_, refl, sym, ap, _∙_}
 use mathlib.Core.Bool.{Bool, true, false, decide, decide-iff}
 use mathlib.Core.Logic.{_≢_}
 use mathlib.Core.List.{List}
-use native.Mathlib.Decide.{ℕ-discrete}
+use native.Mathlib.Decide.{ℕ-discrete, decLe}
 use native.Mathlib.Omega.{arith}
 use lib.ListN.{length, getD, take}
 use Rattle.network.specs.Network.{Network, nodeCount, neighboursOf}
@@ -20,12 +20,16 @@ use Rattle.network.proofs.Counts.{count-mono, count-none, without, without-othe
 use Rattle.network.proofs.Distances.{dist-walk, dist-symmetric, dist-at-most}
 use Rattle.network.proofs.Lends.{row-fits}
 use Rattle.network.proofs.Rows.{row-length}
-use Rattle.expansion.specs.Area.{queueBase, Kept, Started, Took, Emptied, Followed}
+use Rattle.expansion.specs.Queue.{keyOf}
+use Rattle.expansion.specs.Tags.{tagOf}
+use Rattle.expansion.specs.NodeQueue.{PushedNode}
+use Rattle.expansion.specs.Area.{queueBase, Area, Moved, Took, Followed}
+use Rattle.expansion.proofs.Origins.{one, one-lawful}
 use Rattle.expansion.proofs.Search.{Leads, closed-leads}
-use Rattle.expansion.proofs.AreaLaws.{settledAs, label-same}
-use Rattle.expansion.proofs.AreaSearch.{took-exact, search-finished}
-use Rattle.expansion.proofs.Progress.{Progress, progress-start, progress-settled, took-walk, label-taken, label-others}
-use Rattle.expansion.proofs.Stopping.{kept-same, progress-stopped}
+use Rattle.expansion.proofs.AreaLaws.{moved-same, settledAs, others-settle}
+use Rattle.expansion.proofs.AreaSearch.{took-area, took-word, took-moved, took-waited, took-exact, search-finished, settle-marks}
+use Rattle.expansion.proofs.Progress.{Progress, progress-begun, progress-start, progress-settled, took-walk}
+use Rattle.expansion.proofs.Stopping.{progress-stopped}
 use Rattle.rows.specs.Flat.{rowAt, Sized, IsTable}
 use Rattle.rows.specs.Update.{Added, Gains}
 use Rattle.rows.specs.Put.{takes, HasRow, PutInRow}
@@ -44,15 +48,15 @@ pub record Enters (g : Network) (P ids dists : List ℕ) (x K v : ℕ) : Type 0 
 
 -- t tells the settled nodes that x is near to
 pub record Tells (g : Network) (P xs : List ℕ) (x K : ℕ) (t : ℕ → Bool) : Type 0 where
-  pub only : (v : ℕ) → v < nodeCount g → t v ≡ true → (getD xs (0 + v) 0 ≢ 0) × Gains g P K v x
-  pub all : (v : ℕ) → v < nodeCount g → getD xs (0 + v) 0 ≢ 0 → Gains g P K v x → t v ≡ true
+  pub only : (v : ℕ) → v < nodeCount g → t v ≡ true → (nodeCount g < getD xs (0 + v) 0) × Gains g P K v x
+  pub all : (v : ℕ) → v < nodeCount g → nodeCount g < getD xs (0 + v) 0 → Gains g P K v x → t v ≡ true
 
 pub record Inserting (g : Network) (P ids₀ dists₀ : List ℕ) (x K : ℕ) (xs : List ℕ) (settled len changed : ℕ) (ids dists : List ℕ) : Type 0 where
-  pub progress : Progress g x (Enters g P ids₀ dists₀ x K) (Enters g P ids₀ dists₀ x K) xs 0 settled len
+  pub progress : Progress g (one g x) (Enters g P ids₀ dists₀ x K) (Enters g P ids₀ dists₀ x K) xs 0 settled len
   pub sized : Sized g K ids dists
   pub few : changed ≤ settled
-  pub fresh : IsTable g P K ids₀ dists₀ → (v : ℕ) → v < nodeCount g → getD xs (0 + v) 0 ≡ 0 → rowAt ids dists K v ≡ row g P K v
-  pub done : IsTable g P K ids₀ dists₀ → (v : ℕ) → v < nodeCount g → getD xs (0 + v) 0 ≢ 0 → rowAt ids dists K v ≡ row g (moreAt P x) K v
+  pub fresh : IsTable g P K ids₀ dists₀ → (v : ℕ) → v < nodeCount g → getD xs (0 + v) 0 ≤ nodeCount g → rowAt ids dists K v ≡ row g P K v
+  pub done : IsTable g P K ids₀ dists₀ → (v : ℕ) → v < nodeCount g → nodeCount g < getD xs (0 + v) 0 → rowAt ids dists K v ≡ row g (moreAt P x) K v
   pub counted : IsTable g P K ids₀ dists₀ → (t : ℕ → Bool) → Tells g P xs x K t → changed ≡ count t (nodeCount g)
 
 -- one more at x
@@ -83,9 +87,9 @@ module _ {g : Network} {P s₀ ids₀ dists₀ : List ℕ} {x K : ℕ} (c : CanI
   added : Added P (moreAt P x) x
   added = more-added P x (omega (arith, c .points, c .expand .inside))
 
-  pub enters-leads : Leads g x (Enters g P ids₀ dists₀ x K) (Enters g P ids₀ dists₀ x K)
+  pub enters-leads : Leads g (one g x) (Enters g P ids₀ dists₀ x K) (Enters g P ids₀ dists₀ x K)
   enters-leads =
-      closed-leads ok
+      closed-leads (one-lawful ok x)
       (record {
         before =
             λ u v w o r e n.
@@ -96,21 +100,21 @@ module _ {g : Network} {P s₀ ids₀ dists₀ : List ℕ} {x K : ℕ} (c : CanI
       })
 
   -- the search begins
-  pub inserting-start : {xs : List ℕ} → Started (nodeCount g) s₀ xs 0 x → Inserting g P ids₀ dists₀ x K xs 0 1 0 ids₀ dists₀
+  pub inserting-start : {xs : List ℕ} → PushedNode (nodeCount g) s₀ xs 0 (queueBase (nodeCount g) 0) 0 (keyOf 0 (tagOf x x)) → Inserting g P ids₀ dists₀ x K xs 0 1 0 ids₀ dists₀
   inserting-start {xs} t =
       record {
-        progress = progress-start ok (c .expand .blank) (c .expand .size) (c .expand .inside) t;
+        progress = progress-start ok (c .expand) t;
         sized = c .sized;
         few = omega arith;
         fresh = λ i v h z. table-rows P K ids₀ dists₀ i v h;
-        done = λ i v h n. absurd (n (word v h));
+        done = λ i v h n. absurd (omega (arith, n, word v h));
         counted =
             λ i b tells.
-            sym (count-none b (nodeCount g) (λ v h a. tells .only v h a .0 (word v h)));
+            sym (count-none b (nodeCount g) (λ v h a. omega (arith, tells .only v h a .0, word v h)));
       }
     where
-      word : (v : ℕ) → v < nodeCount g → getD xs (0 + v) 0 ≡ 0
-      word v h = label-same 0 (t .frame) v h ∙ c .expand .blank .zero (0 + v) (omega arith)
+      word : (v : ℕ) → v < nodeCount g → getD xs (0 + v) 0 ≤ nodeCount g
+      word v h = progress-begun ok (c .expand) t .others v h (omega (arith, c .expand .blank .zero (0 + v) (omega arith)))
 
   module _ {xs : List ℕ} {settled len changed : ℕ} {ids dists : List ℕ} (e : Inserting g P ids₀ dists₀ x K xs settled len changed ids dists) where
     pub has-row : {v : ℕ} → v < nodeCount g → HasRow ids dists K v
@@ -135,7 +139,7 @@ module _ {g : Network} {P s₀ ids₀ dists₀ : List ℕ} {x K : ℕ} (c : CanI
           ∙ dist-symmetric ok x v
 
       now-row : Was → rowAt ids dists K v ≡ row g P K v
-      now-row i = e .fresh i v (t .inside) (t .new)
+      now-row i = e .fresh i v (t .inside) (took-waited ok (e .progress .area) (e .progress .searched) t)
 
       -- the row with x at its distance
       entered : take K (insert (x, dist g v x) (row g P K v)) ≡ row g (moreAt P x) K v
@@ -173,15 +177,36 @@ module _ {g : Network} {P s₀ ids₀ dists₀ : List ℕ} {x K : ℕ} (c : CanI
           ∙ sym (row-kept ok (c .expand .inside) added K v (left-far i a))
 
       -- ws is the area in which v is settled, and perhaps its arcs are followed
-      module _ {ws : List ℕ} (same : Kept (settledAs (nodeCount g) ys 0 settled v l) ws (queueBase (nodeCount g) 0)) where
-        word-here : getD ws (0 + v) 0 ≡ suc l
-        word-here = label-taken ok (e .progress) t same
+      module _ {ws : List ℕ} (same : Moved (nodeCount g) (settledAs (nodeCount g) ys 0 settled v l) ws 0) where
+        area : Area (nodeCount g) ys 0 settled left
+        area = took-area ok (e .progress .area) (e .progress .searched) t
 
-        word-other : (y : ℕ) → y < nodeCount g → y ≢ v → getD ws (0 + y) 0 ≡ getD xs (0 + y) 0
-        word-other y h n =
-            label-others ok (e .progress) t same y h n ∙ label-same 0 (t .leaves .frame) y h
+        free : getD ys (0 + v) 0 ≡ 0
+        free = took-word ok (e .progress .area) (e .progress .searched) t
 
-        next : {more now : ℕ} → Progress g x (Enters g P ids₀ dists₀ x K) (Enters g P ids₀ dists₀ x K) ws 0 (settled + 1) more
+        moved : Moved (nodeCount g) xs ys 0
+        moved = took-moved ok (e .progress .area) (e .progress .searched) t
+
+        settled-here : nodeCount g < getD ws (0 + v) 0
+        settled-here = omega (arith, settle-marks ok area l (t .inside) free same .here .is)
+
+        other : (y : ℕ) → y < nodeCount g → y ≢ v → getD (settledAs (nodeCount g) ys 0 settled v l) (0 + y) 0 ≡ getD ys (0 + y) 0
+        other = others-settle area v l (t .inside) free
+
+        -- the other nodes are settled in ws where they are in xs
+        settled-on : (y : ℕ) → y < nodeCount g → y ≢ v → nodeCount g < getD xs (0 + y) 0 → nodeCount g < getD ws (0 + y) 0
+        settled-on y h n w =
+            let a = moved .settled y h w in
+            omega (arith, a, w, other y h n, same .settled y h (omega (arith, a, w, other y h n)))
+
+        settled-back : (y : ℕ) → y < nodeCount g → y ≢ v → nodeCount g < getD ws (0 + y) 0 → nodeCount g < getD xs (0 + y) 0
+        settled-back y h n w =
+            elim (decLe (getD xs (0 + y) 0) (nodeCount g)) [
+              | yes z ↦ absurd (omega (arith, w, same .others y h (omega (arith, other y h n, moved .others y h z))))
+              | no z ↦ omega arith
+            ]
+
+        next : {more now : ℕ} → Progress g (one g x) (Enters g P ids₀ dists₀ x K) (Enters g P ids₀ dists₀ x K) ws 0 (settled + 1) more
             → now ≤ settled + 1 → (Was → (b : ℕ → Bool) → Tells g P ws x K b → now ≡ count b (nodeCount g))
             → Inserting g P ids₀ dists₀ x K ws (settled + 1) more now ids′ dists′
         next progress few counted =
@@ -194,41 +219,45 @@ module _ {g : Network} {P s₀ ids₀ dists₀ : List ℕ} {x K : ℕ} (c : CanI
               counted = counted;
             }
           where
-            fresh : Was → (y : ℕ) → y < nodeCount g → getD ws (0 + y) 0 ≡ 0 → rowAt ids′ dists′ K y ≡ row g P K y
-            fresh i y h z =
-                let n : y ≢ v = λ q. omega (arith, word-here, ap (λ (m : ℕ). getD ws (0 + m) 0) q) in
-                put .others y n ∙ e .fresh i y h (sym (word-other y h n) ∙ z)
+            unsettled : (y : ℕ) → y < nodeCount g → y ≢ v → getD ws (0 + y) 0 ≤ nodeCount g → getD xs (0 + y) 0 ≤ nodeCount g
+            unsettled y h n z =
+                elim (decLe (getD xs (0 + y) 0) (nodeCount g)) [
+                  | yes w ↦ w
+                  | no w ↦ absurd (omega (arith, z, settled-on y h n (omega arith)))
+                ]
 
-            done : Was → (y : ℕ) → y < nodeCount g → getD ws (0 + y) 0 ≢ 0 → rowAt ids′ dists′ K y ≡ row g (moreAt P x) K y
+            fresh : Was → (y : ℕ) → y < nodeCount g → getD ws (0 + y) 0 ≤ nodeCount g → rowAt ids′ dists′ K y ≡ row g P K y
+            fresh i y h z =
+                let n : y ≢ v = λ q. omega (arith, settled-here, ap (λ (m : ℕ). getD ws (0 + m) 0) q) in
+                put .others y n ∙ e .fresh i y h (unsettled y h n z)
+
+            done : Was → (y : ℕ) → y < nodeCount g → nodeCount g < getD ws (0 + y) 0 → rowAt ids′ dists′ K y ≡ row g (moreAt P x) K y
             done i y h z =
                 elim (ℕ-discrete y v) [
                   | yes q ↦ rw q (new-row r refl i)
-                  | no n ↦ put .others y n ∙ e .done i y h (λ w. z (word-other y h n ∙ w))
+                  | no n ↦ put .others y n ∙ e .done i y h (settled-back y h n z)
                 ]
 
         -- a test of the settled nodes, but for v, tells those that were settled before
         tells-without : (b : ℕ → Bool) → Tells g P ws x K b → Tells g P xs x K (without b v)
         tells-without b tells =
             record {
-              only = λ y h a. let d = tells .only y h (without-passes b v y a) in (λ z. d .0 (word-other y h (without-not b v y a) ∙ z), d .1);
+              only = λ y h a. let d = tells .only y h (without-passes b v y a) in (settled-back y h (without-not b v y a) (d .0), d .1);
               all =
                   λ y h w near.
                   elim (ℕ-discrete y v) [
-                    | yes q ↦ absurd (w (ap (λ (m : ℕ). getD xs (0 + m) 0) q ∙ t .new))
-                    | no m ↦ without-other b v y m ∙ tells .all y h (λ z. w (sym (word-other y h m) ∙ z)) near
+                    | yes q ↦ absurd (omega (arith, w, ap (λ (m : ℕ). getD xs (0 + m) 0) q, took-waited ok (e .progress .area) (e .progress .searched) t))
+                    | no m ↦ without-other b v y m ∙ tells .all y h (settled-on y h m w) near
                   ];
             }
-
-        settled-here : getD ws (0 + v) 0 ≢ 0
-        settled-here = omega (arith, word-here)
 
       -- the row did not take x: the search stops behind v
       pub inserting-stopped : r ≡ false → Inserting g P ids₀ dists₀ x K (settledAs (nodeCount g) ys 0 settled v l) (settled + 1) left changed ids′ dists′
       inserting-stopped a =
-          next kept-same (progress-stopped ok (e .progress) t enters-leads (λ o. left-far (o .was) a (o .near)))
+          next moved-same (progress-stopped ok (e .progress) t enters-leads (λ o. left-far (o .was) a (o .near)))
           (omega (arith, e .few))
           (λ i b tells.
-          e .counted i (without b v) (tells-without kept-same b tells)
+          e .counted i (without b v) (tells-without moved-same b tells)
           ∙ count-skipped b v (nodeCount g) (λ y. left-far i a (tells .only v (t .inside) y .1)))
 
       -- or it did: the row is counted, and the arcs of v are followed
@@ -249,8 +278,8 @@ module _ {g : Network} {P s₀ ids₀ dists₀ : List ℕ} {x K : ℕ} (c : CanI
     pub most : changed ≤ nodeCount g
     most = omega (arith, e .few, e .progress .area .counted)
 
-    module _ {ys : List ℕ} (t : Emptied (nodeCount g) xs ys 0 len) where
-      settled-near : Was → (v : ℕ) → Gains g P K v x → getD xs (0 + v) 0 ≢ 0
+    module _ (t : len ≡ 0) where
+      settled-near : Was → (v : ℕ) → Gains g P K v x → nodeCount g < getD xs (0 + v) 0
       settled-near i v n =
           let w =
           search-finished ok (e .progress .area) (e .progress .searched) t enters-leads v (record { was = i; near = n })
@@ -262,9 +291,9 @@ module _ {g : Network} {P s₀ ids₀ dists₀ : List ℕ} {x K : ℕ} (c : CanI
       table-now i =
           rows-table (moreAt P x) K ids dists (e .sized)
           (λ v h.
-          elim (ℕ-discrete (getD xs (0 + v) 0) 0) [
-            | yes z ↦ e .fresh i v h z ∙ sym (row-kept ok (c .expand .inside) added K v (λ n. settled-near i v n z))
-            | no z ↦ e .done i v h z
+          elim (decLe (getD xs (0 + v) 0) (nodeCount g)) [
+            | yes z ↦ e .fresh i v h z ∙ sym (row-kept ok (c .expand .inside) added K v (λ n. omega (arith, z, settled-near i v n)))
+            | no z ↦ e .done i v h (omega arith)
           ])
 
       pub count-all : Was → changed ≡ rowsChanged g P (moreAt P x) K

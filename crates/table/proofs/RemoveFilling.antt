@@ -20,11 +20,11 @@ use Rattle.network.proofs.Ranges.{arc-at, neighbours-length}
 use Rattle.network.proofs.NumberZero.{accepted-ranges}
 use Rattle.expansion.specs.Queue.{PoppedAt}
 use Rattle.expansion.specs.Area.{PutIn}
-use Rattle.expansion.specs.Room.{degree, arcsLeft}
+use Rattle.table.specs.Room.{degree, arcsLeft}
 use Rattle.expansion.proofs.QueueLaws.{empty-queue}
 use Rattle.expansion.proofs.Settled.{zero-blank}
 use Rattle.expansion.proofs.TagLaws.{entry-same}
-use Rattle.expansion.proofs.Room.{left-same, left-less, left-most}
+use Rattle.table.proofs.Room.{left-same, left-less, left-most}
 use Rattle.rows.specs.Flat.{Sized}
 use Rattle.rows.specs.Update.{Added}
 use Rattle.table.specs.Offer.{offerOf, arcOffer, CanOffer}

@@ -4,5 +4,6 @@ pub mod Insert
 pub mod Offer
 pub mod Build
 pub mod Candidate
+pub mod Room
 pub mod Mend
 pub mod Remove

@@ -18,7 +18,7 @@ use Rattle.network.specs.Nearest.{key, nearest, Nearer, before, times}
 use Rattle.network.specs.Rows.{pad, row}
 use Rattle.expansion.specs.Queue.{Holds, Queue}
 use Rattle.expansion.specs.Area.{Kept, Entered}
-use Rattle.expansion.specs.Room.{arcsLeft}
+use Rattle.table.specs.Room.{arcsLeft}
 use Rattle.rows.specs.Flat.{rowAt, Sized}
 use Rattle.rows.specs.Take.{takeIf}
 use Rattle.rows.specs.Check.{among}

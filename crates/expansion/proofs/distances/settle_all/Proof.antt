@@ -1,24 +1,25 @@
--- `expansion::distances::settle_all` meets its contract. The invariant: the expansion is under way (`Progress`), and the words before the area
--- are as they were. The measure is its room: the entries that wait and the arcs of the nodes not settled. Each turn takes an entry out and puts in
--- at most the arcs of the node that it settles, so the room falls.
+-- `expansion::distances::settle_all` meets its contract. The invariant: the expansion is under way (`Progress`), and the words before the area are
+-- as they were. The measure is the number of nodes that are not settled.
 -- Assumes nothing.
 use Rattle.network.specs.Network.{neighboursOf, Network, network, nodeCount}
-use Rattle.expansion.specs.Area.{Followed, Kept, Took}
-use Rattle.expansion.proofs.AreaLaws.{settledAs, room, kept-less, kept-trans}
+use Rattle.expansion.specs.Area.{Kept, Followed, Took}
+use Rattle.expansion.proofs.AreaLaws.{settledAs, kept-trans}
+use Rattle.expansion.proofs.Progress.{All, all-leads, Progress, progress-start, took-place, took-fits, took-follow, frame-settled, progress-settled}
+use Rattle.expansion.proofs.Settled.{progress-done}
+use Prim.Native.Nat.{_-_}
 use mathlib.Core.Path.{refl}
 use native.Mathlib.Omega.{arith}
 use lib.ListN.{length}
-use Rattle.expansion.proofs.Progress.{All, all-leads, Progress, progress-start, progress-nodes, took-fits, took-follow, room-falls, frame-settled, progress-settled}
-use Rattle.expansion.proofs.Settled.{emptied-settled}
+use Rattle.expansion.proofs.Origins.{one}
 use borrow.Author.Needs.{needs}
 use Rattle.expansion.proofs.distances.settle_all.Statement.{statement}
 use Rattle.expansion.proofs.distances.settle_all.Tie as tie
 
 abbrev Inv-loop : tie.InvT-loop
-Inv-loop starts neighbours weights s₀ b source n settled₀ len₀ s settled len = Kept s₀ s b × Progress (network starts neighbours weights) source All All s b settled len
+Inv-loop starts neighbours weights s₀ b source n settled₀ len₀ s settled len = Kept s₀ s b × Progress (network starts neighbours weights) (one (network starts neighbours weights) source) All All s b settled len
 
 abbrev μ-loop : tie.MeasureT-loop
-μ-loop starts neighbours weights s₀ b source n settled₀ len₀ s settled len = room (network starts neighbours weights) s b len
+μ-loop starts neighbours weights s₀ b source n settled₀ len₀ s settled len = nodeCount (network starts neighbours weights) - settled
 
 abbrev G : tie.Start Inv-loop μ-loop → Network
 G s = network (s .args .starts .now) (s .args .neighbours .now) (s .args .weights .now)
@@ -54,18 +55,15 @@ sub-n c = search needs
 start-requires : tie.Need-start-requires Inv-loop μ-loop
 start-requires c κs =
     let p = c .before .before .before .before .before .pre in
-    (p .blank, (omega (arith, p .size), p .inside, p .accepted .few))
+    (p .blank, (p .size, p .inside, p .accepted .few))
 
 loop-holds : tie.Need-loop-holds Inv-loop μ-loop
 loop-holds c =
     let p = c .before .before .before .before .before .before .before .before .pre in
-    (record { size = refl; words = λ i h. refl }, progress-start (p .accepted) (p .blank) (p .size) (p .inside) (c .before .before .start .ensures))
+    (record { size = refl; words = λ i h. refl }, progress-start (p .accepted) p (c .before .before .start .ensures))
 
 next-requires : tie.Need-next-requires Inv-loop μ-loop
-next-requires c κs =
-    let l = c .before in
-    let p = l .loop .inv .1 in
-    ((p .area .fits, p .area .queue), progress-nodes (start-of l .pre .accepted) p)
+next-requires c κs = c .before .loop .inv .1 .area .queue
 
 enum-known-taken : tie.Need-enum-known-taken Inv-loop μ-loop
 enum-known-taken c = search needs
@@ -82,8 +80,8 @@ returns c =
     let l = n .before .before in
     let s = start-of l in
     let begun = l .before .before .before .start .ensures in
-    emptied-settled (s .pre .accepted) (l .loop .inv .1) (rw (c .enum-told .given .1) at (n .next .ensures))
-    (kept-trans (kept-less (omega arith) (begun .frame)) (l .loop .inv .0))
+    let told = rw (c .enum-told .given .1) at (n .next .ensures) in
+    rw (told .1) (progress-done (s .pre .accepted) (l .loop .inv .1) (told .0) (kept-trans (record { size = begun .frame .size; words = begun .frame .before }) (l .loop .inv .0)))
 
 settle-requires : tie.Need-settle-requires Inv-loop μ-loop
 settle-requires c κs =
@@ -106,7 +104,7 @@ loop-less c =
     let t = o .before .before .before .before .before .before .before in
     let l = t .before .before .before .before .before .before in
     let ok = start-of l .pre .accepted in
-    room-falls ok (l .loop .inv .1) (took t) (all-leads ok _) (followed o)
+    omega (arith, took-place ok (l .loop .inv .1) (took t))
 
 loop-again : tie.Need-loop-again Inv-loop μ-loop
 loop-again c =
@@ -114,7 +112,7 @@ loop-again c =
     let t = o .before .before .before .before .before .before .before in
     let l = t .before .before .before .before .before .before in
     let ok = start-of l .pre .accepted in
-    (kept-trans (l .loop .inv .0) (frame-settled ok (l .loop .inv .1) (took t) (followed o .frame)), progress-settled ok (l .loop .inv .1) (took t) (all-leads ok _) (followed o))
+    (kept-trans (l .loop .inv .0) (frame-settled ok (l .loop .inv .1) (took t) (all-leads ok _) (followed o)), progress-settled ok (l .loop .inv .1) (took t) (all-leads ok _) (followed o))
 
 pub settle-all-spec : {M : Type 1} → statement M
 settle-all-spec =

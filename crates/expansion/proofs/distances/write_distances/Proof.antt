@@ -11,7 +11,7 @@ use Rattle.expansion.proofs.distances.write_distances.Statement.{statem
 use Rattle.expansion.proofs.distances.write_distances.Tie as tie
 
 abbrev Inv-loop : tie.InvT-loop
-Inv-loop words answers₀ n v₀ answers v = (v ≤ n) × Stored (λ x. wordDistance (getD words x 0)) v answers₀ answers
+Inv-loop words answers₀ n v₀ answers v = (v ≤ n) × Stored (λ x. wordDistance n (getD words x 0)) v answers₀ answers
 
 abbrev μ-loop : tie.MeasureT-loop
 μ-loop words answers₀ n v₀ answers v = n - v

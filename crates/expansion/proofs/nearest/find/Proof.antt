@@ -1,31 +1,31 @@
--- `nearest::find` meets its contract. The loop's invariant: the area is that of an expansion under way (`Progress`), and the first words hold the
--- first points in order, which are the points that are settled (`Finding`). An entry that is taken comes after every settled node, so a point that
--- it settles is the next. The search ends when k are found, when the least entry is no nearer than e, or when no entry waits: then all are found.
--- The measure is the room, the entries that wait and the arcs of the nodes not settled: a turn takes an entry out, and each that it puts in uses up
--- an arc of the node that it settles.
+-- `expansion::nearest::find` meets its contract. The loop's invariant: the area is that of an expansion under way (`Progress`), and the first words hold
+-- the first points in order, the nodes of which are settled (`Finding`). The measure is the number of nodes that are not settled.
 -- Assumes nothing.
-use Rattle.expansion.proofs.AreaLaws.{area-left, settledAs, room}
 use mathlib.Core.Path.{refl, _≡_, _∙_}
 use mathlib.Core.Logic.{inl}
-use Prim.Native.Nat.{_*_, _≤_, _<_}
+use Prim.Native.Nat.{_-_, _*_, _≤_, _<_}
 use Rattle.network.specs.Network.{neighboursOf, Network, network, nodeCount}
-use Rattle.expansion.specs.Area.{Followed, Took}
 use native.Mathlib.Omega.{arith}
 use lib.ListN.{length}
-use Rattle.expansion.proofs.Progress.{All, all-leads, Progress, progress-start, progress-nodes, took-area, took-fits, took-follow, room-falls, frame-settled, progress-settled}
-use Rattle.expansion.proofs.Finding.{Finding, finding-start, found-when, found-emptied, found-far, noted-size, noted-beside, finding-noted}
-use Rattle.expansion.proofs.Beside.{Beside, room-beside, progress-beside}
+use Rattle.expansion.proofs.Beside.{Beside, progress-beside}
+use Rattle.expansion.specs.Area.{Followed, Took}
+use Rattle.expansion.proofs.AreaLaws.{settledAs}
+use Rattle.expansion.proofs.AreaSearch.{took-area}
+use Rattle.expansion.proofs.Progress.{All, all-leads, Progress, progress-begun, progress-start, took-place, took-fits, took-follow, frame-settled, progress-settled}
+use Rattle.expansion.proofs.Finding.{Finding, finding-start, found-when, labels-when, found-emptied, found-far, found-nodes, noted-size, noted-place, noted-beside, noted-few, finding-noted}
+use Rattle.expansion.proofs.Origins.{one}
 use borrow.Author.Needs.{needs}
 use Rattle.expansion.proofs.nearest.find.Statement.{statement}
 use Rattle.expansion.proofs.nearest.find.Tie as tie
 
 abbrev Inv-loop : tie.InvT-loop
-Inv-loop starts neighbours weights points s₀ node e k n b found₀ settled₀ len₀ s found settled len =
-    (length s ≡ length s₀) × Progress (network starts neighbours weights) node All All s (2 * k) settled len × Finding (network starts neighbours weights) points node e k s found
+Inv-loop starts neighbours weights points s₀ b node e k n found₀ tally₀ settled₀ len₀ s found tally settled len =
+    (length s ≡ length s₀) × Progress (network starts neighbours weights) (one (network starts neighbours weights) node) All All s b settled len × Finding (network starts neighbours weights) points node e k s b found tally
+    × (found ≤ settled)
+    × (tally ≤ 255 * settled)
 
 abbrev μ-loop : tie.MeasureT-loop
-μ-loop starts neighbours weights points s₀ node e k n b found₀ settled₀ len₀ s found settled len =
-    room (network starts neighbours weights) s (2 * k) len
+μ-loop starts neighbours weights points s₀ b node e k n found₀ tally₀ settled₀ len₀ s found tally settled len = nodeCount (network starts neighbours weights) - settled
 
 abbrev start-of : tie.At-loop Inv-loop μ-loop → tie.Start Inv-loop μ-loop
 start-of c = c .before .before .before .before .before .before .before .before .before .before
@@ -36,69 +36,78 @@ loop-of c = c .before .before .before .before .before .before .before
 abbrev taken-of : tie.After-open Inv-loop μ-loop → tie.After-taken Inv-loop μ-loop
 taken-of c = c .before .before .before .before .before .before .before .before
 
+abbrev note-of : tie.After-add Inv-loop μ-loop → tie.After-note Inv-loop μ-loop
+note-of c = c .before .before .before
+
 abbrev G : tie.At-loop Inv-loop μ-loop → Network
 G c = let s = start-of c in network (s .args .starts .now) (s .args .neighbours .now) (s .args .weights .now)
 
 -- the entry that was taken
 took : (c : tie.After-taken Inv-loop μ-loop)
-    → Took (nodeCount (G (loop-of c))) (loop-of c .loop .s) (c .before .before .before .before .next .last .0) (2 * start-of (loop-of c) .args .k) (loop-of c .loop .len)
+    → Took (nodeCount (G (loop-of c))) (loop-of c .loop .s) (c .before .before .before .before .next .last .0) (start-of (loop-of c) .args .b) (loop-of c .loop .len)
     (c .taken .given .0 .1 .1 .1 .0) (c .taken .given .0 .0) (c .taken .given .0 .1 .0) (c .taken .given .0 .1 .1 .0)
 took c = rw (c .taken .given .1) at (c .before .before .before .before .next .ensures)
 
 -- the arcs of its node are followed
 followed : (c : tie.After-open Inv-loop μ-loop)
     → Followed (G (loop-of (taken-of c)))
-    (settledAs (nodeCount (G (loop-of (taken-of c)))) (taken-of c .before .before .before .before .next .last .0) (2 * start-of (loop-of (taken-of c)) .args .k)
+    (settledAs (nodeCount (G (loop-of (taken-of c)))) (taken-of c .before .before .before .before .next .last .0) (start-of (loop-of (taken-of c)) .args .b)
     (loop-of (taken-of c) .loop .settled) (taken-of c .taken .given .0 .1 .0) (taken-of c .taken .given .0 .0))
     (c .«open» .last .1 .1 .1 .0)
-    (2 * start-of (loop-of (taken-of c)) .args .k)
+    (start-of (loop-of (taken-of c)) .args .b)
     (taken-of c .taken .given .0 .1 .1 .1 .0) (c .«open» .result)
     (taken-of c .taken .given .0 .1 .0) (taken-of c .taken .given .0 .0)
     (length (neighboursOf (G (loop-of (taken-of c))) (taken-of c .taken .given .0 .1 .0)))
 followed c = rw (c .before .before .before .before .settle .ensures) at (c .«open» .ensures)
 
 -- fewer than k are found, and the label is below e
-place : (c : tie.After-taken Inv-loop μ-loop) → loop-of c .loop .found < start-of (loop-of c) .args .k
+place : (c : tie.After-taken Inv-loop μ-loop) → loop-of c .loop .tally < start-of (loop-of c) .args .k
 place c = c .before .before .before .before .before .before .loop-test .taken
 
 near : (c : tie.After-open Inv-loop μ-loop) → taken-of c .taken .given .0 .0 < start-of (loop-of (taken-of c)) .args .e
 near c = c .before .before .before .before .before .before .if1 .left
 
 -- the found points have their room
-roomy : (c : tie.After-open Inv-loop μ-loop) → 2 * start-of (loop-of (taken-of c)) .args .k ≤ length (c .«open» .last .1 .1 .1 .0)
+roomy : (c : tie.After-open Inv-loop μ-loop) → start-of (loop-of (taken-of c)) .args .b ≤ length (c .«open» .last .1 .1 .1 .0)
 roomy c =
     let t = taken-of c in
     let l = loop-of t in
-    noted-size (start-of l .pre .expand .accepted) (l .loop .inv .1) (l .loop .inv .2) (took t) (followed c) (near c) (place t)
+    noted-size (start-of l .pre .expand .accepted) (start-of l .pre .few) (l .loop .inv .3) (l .loop .inv .1) (l .loop .inv .2) (took t) (followed c) (near c) (place t)
 
--- where a point is noted, only words before the area change
-beside : (c : tie.After-note Inv-loop μ-loop) → Beside (c .before .before .before .before .«open» .last .1 .1 .1 .0) (c .note .last .1 .0) (2 * start-of (loop-of (taken-of (c .before .before .before .before))) .args .k)
+-- and a word is left for the next
+spot : (c : tie.After-open Inv-loop μ-loop) → loop-of (taken-of c) .loop .found < start-of (loop-of (taken-of c)) .args .b
+spot c =
+    let t = taken-of c in
+    let l = loop-of t in
+    noted-place (start-of l .pre .expand .accepted) (start-of l .pre .few) (l .loop .inv .3) (l .loop .inv .1) (l .loop .inv .2) (took t) (followed c) (near c) (place t)
+
+-- where a node is noted, only words before the area change
+beside : (c : tie.After-note Inv-loop μ-loop) → Beside (c .before .before .before .before .«open» .last .1 .1 .1 .0) (c .note .last .1 .0) (start-of (loop-of (taken-of (c .before .before .before .before))) .args .b)
 beside c =
-    noted-beside (c .note .ensures)
+    let o = c .before .before .before .before in
+    let t = taken-of o in
+    let l = loop-of t in
+    noted-beside (o .«open» .last .1 .1 .1 .0) (start-of l .args .b) (l .loop .found) (t .taken .given .0 .1 .0) (spot o) (roomy o) (c .note .ensures)
 
 sub-n : tie.Need-sub-n Inv-loop μ-loop
 sub-n c = search needs
 
-mul-b : tie.Need-mul-b Inv-loop μ-loop
-mul-b c = search needs
-
 start-requires : tie.Need-start-requires Inv-loop μ-loop
 start-requires c κs =
     let p = c .before .before .before .before .before .before .pre .expand in
-    (p .blank, (omega (arith, p .size), p .inside, p .accepted .few))
+    (p .blank, (p .size, p .inside, p .accepted .few))
 
 loop-holds : tie.Need-loop-holds Inv-loop μ-loop
 loop-holds c =
     let q = c .before .before .before .before .before .before .before .before .before .pre in
     let p = q .expand in
     let t = c .before .before .start .ensures in
-    (refl, progress-start (p .accepted) (p .blank) (p .size) (p .inside) t, finding-start (q .blank) t)
+    (refl, progress-start (p .accepted) p t, finding-start (q .blank) (progress-begun (p .accepted) p t), omega arith, omega arith)
 
 next-requires : tie.Need-next-requires Inv-loop μ-loop
 next-requires c κs =
     let l = c .before .before in
-    let p = l .loop .inv .1 in
-    ((p .area .fits, p .area .queue), progress-nodes (start-of l .pre .expand .accepted) p)
+    l .loop .inv .1 .area .queue
 
 enum-known-taken : tie.Need-enum-known-taken Inv-loop μ-loop
 enum-known-taken c = search needs
@@ -115,11 +124,14 @@ returns c =
     let l = n .before .before .before in
     let s = start-of l in
     let t = rw (c .enum-told .given .1) at (n .next .ensures) in
-    record {
-      size = t .leaves .frame .size ∙ l .loop .inv .0 ∙ l .before .before .before .start .ensures .frame .size;
-      found-in = found-emptied (s .pre .expand .accepted) (l .loop .inv .1) (l .loop .inv .2) t (omega (arith, s .fits .e));
-      area = area-left (l .loop .inv .1 .area) (t .leaves);
-    }
+    let r = found-emptied (s .pre .expand .accepted) (s .pre .few) (l .loop .inv .3) (l .loop .inv .1) (l .loop .inv .2) (t .0) (omega (arith, s .fits .e)) in
+    rw (t .1)
+    (record {
+      size = l .loop .inv .0 ∙ l .before .before .before .start .ensures .frame .size;
+      found-in = r .0;
+      labels = r .1;
+      area = rw (t .0) at (l .loop .inv .1 .area);
+    })
 
 same-length-2 : tie.Need-same-length-2 Inv-loop μ-loop
 same-length-2 c = search needs
@@ -129,10 +141,12 @@ returns-2 c =
     let t = c .before .before in
     let l = loop-of t in
     let s = start-of l in
+    let r = found-far (s .pre .expand .accepted) (s .pre .few) (l .loop .inv .3) (l .loop .inv .1) (l .loop .inv .2) (took t) (c .if1 .taken) in
     record {
-      size = took t .leaves .frame .size ∙ l .loop .inv .0 ∙ l .before .before .before .start .ensures .frame .size;
-      found-in = found-far (s .pre .expand .accepted) (l .loop .inv .1) (l .loop .inv .2) (took t) (c .if1 .taken);
-      area = took-area (s .pre .expand .accepted) (l .loop .inv .1) (took t);
+      size = took t .popped .frame .size ∙ l .loop .inv .0 ∙ l .before .before .before .start .ensures .frame .size;
+      found-in = r .0;
+      labels = r .1;
+      area = took-area (s .pre .expand .accepted) (l .loop .inv .1 .area) (l .loop .inv .1 .searched) (took t);
     }
 
 settle-requires : tie.Need-settle-requires Inv-loop μ-loop
@@ -153,28 +167,38 @@ open-requires c κs =
 note-requires : tie.Need-note-requires Inv-loop μ-loop
 note-requires c κs =
     let o = c .before .before .before in
-    let t = taken-of o in
-    (place t, omega (arith, roomy o))
+    omega (arith, spot o, roomy o)
+
+add-requires : tie.Need-add-requires Inv-loop μ-loop
+add-requires c κs =
+    let m = c .before .before in
+    let t = taken-of (m .before .before .before .before) in
+    let l = loop-of t in
+    let ok = start-of l .pre .expand .accepted in
+    omega (arith, l .loop .inv .4, took-place ok (l .loop .inv .1) (took t), ok .few)
 
 loop-less : tie.Need-loop-less Inv-loop μ-loop
 loop-less c =
-    let m = c .before .before in
+    let m = note-of c in
     let o = m .before .before .before .before in
     let t = taken-of o in
     let l = loop-of t in
     let ok = start-of l .pre .expand .accepted in
-    omega (arith, room-falls ok (l .loop .inv .1) (took t) (all-leads ok _) (followed o), room-beside (beside m) (G l) (o .«open» .result))
+    omega (arith, took-place ok (l .loop .inv .1) (took t))
 
 loop-again : tie.Need-loop-again Inv-loop μ-loop
 loop-again c =
-    let m = c .before .before in
+    let m = note-of c in
     let o = m .before .before .before .before in
     let t = taken-of o in
     let l = loop-of t in
-    let ok = start-of l .pre .expand .accepted in (
-      beside m .size ∙ frame-settled ok (l .loop .inv .1) (took t) (followed o .frame) .size ∙ l .loop .inv .0,
+    let ok = start-of l .pre .expand .accepted in
+    let few = start-of l .pre .few in (
+      beside m .size ∙ frame-settled ok (l .loop .inv .1) (took t) (all-leads ok _) (followed o) .size ∙ l .loop .inv .0,
       progress-beside (beside m) ok (progress-settled ok (l .loop .inv .1) (took t) (all-leads ok _) (followed o)),
-      finding-noted ok (l .loop .inv .1) (l .loop .inv .2) (took t) (followed o) (near o) (place t) (m .note .ensures),
+      finding-noted ok few (l .loop .inv .3) (l .loop .inv .1) (l .loop .inv .2) (took t) (followed o) (near o) (place t) (m .note .ensures) (c .add .ensures .0),
+      noted-few ok few (l .loop .inv .3) (l .loop .inv .1) (l .loop .inv .2) (took t) (followed o) (near o) (place t) (m .note .ensures),
+      omega (arith, l .loop .inv .4, c .add .ensures .1),
     )
 
 same-length-3 : tie.Need-same-length-3 Inv-loop μ-loop
@@ -185,7 +209,8 @@ returns-3 c =
     let l = c .before in
     record {
       size = l .loop .inv .0 ∙ l .before .before .before .start .ensures .frame .size;
-      found-in = found-when (l .loop .inv .2) (inl (c .loop-test .left));
+      found-in = found-when (l .loop .inv .2) (found-nodes (start-of l .pre .expand .accepted) (start-of l .pre .few) (l .loop .inv .3) (l .loop .inv .1) (l .loop .inv .2)) (inl (c .loop-test .left));
+      labels = labels-when (l .loop .inv .2);
       area = l .loop .inv .1 .area;
     }
 
@@ -196,7 +221,6 @@ find-spec =
     Inv-loop
     μ-loop
     sub-n
-    mul-b
     start-requires
     loop-holds
     next-requires
@@ -210,6 +234,7 @@ find-spec =
     add-settled
     open-requires
     note-requires
+    add-requires
     loop-less
     loop-again
     same-length-3

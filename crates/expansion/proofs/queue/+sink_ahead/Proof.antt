@@ -3,7 +3,7 @@
 -- Assumes nothing.
 use borrow.Author.Needs.{needs}
 use native.Mathlib.Omega.{arith}
-use Rattle.expansion.proofs.QueueLaws.{words-key, chosen-child, chosen-key, chosen-children, at-most-children, hole-down, filled-moved, filled-here}
+use Rattle.expansion.proofs.QueueLaws.{words-key, chosen-child, chosen-key, chosen-children, chosen-least, at-most-children, hole-down, filled-moved, filled-here}
 use Rattle.expansion.proofs.SinkLaws.{sank-here, sank-below, sank-few}
 use Prim.Native.Nat.{ℕ, _-_, _<_}
 use borrow.Fn.Kinds.{In}
@@ -32,7 +32,7 @@ ahead-below t = and 1 kinds.ps (falls 1 kinds.ps _<_ μ-sink-ahead t) ahead.Pre
 
 -- what its callees and it ask and ensure
 abbrev reads : ℕ → lts.Claims
-reads t = (key-at-reads.Asked, key-at-reads.Learnt, choose-key-reads.Asked, choose-key-reads.Learnt, key-of-reads.Asked, key-of-reads.Learnt, choose-index-reads.Asked, choose-index-reads.Learnt, copy-reads.Asked, copy-reads.Learnt, ahead-below t, ahead.Post, put-reads.Asked, put-reads.Learnt, sink-reads.Asked, sink-reads.Learnt)
+reads t = (key-at-reads.Asked, key-at-reads.Learnt, key-of-reads.Asked, key-of-reads.Learnt, choose-index-reads.Asked, choose-index-reads.Learnt, copy-reads.Asked, copy-reads.Learnt, choose-key-reads.Asked, choose-key-reads.Learnt, ahead-below t, ahead.Post, put-reads.Asked, put-reads.Learnt, sink-reads.Asked, sink-reads.Learnt)
 
 module _ (t : ℕ) where
   mul-below : lts.Need-mul-below (reads t) (ahead-at t) ahead.Post
@@ -65,9 +65,6 @@ module _ (t : ℕ) where
   key-at-requires-4 : lts.Need-key-at-requires-4 (reads t) (ahead-at t) ahead.Post
   key-at-requires-4 c κs = search needs
 
-  choose-key-requires : lts.Need-choose-key-requires (reads t) (ahead-at t) ahead.Post
-  choose-key-requires c κs = search needs
-
   key-of-requires : lts.Need-key-of-requires (reads t) (ahead-at t) ahead.Post
   key-of-requires c κs = search needs
 
@@ -89,10 +86,13 @@ module _ (t : ℕ) where
   copy-requires : lts.Need-copy-requires (reads t) (ahead-at t) ahead.Post
   copy-requires c κs =
       let at-index = c .before in
-      let start = at-index .before .before .before .before .before .before .before .before .before .before .before .before .before .before in
+      let start = at-index .before .before .before .before .before .before .before .before .before .before .before .before .before in
       let hole = start .pre .1 .0 .is-hole in
-      let child = chosen-child _ _ _ _ _ _ (start .pre .1 .1) (at-index .choose-index .ensures) in
+      let child = chosen-child _ _ _ _ _ _ (start .pre .1 .1 .0) (at-index .choose-index .ensures) in
       (omega (arith, hole .fits, hole .inside), omega (arith, hole .fits, child .inside))
+
+  choose-key-requires : lts.Need-choose-key-requires (reads t) (ahead-at t) ahead.Post
+  choose-key-requires c κs = search needs
 
   choose-key-requires-2 : lts.Need-choose-key-requires-2 (reads t) (ahead-at t) ahead.Post
   choose-key-requires-2 c κs = search needs
@@ -100,36 +100,47 @@ module _ (t : ℕ) where
   choose-key-requires-3 : lts.Need-choose-key-requires-3 (reads t) (ahead-at t) ahead.Post
   choose-key-requires-3 c κs = search needs
 
+  choose-key-requires-4 : lts.Need-choose-key-requires-4 (reads t) (ahead-at t) ahead.Post
+  choose-key-requires-4 c κs = search needs
+
+  choose-key-requires-5 : lts.Need-choose-key-requires-5 (reads t) (ahead-at t) ahead.Post
+  choose-key-requires-5 c κs = search needs
+
   sink-ahead-requires : lts.Need-sink-ahead-requires (reads t) (ahead-at t) ahead.Post
   sink-ahead-requires c κs =
-      let at-b = c .before in
+      let at-next = c .before in
+      let at-right = at-next .before in
+      let at-left = at-right .before in
+      let at-b = at-left .before in
       let at-a = at-b .before in
       let at-copy = at-a .before .before .before in
       let at-index = at-copy .before .before in
       let at-key-of = at-index .before .before in
-      let start = at-key-of .before .before .before .before .before .before .before .before .before .before .before .before in
+      let start = at-key-of .before .before .before .before .before .before .before .before .before .before .before in
       let hole = start .pre .1 .0 in
-      let children = start .pre .1 .1 in
+      let children = start .pre .1 .1 .0 in
       let chosen = at-index .choose-index .ensures in
       let child = chosen-child _ _ _ _ _ _ children chosen in
-      let at-least = at-key-of .before in
-      let at-4 = at-least .before in
+      let at-4 = at-key-of .before in
       let at-3 = at-4 .before .before in
       let at-2 = at-3 .before .before in
       let at-1 = at-2 .before .before in
-      let key = chosen-key _ _ _ _ _ _ children chosen _ (at-least .choose-key .ensures) in (
+      let key = chosen-key _ _ _ _ _ _ children chosen _ (start .pre .1 .1 .1) in (
         omega (arith, child .low, child .inside, start .pre .0),
         (
           hole-down _ _ _ _ _ _ _ _ hole child (omega (arith, key, at-index .before)) (at-copy .copy .ensures) (words-key _ _),
-          chosen-children _ _ _ _ _ _ children chosen _ _ _ _ _ _ (omega (arith, at-1 .before .before)) (at-1 .key-at .ensures) (at-2 .key-at2 .ensures) (at-3 .key-at3 .ensures) (at-4 .key-at4 .ensures) (at-a .choose-key2 .ensures) (at-b .choose-key3 .ensures) _ _ _ (at-copy .copy .ensures),
+          (
+            chosen-children _ _ _ _ _ _ children chosen _ _ _ _ _ _ (omega (arith, at-1 .before .before)) (at-1 .key-at .ensures) (at-2 .key-at2 .ensures) (at-3 .key-at3 .ensures) (at-4 .key-at4 .ensures) (at-a .choose-key .ensures) (at-b .choose-key2 .ensures) _ _ _ (at-copy .copy .ensures),
+            chosen-least (at-a .choose-key .ensures) (at-b .choose-key2 .ensures) (at-left .choose-key3 .ensures) (at-right .choose-key4 .ensures) (at-next .choose-key5 .ensures),
+          ),
         ),
       )
 
   add-result : lts.Need-add-result (reads t) (ahead-at t) ahead.Post
   add-result c =
       let at-sink = c .before .before in
-      let at-copy = at-sink .before .before .before .before .before .before in
-      let start = at-copy .before .before .before .before .before .before .before .before .before .before .before .before .before .before .before .before in
+      let at-copy = at-sink .before .before .before .before .before .before .before .before .before in
+      let start = at-copy .before .before .before .before .before .before .before .before .before .before .before .before .before .before .before in
       omega (arith, sank-few _ _ _ _ _ _ (at-sink .sink-ahead .ensures .1), start .pre .1 .0 .is-hole .fits)
 
   put-requires : lts.Need-put-requires (reads t) (ahead-at t) ahead.Post
@@ -144,15 +155,15 @@ module _ (t : ℕ) where
   returns : lts.Need-returns (reads t) (ahead-at t) ahead.Post
   returns c =
       let at-sink = c .before .before in
-      let at-copy = at-sink .before .before .before .before .before .before in
+      let at-copy = at-sink .before .before .before .before .before .before .before .before .before in
       let at-index = at-copy .before .before in
       let at-key-of = at-index .before .before in
-      let start = at-key-of .before .before .before .before .before .before .before .before .before .before .before .before in
+      let start = at-key-of .before .before .before .before .before .before .before .before .before .before .before in
       let hole = start .pre .1 .0 in
-      let children = start .pre .1 .1 in
+      let children = start .pre .1 .1 .0 in
       let chosen = at-index .choose-index .ensures in
       let child = chosen-child _ _ _ _ _ _ children chosen in
-      let key = chosen-key _ _ _ _ _ _ children chosen _ (at-key-of .before .choose-key .ensures) in
+      let key = chosen-key _ _ _ _ _ _ children chosen _ (start .pre .1 .1 .1) in
       let r = at-sink .sink-ahead .ensures in
       (filled-moved _ _ _ _ _ _ _ (hole .is-hole .inside) (child .inside) (omega (arith, child .low)) (at-copy .copy .ensures) (words-key _ _) _ _ (r .0), sank-below _ _ _ _ _ _ _ _ _ _ (child .low) (child .high) (omega (arith, key, at-index .before)) (at-copy .copy .ensures) (words-key _ _) (r .1))
 
@@ -163,9 +174,9 @@ module _ (t : ℕ) where
   returns-2 c =
       let at-put = c .before .before in
       let at-key-of = at-put .before .before .before in
-      let start = at-key-of .before .before .before .before .before .before .before .before .before .before .before .before in
+      let start = at-key-of .before .before .before .before .before .before .before .before .before .before .before in
       let hole = start .pre .1 .0 in
-      (filled-here _ _ _ _ _ _ (hole .is-hole) (at-put .put .ensures) (hole .at-least) (at-most-children _ _ _ _ _ _ _ (start .pre .1 .1) (at-key-of .before .choose-key .ensures) (omega (arith, at-put .before .before))), sank-here _ _ _ _ _ _ (hole .is-hole .inside) (at-put .put .ensures))
+      (filled-here _ _ _ _ _ _ (hole .is-hole) (at-put .put .ensures) (hole .at-least) (at-most-children _ _ _ _ _ _ _ (start .pre .1 .1 .0) (start .pre .1 .1 .1) (omega (arith, at-put .before .before))), sank-here _ _ _ _ _ _ (hole .is-hole .inside) (at-put .put .ensures))
 
   same-length-3 : lts.Need-same-length-3 (reads t) (ahead-at t) ahead.Post
   same-length-3 c = search needs
@@ -174,4 +185,4 @@ module _ (t : ℕ) where
   returns-3 c = search needs
 
 pub +sink-ahead-spec : {M : Type 1} → statement M
-+sink-ahead-spec = close μ-sink-ahead λ t. lts.spec (reads t) (ahead-at t) ahead.Post (mul-below t) (add-below t) (add-if1 t) (key-at-requires t) (add-key-at t) (key-at-requires-2 t) (add-key-at-2 t) (key-at-requires-3 t) (add-key-at-3 t) (key-at-requires-4 t) (choose-key-requires t) (key-of-requires t) (mul-choose-index t) (add-choose-index t) (mul-choose-index-2 t) (add-choose-index-2 t) (choose-index-requires t) (copy-requires t) (choose-key-requires-2 t) (choose-key-requires-3 t) (sink-ahead-requires t) (add-result t) (put-requires t) (sink-requires t) (same-length t) (returns t) (same-length-2 t) (returns-2 t) (same-length-3 t) (returns-3 t)
++sink-ahead-spec = close μ-sink-ahead λ t. lts.spec (reads t) (ahead-at t) ahead.Post (mul-below t) (add-below t) (add-if1 t) (key-at-requires t) (add-key-at t) (key-at-requires-2 t) (add-key-at-2 t) (key-at-requires-3 t) (add-key-at-3 t) (key-at-requires-4 t) (key-of-requires t) (mul-choose-index t) (add-choose-index t) (mul-choose-index-2 t) (add-choose-index-2 t) (choose-index-requires t) (copy-requires t) (choose-key-requires t) (choose-key-requires-2 t) (choose-key-requires-3 t) (choose-key-requires-4 t) (choose-key-requires-5 t) (sink-ahead-requires t) (add-result t) (put-requires t) (sink-requires t) (same-length t) (returns t) (same-length-2 t) (returns-2 t) (same-length-3 t) (returns-3 t)

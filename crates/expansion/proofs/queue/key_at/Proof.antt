@@ -8,6 +8,9 @@ use Rattle.expansion.proofs.queue.key_at.Tie as tie
 mul-key-of : tie.Need-mul-key-of
 mul-key-of c = search needs
 
+add-key-of : tie.Need-add-key-of
+add-key-of c = search needs
+
 mul-key-of-2 : tie.Need-mul-key-of-2
 mul-key-of-2 c = search needs
 
@@ -16,9 +19,6 @@ shared-slice-read-key-of c = search needs
 
 mul-key-of-3 : tie.Need-mul-key-of-3
 mul-key-of-3 c = search needs
-
-add-key-of : tie.Need-add-key-of
-add-key-of c = search needs
 
 mul-key-of-4 : tie.Need-mul-key-of-4
 mul-key-of-4 c = search needs
@@ -38,10 +38,10 @@ key-at-spec =
     tie.close
     (tie.spec
     mul-key-of
+    add-key-of
     mul-key-of-2
     shared-slice-read-key-of
     mul-key-of-3
-    add-key-of
     mul-key-of-4
     shared-slice-read-key-of-2
     key-of-requires

@@ -6,35 +6,35 @@ use Rattle.expansion.proofs.QueueLaws.{pop-sinks, popped-one, popped-mo
 use Rattle.expansion.proofs.queue.pop.Statement.{statement}
 use Rattle.expansion.proofs.queue.pop.Tie as tie
 
-slice-read-distance : tie.Need-slice-read-distance
-slice-read-distance c = search needs
-
 slice-read-tag : tie.Need-slice-read-tag
 slice-read-tag c = search needs
+
+slice-read-distance : tie.Need-slice-read-distance
+slice-read-distance c = search needs
 
 sub-last : tie.Need-sub-last
 sub-last c = search needs
 
-mul-last-distance : tie.Need-mul-last-distance
-mul-last-distance c = search needs
-
-mul-last-distance-2 : tie.Need-mul-last-distance-2
-mul-last-distance-2 c = search needs
-
-slice-read-last-distance : tie.Need-slice-read-last-distance
-slice-read-last-distance c = search needs
-
 mul-last-tag : tie.Need-mul-last-tag
 mul-last-tag c = search needs
-
-add-last-tag : tie.Need-add-last-tag
-add-last-tag c = search needs
 
 mul-last-tag-2 : tie.Need-mul-last-tag-2
 mul-last-tag-2 c = search needs
 
 slice-read-last-tag : tie.Need-slice-read-last-tag
 slice-read-last-tag c = search needs
+
+mul-last-distance : tie.Need-mul-last-distance
+mul-last-distance c = search needs
+
+add-last-distance : tie.Need-add-last-distance
+add-last-distance c = search needs
+
+mul-last-distance-2 : tie.Need-mul-last-distance-2
+mul-last-distance-2 c = search needs
+
+slice-read-last-distance : tie.Need-slice-read-last-distance
+slice-read-last-distance c = search needs
 
 put-requires : tie.Need-put-requires
 put-requires c κs = search needs
@@ -70,16 +70,16 @@ pub pop-spec : {M : Type 1} → statement M
 pop-spec =
     tie.close
     (tie.spec
-    slice-read-distance
     slice-read-tag
+    slice-read-distance
     sub-last
-    mul-last-distance
-    mul-last-distance-2
-    slice-read-last-distance
     mul-last-tag
-    add-last-tag
     mul-last-tag-2
     slice-read-last-tag
+    mul-last-distance
+    add-last-distance
+    mul-last-distance-2
+    slice-read-last-distance
     put-requires
     same-length
     returns

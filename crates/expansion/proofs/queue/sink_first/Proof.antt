@@ -10,8 +10,15 @@ key-at-requires c κs = search needs
 key-at-requires-2 : tie.Need-key-at-requires-2
 key-at-requires-2 c κs = search needs
 
+choose-key-requires : tie.Need-choose-key-requires
+choose-key-requires c κs = search needs
+
 sink-ahead-requires : tie.Need-sink-ahead-requires
-sink-ahead-requires c κs = search needs
+sink-ahead-requires c κs =
+    let at-least = c .before in
+    let at-2 = at-least .before in
+    let at-1 = at-2 .before .before in
+    (search needs, (record { two = search needs; left = at-1 .key-at .ensures; right = at-2 .key-at2 .ensures }, at-least .choose-key .ensures))
 
 sink-requires : tie.Need-sink-requires
 sink-requires c κs = search needs
@@ -34,6 +41,7 @@ sink-first-spec =
     (tie.spec
     key-at-requires
     key-at-requires-2
+    choose-key-requires
     sink-ahead-requires
     sink-requires
     same-length

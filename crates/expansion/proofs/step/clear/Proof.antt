@@ -1,28 +1,39 @@
--- `expansion::step::clear` meets its contract. The invariant: the labels and the places of the first i settled nodes are 0 (`Clearing`). The
--- measure is what is left of them.
+-- `expansion::step::clear` meets its contract. The loop's invariant: behind the queue, the words of the settled nodes before place i are cleared
+-- (`Clearing`). The measure is what is left of them.
 -- Assumes nothing.
-use borrow.Author.Needs.{needs}
-use Prim.Native.Nat.{_-_, _≤_, _<_}
 use native.Mathlib.Omega.{arith}
-use lib.ListN.{length-set}
-use Rattle.expansion.proofs.StepLaws.{Clearing, clearing-none, clearing-node, clearing-more, clearing-done}
+use mathlib.Core.Path.{_≡_, refl}
+use mathlib.Core.List.{List}
+use Prim.Native.Nat.{ℕ, _-_, _≤_, _<_}
+use lib.ListN.{length, length-set}
+use Rattle.expansion.specs.Area.{queueBase, Area}
+use Rattle.expansion.specs.NodeQueue.{ClearedNodes}
+use Rattle.expansion.proofs.ClearLaws.{Clearing, clearing-none, clearing-node, clearing-more, clearing-done}
+use borrow.Author.Needs.{needs}
 use Rattle.expansion.proofs.step.clear.Statement.{statement}
 use Rattle.expansion.proofs.step.clear.Tie as tie
 
 abbrev Inv-loop : tie.InvT-loop
-Inv-loop s₀ b n settled len i₀ s i = (i ≤ settled) × Clearing n s₀ s b settled i
+Inv-loop s₀ b n settled len i₀ s i = (i ≤ settled) × (length s ≡ length s₀) × ((xs : List ℕ) → Area n xs b settled len → ClearedNodes n xs s₀ b (queueBase n b) → Clearing n xs s b settled i)
 
 abbrev μ-loop : tie.MeasureT-loop
 μ-loop s₀ b n settled len i₀ s i = settled - i
 
--- the node at place i
-node : (c : tie.After-wide Inv-loop μ-loop) → c .wide .result < c .before .before .before .before .before .args .n
+-- how far the clearing is, from the area on; and the node at place i
+so-far : (l : tie.At-loop Inv-loop μ-loop) → let start = l .before .before .before .before .before .before in Clearing (start .args .n) (start .args .s .now) (l .loop .s) (start .args .b) (start .args .settled) (l .loop .i)
+so-far l = let start = l .before .before .before .before .before .before in l .loop .inv .2 (start .args .s .now) (start .pre) (l .before .before .before .clear .ensures)
+
+node : (c : tie.After-wide Inv-loop μ-loop) → c .wide .result < c .before .before .before .before .before .before .before .before .before .args .n
 node c =
     let l = c .before .before .before in
-    rw (c .wide .ensures) (clearing-node (l .before .before .pre) (l .loop .i) (c .before .before .loop-test .taken) (l .loop .inv .1))
+    let start = l .before .before .before .before .before .before in
+    rw (c .wide .ensures) (clearing-node (start .pre) (so-far l) (c .before .before .loop-test .taken))
+
+clear-requires : tie.Need-clear-requires Inv-loop μ-loop
+clear-requires c κs = search needs
 
 loop-holds : tie.Need-loop-holds Inv-loop μ-loop
-loop-holds c = (omega arith, clearing-none (c .before .pre))
+loop-holds c = (omega arith, refl, λ xs a d. clearing-none a d)
 
 add-at : tie.Need-add-at Inv-loop μ-loop
 add-at c = search needs
@@ -34,7 +45,10 @@ mul-wide : tie.Need-mul-wide Inv-loop μ-loop
 mul-wide c = search needs
 
 slice-read-wide : tie.Need-slice-read-wide Inv-loop μ-loop
-slice-read-wide c = search needs
+slice-read-wide c =
+    let l = c .before .before in
+    let start = l .before .before .before .before .before .before in
+    omega (arith, so-far l .size, start .pre .queue .room, start .pre .counted)
 
 wide-requires : tie.Need-wide-requires Inv-loop μ-loop
 wide-requires c κs = search needs
@@ -46,15 +60,20 @@ slice-write-s : tie.Need-slice-write-s Inv-loop μ-loop
 slice-write-s c = search needs
 
 add-s : tie.Need-add-s Inv-loop μ-loop
-add-s c = omega (arith, node c, c .before .before .before .loop .inv .1 .size, c .before .before .before .before .before .pre .fits)
+add-s c =
+    let start = c .before .before .before .before .before .before .before .before .before in
+    omega (arith, node c, start .pre .queue .room)
 
 mul-s-2 : tie.Need-mul-s-2 Inv-loop μ-loop
 mul-s-2 c =
-    let s = c .before .before .before .before .before in
-    omega (arith, node c, s .pre .fits)
+    let start = c .before .before .before .before .before .before .before .before .before in
+    omega (arith, node c, start .pre .queue .room)
 
 slice-write-s-2 : tie.Need-slice-write-s-2 Inv-loop μ-loop
-slice-write-s-2 c = simp length-set (omega (arith, node c, c .before .before .before .loop .inv .1 .size, c .before .before .before .before .before .pre .fits))
+slice-write-s-2 c =
+    let l = c .before .before .before in
+    let start = l .before .before .before .before .before .before in
+    simp length-set (omega (arith, node c, so-far l .size, start .pre .queue .room))
 
 add-i : tie.Need-add-i Inv-loop μ-loop
 add-i c = search needs
@@ -64,25 +83,20 @@ loop-less c = search needs
 
 loop-again : tie.Need-loop-again Inv-loop μ-loop
 loop-again c =
-    let l = c .before .before .before in
-    (omega arith, rw (c .wide .ensures) (clearing-more (l .before .before .pre) (l .loop .i) (c .before .before .loop-test .taken) (l .loop .inv .1)))
-
-mul-clear-at : tie.Need-mul-clear-at Inv-loop μ-loop
-mul-clear-at c = search needs
-
-add-clear-at : tie.Need-add-clear-at Inv-loop μ-loop
-add-clear-at c = search needs
-
-clear-at-requires : tie.Need-clear-at-requires Inv-loop μ-loop
-clear-at-requires c κs =
-    let l = c .before .before in
-    (rw (l .loop .inv .1 .queue) (l .before .before .pre .queue), omega (arith, l .loop .inv .1 .size, l .before .before .pre .fits))
+    let l = c .before .before .before in (
+      omega arith,
+      simp length-set (l .loop .inv .1),
+      λ xs a d. rw (c .wide .ensures) (clearing-more a (l .loop .inv .2 xs a d) (c .before .before .loop-test .taken)),
+    )
 
 same-length : tie.Need-same-length Inv-loop μ-loop
 same-length c = search needs
 
 returns : tie.Need-returns Inv-loop μ-loop
-returns c = clearing-done (c .before .before .before .before .before .before .before .pre) _ (c .before .before .before .before .loop-test .left) (c .before .before .before .before .before .loop .inv .1) (c .before .before .clear-at .ensures)
+returns c =
+    let l = c .before in
+    let start = l .before .before .before .before .before .before in
+    clearing-done (start .pre) (so-far l) (omega (arith, c .loop-test .left)) (l .loop .inv .0)
 
 pub clear-spec : {M : Type 1} → statement M
 clear-spec =
@@ -90,6 +104,7 @@ clear-spec =
     (tie.spec
     Inv-loop
     μ-loop
+    clear-requires
     loop-holds
     add-at
     add-at-2
@@ -104,8 +119,5 @@ clear-spec =
     add-i
     loop-less
     loop-again
-    mul-clear-at
-    add-clear-at
-    clear-at-requires
     same-length
     returns)

@@ -1,25 +1,27 @@
 -- `expansion::step::open` meets its contract. The invariant: the arcs before place j are followed (`Followed`). The measure is what is left of the
--- node's arcs. An entry fits: its label by `CanFollow`, the queue by its room.
+-- node's arcs.
 -- Assumes nothing.
 use Rattle.expansion.specs.Queue.{keyOf}
+use Rattle.expansion.specs.Tags.{nodeOf}
 use Rattle.expansion.specs.Area.{arcKey, Followed}
+use Rattle.expansion.proofs.AreaSearch.{key-node-of}
 use Rattle.network.specs.Network.{Network, neighboursOf, weightsOf, network}
 use Rattle.network.proofs.NumberZero.{accepted-searchable}
 use Rattle.network.proofs.ArcAt.{ArcAt, arc-handed}
-use Prim.Native.Nat.{_+_, _-_, _≤_, _<_}
+use Prim.Native.Nat.{_+_, _-_, _≤_}
 use mathlib.Core.Path.{_≡_, sym, ap, _∙_}
 use native.Mathlib.Omega.{arith}
 use lib.ListN.{length, getD}
-use Rattle.expansion.proofs.EnteredLaws.{entered-none, entered-passed, entered-pushed}
+use Rattle.expansion.proofs.AreaLaws.{followed-none, followed-more}
 use borrow.Author.Needs.{needs}
 use Rattle.expansion.proofs.step.open.Statement.{statement}
 use Rattle.expansion.proofs.step.open.Tie as tie
 
 abbrev Inv-loop : tie.InvT-loop
-Inv-loop starts neighbours weights s₀ b len node label at ahead weighed more₀ j₀ s more j = (j ≤ length ahead) × Followed (network starts neighbours weights) s₀ s b len more node label j
+Inv-loop starts neighbours weights s₀ b len node label n ahead weighed more₀ j₀ s more j = (j ≤ length ahead) × Followed (network starts neighbours weights) s₀ s b len more node label j
 
 abbrev μ-loop : tie.MeasureT-loop
-μ-loop starts neighbours weights s₀ b len node label at ahead weighed more₀ j₀ s more j = length ahead - j
+μ-loop starts neighbours weights s₀ b len node label n ahead weighed more₀ j₀ s more j = length ahead - j
 
 abbrev G : tie.Start Inv-loop μ-loop → Network
 G s = network (s .args .starts .now) (s .args .neighbours .now) (s .args .weights .now)
@@ -42,34 +44,26 @@ place c =
     let s = start w in
     arc-handed (s .pre .accepted) (s .pre .inside) (ahead w) (weighed w) (c .loop-test .taken)
 
--- the label word of the node that the arc leads to
-word : (c : tie.After-wide3 Inv-loop μ-loop) → start (c .before .before .before .before .before) .args .b + c .wide3 .result < length (c .before .before .before .before .loop .s)
-word c =
-    let i = c .before .before .before in
-    let s = start (i .before .before) in
-    omega (arith, c .wide3 .ensures, place i .to, s .pre .accepted .leads-in (place i .arc), i .before .loop .inv .1 .frame .size, s .pre .room)
-
--- it is as it was
-kept : (c : tie.After-wide3 Inv-loop μ-loop)
+-- the key of the entry that the arc offers, and its node
+key : (c : tie.After-tag-of Inv-loop μ-loop)
     → let i = c .before .before .before in
     let s = start (i .before .before) in
-    getD (i .before .loop .s) (s .args .b + c .wide3 .result) 0
-    ≡ getD (s .args .s .now) (s .args .b + getD (neighboursOf (G s) (s .args .node)) (i .before .loop .j) 0) 0
-kept c =
+    keyOf (s .args .label + getD (i .before .before .weights-of .result .now) (i .before .loop .j) 0) (c .tag-of .result) ≡ arcKey (G s) (s .args .node) (s .args .label) (i .before .loop .j)
+key c =
+    let i = c .before .before .before in
+    omega (arith, c .tag-of .ensures, place i .to, place i .weight)
+
+node : (c : tie.After-tag-of Inv-loop μ-loop)
+    → let i = c .before .before .before in
+    let s = start (i .before .before) in
+    nodeOf (keyOf (s .args .label + getD (i .before .before .weights-of .result .now) (i .before .loop .j) 0) (c .tag-of .result)) ≡ getD (neighboursOf (G s) (s .args .node)) (i .before .loop .j) 0
+node c =
     let i = c .before .before .before in
     let s = start (i .before .before) in
-    let same : c .wide3 .result ≡ getD (neighboursOf (G s) (s .args .node)) (i .before .loop .j) 0 = c .wide3 .ensures ∙ place i .to in
-    i .before .loop .inv .1 .frame .words (s .args .b + c .wide3 .result) (omega (arith, s .pre .accepted .leads-in (place i .arc)))
-    ∙ ap (λ x. getD (s .args .s .now) (s .args .b + x) 0) same
+    ap nodeOf (key c) ∙ key-node-of (s .pre .accepted) (s .args .label + getD (weightsOf (G s) (s .args .node)) (i .before .loop .j) 0) (getD (neighboursOf (G s) (s .args .node)) (i .before .loop .j) 0) (s .args .node) (s .pre .accepted .leads-in (place i .arc)) (s .pre .inside)
 
-sub-at : tie.Need-sub-at Inv-loop μ-loop
-sub-at c = search needs
-
-mul-at : tie.Need-mul-at Inv-loop μ-loop
-mul-at c = search needs
-
-add-at : tie.Need-add-at Inv-loop μ-loop
-add-at c = search needs
+sub-n : tie.Need-sub-n Inv-loop μ-loop
+sub-n c = search needs
 
 wide-requires : tie.Need-wide-requires Inv-loop μ-loop
 wide-requires c κs = search needs
@@ -88,7 +82,7 @@ weights-of-requires c κs =
     accepted-searchable (s .pre .accepted) .weights .part _ (omega (arith, c .wide2 .ensures, s .pre .inside))
 
 loop-holds : tie.Need-loop-holds Inv-loop μ-loop
-loop-holds c = (omega arith, entered-none (start c .pre .queue))
+loop-holds c = (omega arith, followed-none (start c .pre .queue))
 
 mul-to : tie.Need-mul-to Inv-loop μ-loop
 mul-to c = search needs
@@ -110,33 +104,18 @@ add-far c =
 add-j : tie.Need-add-j Inv-loop μ-loop
 add-j c = search needs
 
-wide-requires-3 : tie.Need-wide-requires-3 Inv-loop μ-loop
-wide-requires-3 c κs = search needs
-
-add-word : tie.Need-add-word Inv-loop μ-loop
-add-word c = omega (arith, word c)
-
-mul-word : tie.Need-mul-word Inv-loop μ-loop
-mul-word c = omega (arith, word c)
-
-slice-read-word : tie.Need-slice-read-word Inv-loop μ-loop
-slice-read-word c = omega (arith, word (c .before))
-
 tag-of-requires : tie.Need-tag-of-requires Inv-loop μ-loop
 tag-of-requires c κs =
-    let i = c .before .before .before .before .before in
+    let i = c .before .before in
     let s = start (i .before .before) in
     let f = s .pre .accepted .few in
     (omega (arith, s .pre .accepted .leads-in (place i .arc), place i .to), omega (arith, s .pre .inside))
 
-push-at-requires : tie.Need-push-at-requires Inv-loop μ-loop
-push-at-requires c κs =
-    let i = c .before .before .before .before .before .before .before in
-    let f = i .before .loop .inv .1 in
-    (f .queue, omega (arith, f .grown, f .frame .size, start (i .before .before) .pre .room, place i .low))
-
-add-more : tie.Need-add-more Inv-loop μ-loop
-add-more c = search needs
+offer-requires : tie.Need-offer-requires Inv-loop μ-loop
+offer-requires c κs =
+    let i = c .before .before .before .before in
+    let s = start (i .before .before) in
+    (i .before .loop .inv .1 .queue, omega (arith, node (c .before), s .pre .accepted .leads-in (place i .arc)))
 
 loop-less : tie.Need-loop-less Inv-loop μ-loop
 loop-less c = search needs
@@ -144,18 +123,9 @@ loop-less c = search needs
 loop-again : tie.Need-loop-again Inv-loop μ-loop
 loop-again c =
     let t = c .before .before .before .before in
-    let i = t .before .before .before .before .before .before in
+    let i = t .before .before .before in
     let s = start (i .before .before) in
-    let e : keyOf (s .args .label + getD (i .before .before .weights-of .result .now) (i .before .loop .j) 0) (t .tag-of .result) ≡ arcKey (G s) (s .args .node) (s .args .label) (i .before .loop .j) = omega (arith, t .tag-of .ensures, place i .to, place i .weight) in
-    (omega arith, entered-pushed (i .before .loop .inv .1) (sym (kept (t .before .before .before)) ∙ t .before .if1 .taken) (rw e at (c .before .before .push-at .ensures)))
-
-loop-less-2 : tie.Need-loop-less-2 Inv-loop μ-loop
-loop-less-2 c = search needs
-
-loop-again-2 : tie.Need-loop-again-2 Inv-loop μ-loop
-loop-again-2 c =
-    let i = c .before .before .before .before .before in
-    (omega arith, entered-passed (i .before .loop .inv .1) (λ z. c .if1 .left (kept (c .before .before) ∙ z)))
+    (omega arith, followed-more (i .before .loop .inv .1) (rw (key t) at (c .before .before .offer .ensures)) (s .pre .accepted .leads-in (place i .arc)) (sym (ap nodeOf (key t)) ∙ node t))
 
 same-length : tie.Need-same-length Inv-loop μ-loop
 same-length c = search needs
@@ -173,9 +143,7 @@ open-spec =
     (tie.spec
     Inv-loop
     μ-loop
-    sub-at
-    mul-at
-    add-at
+    sub-n
     wide-requires
     neighbours-of-requires
     wide-requires-2
@@ -187,16 +155,9 @@ open-spec =
     shared-slice-read-far
     add-far
     add-j
-    wide-requires-3
-    add-word
-    mul-word
-    slice-read-word
     tag-of-requires
-    push-at-requires
-    add-more
+    offer-requires
     loop-less
     loop-again
-    loop-less-2
-    loop-again-2
     same-length
     returns)

@@ -1,4 +1,4 @@
--- `expansion::step::settle` meets its contract: its two stores.
+-- `expansion::step::settle` meets its contract: the words that it stores are the label's and the node's.
 -- Assumes nothing.
 use borrow.Author.Needs.{needs}
 use Rattle.expansion.proofs.step.settle.Statement.{statement}
@@ -10,8 +10,14 @@ wide-requires c κs = search needs
 add-at : tie.Need-add-at
 add-at c = search needs
 
+cast-s : tie.Need-cast-s
+cast-s c = search needs
+
 add-s : tie.Need-add-s
 add-s c = search needs
+
+add-s-2 : tie.Need-add-s-2
+add-s-2 c = search needs
 
 mul-s : tie.Need-mul-s
 mul-s c = search needs
@@ -19,11 +25,11 @@ mul-s c = search needs
 slice-write-s : tie.Need-slice-write-s
 slice-write-s c = search needs
 
-add-s-2 : tie.Need-add-s-2
-add-s-2 c = search needs
-
 add-s-3 : tie.Need-add-s-3
 add-s-3 c = search needs
+
+add-s-4 : tie.Need-add-s-4
+add-s-4 c = search needs
 
 mul-s-2 : tie.Need-mul-s-2
 mul-s-2 c = search needs
@@ -43,11 +49,13 @@ settle-spec =
     (tie.spec
     wide-requires
     add-at
+    cast-s
     add-s
+    add-s-2
     mul-s
     slice-write-s
-    add-s-2
     add-s-3
+    add-s-4
     mul-s-2
     slice-write-s-2
     same-length

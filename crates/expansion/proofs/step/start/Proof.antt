@@ -1,29 +1,29 @@
--- `expansion::step::start` meets its contract: a blank area has an empty queue, and one entry is put in.
+-- `expansion::step::start` meets its contract: in a blank area no node waits.
 -- Assumes nothing.
 use native.Mathlib.Omega.{arith}
-use Rattle.expansion.proofs.StepLaws.{blank-queue, pushed-started}
+use mathlib.Core.Path.{_≡_}
+use mathlib.Core.Logic.{inl}
+use Rattle.expansion.specs.Queue.{keyOf}
+use Rattle.expansion.specs.Tags.{nodeOf}
+use Rattle.expansion.proofs.AreaLaws.{node-blank}
 use borrow.Author.Needs.{needs}
 use Rattle.expansion.proofs.step.start.Statement.{statement}
 use Rattle.expansion.proofs.step.start.Tie as tie
 
-mul-at : tie.Need-mul-at
-mul-at c = search needs
-
-add-at : tie.Need-add-at
-add-at c = search needs
-
 tag-of-requires : tie.Need-tag-of-requires
 tag-of-requires c κs = search needs
 
-push-at-requires : tie.Need-push-at-requires
-push-at-requires c κs = (blank-queue _ _ (c .before .before .before .pre .0), omega arith)
+push-requires : tie.Need-push-requires
+push-requires c κs =
+    let start = c .before .before .before in
+    let e : nodeOf (keyOf 0 (c .before .tag-of .result)) ≡ start .args .source = omega (arith, c .before .tag-of .ensures, start .pre .1) in
+    (node-blank (start .pre .0) (start .pre .1 .0) (start .pre .1 .2), (omega (arith, e, start .pre .1 .1), inl (start .pre .0 .zero _ (omega arith))))
 
 same-length : tie.Need-same-length
 same-length c = search needs
 
 returns : tie.Need-returns
-returns c = pushed-started (rw (c .before .before .before .before .tag-of .ensures) at (c .before .before .push-at .ensures))
+returns c = rw (c .before .before .before .before .tag-of .ensures) at (c .before .before .push .ensures)
 
 pub start-spec : {M : Type 1} → statement M
-start-spec =
-    tie.close (tie.spec mul-at add-at tag-of-requires push-at-requires same-length returns)
+start-spec = tie.close (tie.spec tag-of-requires push-requires same-length returns)

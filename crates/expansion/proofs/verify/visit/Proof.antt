@@ -1,20 +1,21 @@
 -- `expansion::verify::visit` meets its contract. The loop's invariant: the words before the area are as they were; an expansion from p is under
 -- way; and the tally counts the other points that it has settled, below the present label and at it, where every node nearer than the present
--- label is settled, and q is not. The measure is the expansion's room, which falls with each node that is settled.
+-- label is settled, and q is not. The measure is the number of nodes that are not settled.
 -- Assumes nothing.
-use Prim.Native.Nat.{_+_, _*_, _≤_}
 use mathlib.Core.Path.{refl}
+use Prim.Native.Nat.{_+_, _-_, _*_, _≤_}
 use native.Mathlib.Omega.{arith}
 use lib.ListN.{length}
 use mathlib.Core.Logic.{inl, inr, ⊎-elim}
+use Rattle.expansion.proofs.Origins.{one}
 use borrow.Author.Needs.{needs}
 use borrow.Author.Tests.{eqb-true, eqb-false}
 use Rattle.network.specs.Network.{Network, network, nodeCount, neighboursOf}
 use Rattle.network.specs.Accepted.{Accepted}
 use Rattle.expansion.specs.Area.{Kept, Took, Followed}
-use Rattle.expansion.proofs.AreaLaws.{room, settledAs, kept-less, kept-trans, area-left}
-use Rattle.expansion.proofs.AreaSearch.{label-back}
-use Rattle.expansion.proofs.Progress.{All, all-leads, Progress, progress-start, progress-nodes, took-area, took-place, took-fits, took-follow, room-falls, frame-settled, progress-settled}
+use Rattle.expansion.proofs.AreaLaws.{kept-trans, settledAs}
+use Rattle.expansion.proofs.AreaSearch.{took-area}
+use Rattle.expansion.proofs.Progress.{All, all-leads, Progress, progress-begun, progress-start, took-place, took-fits, took-follow, frame-settled, progress-settled}
 use Rattle.expansion.proofs.VisitLaws.{Counted, came-sum, counted-start, labels-exact, came, came-label, counted-next, answer-taken, answer-none}
 use Rattle.expansion.proofs.verify.visit.Statement.{statement}
 use Rattle.expansion.proofs.verify.visit.Tie as tie
@@ -22,12 +23,12 @@ use Rattle.expansion.proofs.verify.visit.Tie as tie
 abbrev Inv-loop : tie.InvT-loop
 Inv-loop starts neighbours weights points s₀ b p q k n tally₀ settled₀ len₀ s tally settled len =
     Kept s₀ s b
-    × Progress (network starts neighbours weights) p All All s b settled len
+    × Progress (network starts neighbours weights) (one (network starts neighbours weights) p) All All s b settled len
     × Counted (network starts neighbours weights) points p q s b (tally .label) (tally .below) (tally .level)
     × (tally .below + tally .level ≤ 255 * settled)
 
 abbrev μ-loop : tie.MeasureT-loop
-μ-loop starts neighbours weights points s₀ b p q k n tally₀ settled₀ len₀ s tally settled len = room (network starts neighbours weights) s b len
+μ-loop starts neighbours weights points s₀ b p q k n tally₀ settled₀ len₀ s tally settled len = nodeCount (network starts neighbours weights) - settled
 
 -- the places: where the loop begins, the entry that was taken, and its node settled
 abbrev start-of : tie.At-loop Inv-loop μ-loop → tie.Start Inv-loop μ-loop
@@ -56,7 +57,9 @@ took c = rw (c .taken .given .1) at (c .before .before .before .before .next .en
 
 -- the words before the area, since the call
 frame : (l : tie.At-loop Inv-loop μ-loop) → Kept (start-of l .args .s .now) (l .loop .s) (start-of l .args .b)
-frame l = kept-trans (kept-less (omega arith) (l .before .before .before .start .ensures .frame)) (l .loop .inv .0)
+frame l =
+    let begun = l .before .before .before .start .ensures .frame in
+    kept-trans (record { size = begun .size; words = begun .before }) (l .loop .inv .0)
 
 -- the tally when the expansion has come to its label
 counted : (c : tie.After-come-to Inv-loop μ-loop)
@@ -82,7 +85,7 @@ sub-n c = search needs
 start-requires : tie.Need-start-requires Inv-loop μ-loop
 start-requires c κs =
     let p = c .before .before .before .before .before .before .pre .expand in
-    (p .blank, (omega (arith, p .size), p .inside, p .accepted .few))
+    (p .blank, (p .size, p .inside, p .accepted .few))
 
 loop-holds : tie.Need-loop-holds Inv-loop μ-loop
 loop-holds c =
@@ -90,16 +93,15 @@ loop-holds c =
     let p = s .pre .expand in
     let begun = c .before .before .start .ensures in (
       record { size = refl; words = λ i h. refl },
-      progress-start (p .accepted) (p .blank) (p .size) (p .inside) begun,
-      counted-start (network (s .args .starts .now) (s .args .neighbours .now) (s .args .weights .now)) (s .args .points .now) (s .args .p) (s .args .q) (s .pre .inside) (p .blank) begun,
+      progress-start (p .accepted) p begun,
+      counted-start (network (s .args .starts .now) (s .args .neighbours .now) (s .args .weights .now)) (s .args .points .now) (s .args .p) (s .args .q) (s .pre .inside) (p .blank) (progress-begun (p .accepted) p begun),
       omega arith,
     )
 
 next-requires : tie.Need-next-requires Inv-loop μ-loop
 next-requires c κs =
     let l = c .before in
-    let p = l .loop .inv .1 in
-    ((p .area .fits, p .area .queue), progress-nodes (accepted l) p)
+    l .loop .inv .1 .area .queue
 
 enum-known-taken : tie.Need-enum-known-taken Inv-loop μ-loop
 enum-known-taken c = search needs
@@ -116,12 +118,13 @@ returns c =
     let l = n .before .before in
     let t = rw (c .enum-told .given .1) at (n .next .ensures) in
     let e = l .loop .inv .1 in
-    record {
-      answer = answer-none (accepted l) (start-of l .args .k) e t (l .loop .inv .2);
-      frame = kept-trans (frame l) (kept-less (omega arith) (t .leaves .frame));
-      area = area-left (e .area) (t .leaves);
-      exact = λ v m h. e .searched .exact v m (label-back (start-of l .args .b) (t .leaves .frame) v m h) tt;
-    }
+    rw (t .1)
+    (record {
+      answer = answer-none (accepted l) (start-of l .args .k) e (t .0) (l .loop .inv .2);
+      frame = frame l;
+      area = rw (t .0) at (e .area);
+      exact = λ v m h. e .searched .exact v m h tt;
+    })
 
 come-to-requires : tie.Need-come-to-requires Inv-loop μ-loop
 come-to-requires c κs =
@@ -141,8 +144,8 @@ returns-2 c =
       answer =
           answer-taken (accepted l) e t (start-of l .args .k) (counted d)
           (⊎-elim (λ a. inl (a .taken)) (λ a. inr (eqb-true (taken-of d .taken .given .0 .1 .0) (start-of l .args .q) (a .1 .taken))) (c .before .if1 .came));
-      frame = kept-trans (frame l) (kept-less (omega arith) (t .leaves .frame));
-      area = took-area (accepted l) e t;
+      frame = kept-trans (frame l) (record { size = t .popped .frame .size; words = t .popped .frame .before });
+      area = took-area (accepted l) (e .area) (e .searched) t;
       exact = labels-exact (accepted l) e t;
     }
 
@@ -189,7 +192,7 @@ loop-less c =
     let o = c .before .before in
     let t = taken-of (came-of o) in
     let l = loop-of t in
-    room-falls (accepted l) (l .loop .inv .1) (took t) (all-leads (accepted l) _) (followed o)
+    omega (arith, took-place (accepted l) (l .loop .inv .1) (took t))
 
 loop-again : tie.Need-loop-again Inv-loop μ-loop
 loop-again c =
@@ -200,7 +203,7 @@ loop-again c =
     let ok = accepted l in
     let e = l .loop .inv .1 in
     let r = o .before .before .before .before .before .before .before in (
-      kept-trans (l .loop .inv .0) (frame-settled ok e (took t) (followed o .frame)),
+      kept-trans (l .loop .inv .0) (frame-settled ok e (took t) (all-leads ok _) (followed o)),
       progress-settled ok e (took t) (all-leads ok _) (followed o),
       counted-next ok e (took t) (start-of l .pre .inside) (eqb-false (t .taken .given .0 .1 .0) (start-of l .args .q) (r .before .if2 .left)) (counted d) (followed o)
           (came-label ok e (took t) (start-of l .pre .inside) (l .loop .inv .2) (d .come-to .ensures)) (r .counts .ensures .0),

@@ -36,7 +36,7 @@ count-node-requires c κs =
     let l = c .before .before .before in
     let p = l .before .before .pre in
     let w = l .loop .inv .1 in
-    (p .low, omega (arith, p .fits, w .size), place-node p w (c .before .before .loop-test .taken), place-small p w (c .before .before .loop-test .taken))
+    (p .low, omega (arith, p .fits, w .size), place-node p w (c .before .before .loop-test .taken), place-small p w (c .before .before .loop-test .taken), p .bound)
 
 add-i : tie.Need-add-i Inv-loop μ-loop
 add-i c = search needs

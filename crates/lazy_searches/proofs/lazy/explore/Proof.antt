@@ -1,6 +1,7 @@
 -- `lazy_searches::lazy::explore` meets its contract. The loop's invariant is that lazy is under way (`Lazily`). A turn takes an entry; it is dropped
 -- where its node or the node that put it in was counted k times, as that one is beaten; else its node is verified, where it is a point, which
--- changes words before the area, and settled, and its arcs are followed unless it was counted k times. The measure is the expansion's room.
+-- changes words before the area, and settled, and its arcs are followed unless it was counted k times. The measure is the work left: the entries
+-- that wait, and so many more for each node that is not settled that settling one outweighs all that wait.
 -- Assumes nothing.
 use mathlib.Core.Path.{_≡_, refl, sym, _∙_}
 use mathlib.Core.Logic.{inl, inr}
@@ -9,10 +10,10 @@ use lib.ListN.{length, length-set}
 use borrow.Author.Tests.{leb-true}
 use Rattle.network.specs.Network.{Network, network, nodeCount, neighboursOf}
 use Rattle.expansion.specs.Area.{Took, Followed}
-use Rattle.expansion.proofs.AreaLaws.{room, settledAs}
-use Rattle.expansion.proofs.Progress.{progress-nodes, took-place, took-fits, took-follow, room-taken}
-use Rattle.lazy_searches.proofs.LazySearch.{room-left, room-followed}
-use Rattle.lazy_searches.proofs.Lazily.{Lazily, Arriving, low, lazily-start, parent-inside, node-fits, lazily-dropped, can-discover, discovered, lazily-stopped, lazily-opened, lazily-listed}
+use Rattle.expansion.proofs.AreaLaws.{settledAs}
+use Rattle.expansion.proofs.Progress.{took-place, took-fits, took-follow}
+use Rattle.lazy_searches.proofs.Parents.{work, work-settled}
+use Rattle.lazy_searches.proofs.Lazily.{Lazily, Arriving, lazily-start, parent-inside, node-fits, lazily-dropped, can-discover, discovered, lazily-stopped, lazily-opened, lazily-listed}
 use borrow.Author.Needs.{needs}
 use Rattle.lazy_searches.proofs.lazy.explore.Statement.{statement}
 use Rattle.lazy_searches.proofs.lazy.explore.Tie as tie
@@ -22,7 +23,7 @@ Inv-loop starts neighbours weights points s₀ b q k n settled₀ len₀ s settl
     (length s ≡ length s₀) × Lazily (network starts neighbours weights) points q k s b settled len
 
 abbrev μ-loop : tie.MeasureT-loop
-μ-loop starts neighbours weights points s₀ b q k n settled₀ len₀ s settled len = room (network starts neighbours weights) s b len
+μ-loop starts neighbours weights points s₀ b q k n settled₀ len₀ s settled len = work (nodeCount (network starts neighbours weights)) settled len
 
 -- the places: where the loop begins, the entry that was taken, its node and the node that put it in looked up, its node verified, and settled
 abbrev start-of : tie.At-loop Inv-loop μ-loop → tie.Start Inv-loop μ-loop
@@ -60,13 +61,13 @@ arriving : (d : tie.After-discover Inv-loop μ-loop)
     → let c = taken-at d in
     let l = loop-of c in
     let a = start-of l .args in
-    Arriving (G l) (a .points .now) (a .q) (a .k) (room (G l) (l .loop .s) (a .b) (l .loop .len)) (d .discover .last .1 .1 .1 .1 .0) (a .b) (l .loop .settled)
+    Arriving (G l) (a .points .now) (a .q) (a .k) (d .discover .last .1 .1 .1 .1 .0) (a .b) (l .loop .settled)
     (c .taken .given .0 .1 .1 .1 .0) (c .taken .given .0 .0) (c .taken .given .0 .1 .0)
 arriving d = let c = taken-at d in let l = loop-of c in discovered (start-of l .pre) (l .loop .inv .1) (took c) (d .discover .ensures)
 
 sized : (d : tie.After-discover Inv-loop μ-loop)
     → let l = loop-of (taken-at d) in length (d .discover .last .1 .1 .1 .1 .0) ≡ length (l .loop .s)
-sized d = d .discover .ensures .size ∙ took (taken-at d) .leaves .frame .size
+sized d = d .discover .ensures .size ∙ took (taken-at d) .popped .frame .size
 
 -- the arcs of its node are followed
 followed : (o : tie.After-open Inv-loop μ-loop)
@@ -85,7 +86,7 @@ sub-n c = search needs
 start-requires : tie.Need-start-requires Inv-loop μ-loop
 start-requires c κs =
     let p = c .before .before .before .before .before .before .pre in
-    (record { zero = λ j h. p .blank .zero j (omega arith) }, (omega (arith, p .size), p .site, p .accepted .few))
+    (record { zero = λ j h. p .blank .zero j (omega arith) }, (p .size, p .site, p .accepted .few))
 
 loop-holds : tie.Need-loop-holds Inv-loop μ-loop
 loop-holds c =
@@ -95,8 +96,7 @@ loop-holds c =
 next-requires : tie.Need-next-requires Inv-loop μ-loop
 next-requires c κs =
     let l = c .before in
-    let p = l .loop .inv .1 .searched .progress in
-    ((p .area .fits, p .area .queue), progress-nodes (start-of l .pre .accepted) p)
+    l .loop .inv .1 .searched .progress .area .queue
 
 enum-known-taken : tie.Need-enum-known-taken Inv-loop μ-loop
 enum-known-taken c = search needs
@@ -112,10 +112,11 @@ returns c =
     let n = c .before .before .before .before in
     let l = n .before .before in
     let t = rw (c .enum-told .given .1) at (n .next .ensures) in
-    record {
-      size = t .leaves .frame .size ∙ l .loop .inv .0 ∙ l .before .before .before .start .ensures .frame .size;
-      found = lazily-listed (start-of l .pre) (l .loop .inv .1) t;
-    }
+    rw (t .1)
+    (record {
+      size = l .loop .inv .0 ∙ l .before .before .before .start .ensures .frame .size;
+      found = lazily-listed (start-of l .pre) (l .loop .inv .1) (t .0);
+    })
 
 is-closed-requires : tie.Need-is-closed-requires Inv-loop μ-loop
 is-closed-requires c κs =
@@ -127,13 +128,13 @@ loop-less : tie.Need-loop-less Inv-loop μ-loop
 loop-less c =
     let k = taken-of (c .before) in
     let l = loop-of k in
-    room-taken (start-of l .pre .accepted) (l .loop .inv .1 .searched .progress) (took k)
+    omega (arith, took k .some, took k .fewer)
 
 loop-again : tie.Need-loop-again Inv-loop μ-loop
 loop-again c =
     let k = taken-of (c .before) in
     let l = loop-of k in (
-      took k .leaves .frame .size ∙ l .loop .inv .0,
+      took k .popped .frame .size ∙ l .loop .inv .0,
       lazily-dropped (start-of l .pre) (l .loop .inv .1) (took k) (inl (leb-true (start-of l .args .k) _ (sym (c .before .is-closed .ensures) ∙ c .if1 .taken))),
     )
 
@@ -147,13 +148,13 @@ loop-less-2 : tie.Need-loop-less-2 Inv-loop μ-loop
 loop-less-2 c =
     let k = taken-of (node-of (c .before)) in
     let l = loop-of k in
-    room-taken (start-of l .pre .accepted) (l .loop .inv .1 .searched .progress) (took k)
+    omega (arith, took k .some, took k .fewer)
 
 loop-again-2 : tie.Need-loop-again-2 Inv-loop μ-loop
 loop-again-2 c =
     let k = taken-of (node-of (c .before)) in
     let l = loop-of k in (
-      took k .leaves .frame .size ∙ l .loop .inv .0,
+      took k .popped .frame .size ∙ l .loop .inv .0,
       lazily-dropped (start-of l .pre) (l .loop .inv .1) (took k) (inr (leb-true (start-of l .args .k) _ (sym (c .before .is-closed2 .ensures) ∙ c .if2 .taken))),
     )
 
@@ -187,7 +188,9 @@ loop-less-3 c =
     let s = settle-of (c .before) in
     let d = discover-of s in
     let p = start-of (loop-of (taken-at d)) .pre in
-    rw (s .settle .ensures) (room-left (p .accepted) (low p) (arriving d .arrived))
+    let a = arriving d .arrived in
+    work-settled (nodeCount (G (loop-of (taken-at d)))) (loop-of (taken-at d) .loop .settled) (loop-of (taken-at d) .loop .len) (taken-at d .taken .given .0 .1 .1 .1 .0)
+    (took-place (p .accepted) (a .progress) (a .took)) (omega (arith, a .took .popped .queue .fits, a .took .fewer))
 
 loop-again-3 : tie.Need-loop-again-3 Inv-loop μ-loop
 loop-again-3 c =
@@ -211,7 +214,9 @@ loop-less-4 c =
     let o = c .before .before in
     let d = discover-of (settle-of (o .before .before .before)) in
     let p = start-of (loop-of (taken-at d)) .pre in
-    room-followed (p .accepted) (low p) (arriving d .arrived) (followed o)
+    let a = arriving d .arrived in
+    work-settled (nodeCount (G (loop-of (taken-at d)))) (loop-of (taken-at d) .loop .settled) (loop-of (taken-at d) .loop .len) (o .«open» .result)
+    (took-place (p .accepted) (a .progress) (a .took)) (followed o .queue .fits)
 
 loop-again-4 : tie.Need-loop-again-4 Inv-loop μ-loop
 loop-again-4 c =

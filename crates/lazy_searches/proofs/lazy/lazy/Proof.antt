@@ -13,15 +13,6 @@ sub-n c = search needs
 mul-b : tie.Need-mul-b
 mul-b c = search needs
 
-add-b : tie.Need-add-b
-add-b c = search needs
-
-mul-b-2 : tie.Need-mul-b-2
-mul-b-2 c = search needs
-
-add-b-2 : tie.Need-add-b-2
-add-b-2 c = search needs
-
 explore-requires : tie.Need-explore-requires
 explore-requires c κs = search needs
 
@@ -55,9 +46,6 @@ lazy-spec =
     (tie.spec
     sub-n
     mul-b
-    add-b
-    mul-b-2
-    add-b-2
     explore-requires
     write-found-requires
     zero-requires

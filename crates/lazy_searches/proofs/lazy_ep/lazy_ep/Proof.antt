@@ -21,15 +21,6 @@ sub-n c = search needs
 mul-area : tie.Need-mul-area
 mul-area c = search needs
 
-add-area : tie.Need-add-area
-add-area c = search needs
-
-mul-area-2 : tie.Need-mul-area-2
-mul-area-2 c = search needs
-
-add-area-2 : tie.Need-add-area-2
-add-area-2 c = search needs
-
 sub-outer : tie.Need-sub-outer
 sub-outer c = search needs
 
@@ -88,9 +79,6 @@ lazy-ep-spec =
     (tie.spec
     sub-n
     mul-area
-    add-area
-    mul-area-2
-    add-area-2
     sub-outer
     sub-inner
     settle-found-requires

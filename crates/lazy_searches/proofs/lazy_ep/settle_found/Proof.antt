@@ -1,5 +1,5 @@
--- `lazy_searches::lazy_ep::settle_found` meets its contract. The loop's invariant: `Extending`. The measure is the outer expansion's room: it falls
--- where an entry is taken back, and where a node is settled.
+-- `lazy_searches::lazy_ep::settle_found` meets its contract. The loop's invariant: `Extending`. The measure is the work that is left to the
+-- outer expansion: it falls where an entry is taken back, and where a node is settled.
 -- Assumes nothing.
 use Prim.Native.Nat.{ℕ}
 use mathlib.Core.List.{List, _++_}
@@ -9,10 +9,10 @@ use lib.ListN.{length, drop, length-set}
 use lib.Seq.{length-take-le}
 use Rattle.network.specs.Network.{Network, network, nodeCount, neighboursOf}
 use Rattle.expansion.specs.Area.{Took, Followed}
-use Rattle.expansion.proofs.AreaLaws.{room, settledAs, frame-settle}
-use Rattle.expansion.proofs.Progress.{progress-nodes, took-place, took-fits, took-follow}
-use Rattle.lazy_searches.proofs.LazySearch.{room-left, room-followed}
-use Rattle.lazy_searches.proofs.LazyEpLaws.{Extending, Coming, flags-low, extending-start, can-advance, advanced-size, can-take-back, extending-dropped, room-back, fits-on, can-discover, coming, come-size, can-close, extending-stopped, extending-opened, extended-listed}
+use Rattle.expansion.proofs.AreaLaws.{settledAs}
+use Rattle.expansion.proofs.Progress.{took-place, took-fits, took-follow}
+use Rattle.lazy_searches.proofs.Parents.{work, work-settled}
+use Rattle.lazy_searches.proofs.LazyEpLaws.{Extending, Coming, extending-start, can-advance, advanced-size, can-take-back, extending-dropped, fits-on, can-discover, coming, come-size, can-close, kept-settled, extending-stopped, extending-opened, extended-listed}
 use borrow.Author.Needs.{needs}
 use Rattle.lazy_searches.proofs.lazy_ep.settle_found.Statement.{statement}
 use Rattle.lazy_searches.proofs.lazy_ep.settle_found.Tie as tie
@@ -22,7 +22,7 @@ Inv-loop starts neighbours weights points s₀ inner outer q k n settled₀ len�
     (length s ≡ length s₀) × Extending (network starts neighbours weights) points q k s inner outer settled len waiting
 
 abbrev μ-loop : tie.MeasureT-loop
-μ-loop starts neighbours weights points s₀ inner outer q k n settled₀ len₀ waiting₀ s settled len waiting = room (network starts neighbours weights) s outer len
+μ-loop starts neighbours weights points s₀ inner outer q k n settled₀ len₀ waiting₀ s settled len waiting = work (nodeCount (network starts neighbours weights)) settled len
 
 -- the loop's state at a place: where the function and its loop began, the entry that was taken, the second expansion gone on, the node come to, and
 -- settled
@@ -69,7 +69,7 @@ come : (d : tie.After-discover Inv-loop μ-loop)
     → let c = taken-of (advance-of (back-of d)) in
     let l = loop-of c in
     let a = start-of l .args in
-    Coming (G l) (a .points .now) (a .q) (a .k) (room (G l) (l .loop .s) (a .outer) (l .loop .len)) (come-words d) (a .inner) (a .outer)
+    Coming (G l) (a .points .now) (a .q) (a .k) (come-words d) (a .inner) (a .outer)
     (l .loop .settled) (c .label .given .0 .1 .1 .1 .0) (d .discover .result) (c .label .given .0 .0) (c .label .given .0 .1 .0)
 come d =
     let a = advance-of (back-of d) in
@@ -112,8 +112,7 @@ loop-holds c =
 next-requires : tie.Need-next-requires Inv-loop μ-loop
 next-requires c κs =
     let l = c .before in
-    let p = l .loop .inv .1 .discovering .progress in
-    ((p .area .fits, p .area .queue), progress-nodes (start-of l .pre .accepted) p)
+    l .loop .inv .1 .discovering .progress .area .queue
 
 enum-known-label : tie.Need-enum-known-label Inv-loop μ-loop
 enum-known-label c = search needs
@@ -126,7 +125,7 @@ slice-aggregate-rows c =
     let t = c .before .before in
     let l = loop-of t in
     let p = start-of l .pre in
-    sym (length-take-le (start-of l .args .inner) (left-words t) (omega (arith, l .loop .inv .1 .discovering .progress .size, took t .leaves .frame .size, p .middle)))
+    sym (length-take-le (start-of l .args .inner) (left-words t) (omega (arith, l .loop .inv .1 .discovering .progress .area .queue .room, took t .popped .frame .size, p .middle)))
 
 advance-requires : tie.Need-advance-requires Inv-loop μ-loop
 advance-requires c κs =
@@ -143,7 +142,7 @@ loop-less : tie.Need-loop-less Inv-loop μ-loop
 loop-less c =
     let a = advance-of (c .before) in
     let l = loop-of (taken-of a) in
-    room-back (start-of l .pre) (l .loop .inv .1) (took (taken-of a)) (a .advance .ensures)
+    omega (arith, took (taken-of a) .some, took (taken-of a) .fewer)
 
 loop-again : tie.Need-loop-again Inv-loop μ-loop
 loop-again c =
@@ -193,7 +192,10 @@ loop-less-2 c =
     let s = settle-of (c .before) in
     let d = discover-of s in
     let p = start-of (loop-of (taken-of (advance-of (back-of d)))) .pre in
-    rw (s .settle .ensures) (room-left (p .accepted) (flags-low p) (come d .arrived))
+    let t = taken-of (advance-of (back-of d)) in
+    let a = come d .arrived in
+    work-settled (nodeCount (G (loop-of t))) (loop-of t .loop .settled) (loop-of t .loop .len) (t .label .given .0 .1 .1 .1 .0)
+    (took-place (p .accepted) (a .progress) (a .took)) (omega (arith, a .took .popped .queue .fits, a .took .fewer))
 
 loop-again-2 : tie.Need-loop-again-2 Inv-loop μ-loop
 loop-again-2 c =
@@ -216,7 +218,10 @@ loop-less-3 c =
     let o = c .before .before in
     let d = discover-of (settle-of (o .before .before .before)) in
     let p = start-of (loop-of (taken-of (advance-of (back-of d)))) .pre in
-    room-followed (p .accepted) (flags-low p) (come d .arrived) (followed o)
+    let t = taken-of (advance-of (back-of d)) in
+    let a = come d .arrived in
+    work-settled (nodeCount (G (loop-of t))) (loop-of t .loop .settled) (loop-of t .loop .len) (o .«open» .result)
+    (took-place (p .accepted) (a .progress) (a .took)) (followed o .queue .fits)
 
 loop-again-3 : tie.Need-loop-again-3 Inv-loop μ-loop
 loop-again-3 c =
@@ -226,7 +231,7 @@ loop-again-3 c =
     let l = loop-of t in
     let a = start-of l .args in (
       followed o .frame .size
-          ∙ frame-settle (nodeCount (G l)) (come-words d) (a .outer) (l .loop .settled) (t .label .given .0 .1 .0) (t .label .given .0 .0) .size
+          ∙ kept-settled (start-of l .pre) (come d) .size
           ∙ size-come d
           ∙ l .loop .inv .0,
       extending-opened (start-of l .pre) (come d) (followed o),
@@ -243,10 +248,11 @@ returns c =
     let n = c .before .before .before .before in
     let l = n .before .before in
     let t = rw (c .enum-told .given .1) at (n .next .ensures) in
-    record {
-      size = t .leaves .frame .size ∙ l .loop .inv .0 ∙ l .before .before .before .start .ensures .frame .size;
-      found = extended-listed (start-of l .pre) (l .loop .inv .1) t;
-    }
+    rw (t .1)
+    (record {
+      size = l .loop .inv .0 ∙ l .before .before .before .start .ensures .frame .size;
+      found = extended-listed (start-of l .pre) (l .loop .inv .1) (t .0);
+    })
 
 pub settle-found-spec : {M : Type 1} → statement M
 settle-found-spec =

@@ -4,23 +4,23 @@ use Prim.Native.Nat.{ℕ, suc, _+_, _-_}
 use mathlib.Core.Path.{_≡_, _∙_, sym, ap}
 use mathlib.Core.Bool.{false≢true}
 use mathlib.Core.Logic.{_≢_, inl, inr}
-use native.Mathlib.Decide.{ℕ-discrete}
+use native.Mathlib.Decide.{decLe}
 use native.Mathlib.Omega.{arith}
 use lib.ListN.{getD}
-use borrow.Author.Needs.{needs}
-use borrow.Author.Tests.{eq-eqb, ne-eqb}
+use borrow.Author.Tests.{le-leb, lt-leb}
 use Rattle.network.specs.Distance.{NONE}
 use Rattle.expansion.specs.Expand.{wordDistance}
+use borrow.Author.Needs.{needs}
 use Rattle.lazy_searches.proofs.lazy_ep.taken_back.Statement.{statement}
 use Rattle.lazy_searches.proofs.lazy_ep.taken_back.Tie as tie
 
--- a word that stands for a distance is that distance plus one
-distance-word : (word d : ℕ) → d ≡ wordDistance word → d ≢ NONE → word ≡ suc d
+-- a seat that stands for a distance is that of a settled node
+distance-word : (n word d : ℕ) → d ≡ wordDistance n word → d ≢ NONE → word ≡ suc (n + d)
 unfolding wordDistance
-distance-word word d e n =
-    elim (ℕ-discrete word 0) [
-      | yes z ↦ absurd (n (rw (eq-eqb word 0 z) at e))
-      | no s ↦ (let m : d ≡ word - 1 = rw (ne-eqb word 0 s) at e in omega (arith, m, s))
+distance-word n word d e h =
+    elim (decLe word n) [
+      | yes z ↦ absurd (h (rw (le-leb word n z) at e))
+      | no s ↦ (let m : d ≡ word - n - 1 = rw (lt-leb word n (omega arith)) at e in omega (arith, m, s))
     ]
 
 closed-requires : tie.Need-closed-requires
@@ -32,11 +32,17 @@ returns c = λ e. inl (c .before .closed .ensures (c .if1 .taken))
 wide-requires : tie.Need-wide-requires
 wide-requires c κs = search needs
 
-add-distance-at : tie.Need-add-distance-at
-add-distance-at c = search needs
+add-at : tie.Need-add-at
+add-at c = search needs
 
-distance-at-requires : tie.Need-distance-at-requires
-distance-at-requires c κs = search needs
+mul-distance-of : tie.Need-mul-distance-of
+mul-distance-of c = search needs
+
+shared-slice-read-distance-of : tie.Need-shared-slice-read-distance-of
+shared-slice-read-distance-of c = search needs
+
+distance-of-requires : tie.Need-distance-of-requires
+distance-of-requires c κs = search needs
 
 returns-2 : tie.Need-returns-2
 returns-2 c = λ e. absurd (false≢true e)
@@ -47,15 +53,15 @@ closed-requires-2 c κs = search needs
 returns-3 : tie.Need-returns-3
 returns-3 c =
     let d = c .before .before in
-    let w = d .before in
+    let w = d .before .before in
     let a = w .before .before .before .before .before .args in
     λ e.
     inr
     (record {
-      label = d .distance-at .result;
+      label = d .distance-of .result .value;
       is =
           ap (λ i. getD (a .s .now) (a .outer + i) 0) (sym (w .wide .ensures))
-          ∙ distance-word (getD (a .s .now) (a .outer + w .wide .result) 0) (d .distance-at .result) (d .distance-at .ensures) (c .before .if2 .left);
+          ∙ distance-word (a .n) (getD (a .s .now) (a .outer + w .wide .result) 0) (d .distance-of .result .value) (d .distance-of .ensures) (c .before .if2 .left);
       closed = c .closed2 .ensures e;
     })
 
@@ -66,8 +72,10 @@ taken-back-spec =
     closed-requires
     returns
     wide-requires
-    add-distance-at
-    distance-at-requires
+    add-at
+    mul-distance-of
+    shared-slice-read-distance-of
+    distance-of-requires
     returns-2
     closed-requires-2
     returns-3)

@@ -37,11 +37,11 @@ near p =
     let l = loop-of p in
     let a = start-of l .args in
     let i = p .before .before in
-    let word = i .before .slice-known2 .given (secondBase (length (a .starts .now) - 1) (a .k) + 1) in
+    let word = i .before .slice-known2 .given (secondBase (length (a .starts .now) - 1) (a .k)) in
     omega (
       arith,
       popped-low (p .pop-at .result .distance) (p .pop-at .result .tag) (l .loop .inv) (p .pop-at .ensures) (fits p) (i .before .before .loop-test .taken) (omega (arith, word)),
-      ltb-true (getD (l .loop .s) (secondBase (length (a .starts .now) - 1) (a .k)) 0) (a .l) (i .if1 .taken),
+      ltb-true (getD (l .loop .s) (secondBase (length (a .starts .now) - 1) (a .k) + 1) 0) (a .l) (i .if1 .taken),
     )
 
 -- its point has come to its node
@@ -67,6 +67,9 @@ add-at c = search needs
 
 loop-holds : tie.Need-loop-holds Inv-loop μ-loop
 loop-holds c = advanced-none (c .before .before .before .before .pre .second)
+
+add-if1 : tie.Need-add-if1 Inv-loop μ-loop
+add-if1 c = search needs
 
 mul-if1 : tie.Need-mul-if1 Inv-loop μ-loop
 mul-if1 c = search needs
@@ -142,6 +145,7 @@ advance-spec =
     mul-at-2
     add-at
     loop-holds
+    add-if1
     mul-if1
     slice-read-if1
     pop-at-requires

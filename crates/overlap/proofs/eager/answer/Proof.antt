@@ -5,9 +5,8 @@ use native.Mathlib.Omega.{arith}
 use lib.ListN.{length}
 use Rattle.network.specs.Network.{Network, network}
 use Rattle.expansion.proofs.Settled.{zero-blank}
-use Rattle.overlap.specs.Listed.{SearchReady}
-use Rattle.overlap.proofs.Ready.{search-ready}
-use Rattle.overlap.proofs.Scratch.{zero-length, all-zero, words-for-search}
+use Rattle.overlap.proofs.Ready.{EagerReady, eager-ready}
+use Rattle.overlap.proofs.Scratch.{zero-length, all-zero}
 use Rattle.overlap.proofs.Outcomes.{eager-refused, eager-beyond, eager-done}
 use borrow.Author.Needs.{needs}
 use Rattle.overlap.proofs.eager.answer.Statement.{statement}
@@ -16,18 +15,18 @@ use Rattle.overlap.proofs.eager.answer.Tie as tie
 abbrev G : tie.Start → Network
 G s = network (s .args .starts .now) (s .args .neighbours .now) (s .args .weights .now)
 
-abbrev start : tie.After-search-number → tie.Start
+abbrev start : tie.After-eager-number → tie.Start
 start c = c .before .before .before .before .before .before .before .before .before
 
 -- behind the test no condition is met
-ready : (e : tie.Else1) → let s = start (e .before) in SearchReady (G s) (s .args .points .now) (s .args .q) (s .args .k) (s .args .scratch .now) (s .args .answers .now)
+ready : (e : tie.Else1) → let s = start (e .before) in EagerReady (G s) (s .args .points .now) (s .args .q) (s .args .k) (s .args .scratch .now) (s .args .answers .now)
 ready e =
     let n = e .before in
     let s = start n in
-    search-ready (G s) (s .args .points .now) (s .args .q) (s .args .k) (s .args .scratch .now) (s .args .answers .now) (sym (n .search-number .ensures) ∙ e .if1 .left)
+    eager-ready (G s) (s .args .points .now) (s .args .q) (s .args .k) (s .args .scratch .now) (s .args .answers .now) (sym (n .eager-number .ensures) ∙ e .if1 .left)
 
-search-number-requires : tie.Need-search-number-requires
-search-number-requires c κs = search needs
+eager-number-requires : tie.Need-eager-number-requires
+eager-number-requires c κs = search needs
 
 same-length : tie.Need-same-length
 same-length c = search needs
@@ -39,7 +38,7 @@ returns : tie.Need-returns
 returns c =
     let n = c .before in
     let s = start n in
-    eager-refused (G s) (s .args .points .now) (s .args .q) (s .args .k) (s .args .limit) (s .args .scratch .now) (s .args .answers .now) (n .search-number .result) (n .search-number .ensures) (c .if1 .taken)
+    eager-refused (G s) (s .args .points .now) (s .args .q) (s .args .k) (s .args .limit) (s .args .scratch .now) (s .args .answers .now) (n .eager-number .result) (n .eager-number .ensures) (c .if1 .taken)
 
 zero-requires : tie.Need-zero-requires
 zero-requires c κs = search needs
@@ -52,7 +51,7 @@ eager-requires c κs =
     let z = c .before .before .before .before .before in
     let e = z .before .before in
     let s = start (e .before) in
-    let p = ready e .query in
+    let p = ready e in
     let long = length (s .args .scratch .now) in
     record {
       accepted = p .accepted;
@@ -63,12 +62,10 @@ eager-requires c κs =
       size =
           omega (
             arith,
-            words-for-search (G s) (s .args .k) (p .some) (p .few) (p .accepted .some),
             p .room,
             zero-length long (z .zero .ensures),
-            c .wide .ensures,
           );
-      answers = ready e .places;
+      answers = p .places;
     }
 
 enum-told : tie.Need-enum-told
@@ -93,7 +90,7 @@ returns-2 c =
     let s = start n in
     let long = length (s .args .scratch .now) in
     let h = rw (c .enum-told .given .1, w .wide .ensures) at (r .eager .ensures) in
-    eager-beyond (G s) (s .args .points .now) (s .args .q) (s .args .k) (s .args .limit) (s .args .scratch .now) (s .args .answers .now) (sym (n .search-number .ensures) ∙ e .if1 .left)
+    eager-beyond (G s) (s .args .points .now) (s .args .q) (s .args .k) (s .args .limit) (s .args .scratch .now) (s .args .answers .now) (sym (n .eager-number .ensures) ∙ e .if1 .left)
     (all-zero long (zero-length long (z .zero .ensures)) (h .area)) (h .beyond) (h .answers)
 
 same-length-5 : tie.Need-same-length-5
@@ -112,14 +109,14 @@ returns-3 c =
     let s = start n in
     let long = length (s .args .scratch .now) in
     let h = rw (c .before .size .given .1, w .wide .ensures) at (r .eager .ensures) in
-    eager-done (G s) (s .args .points .now) (s .args .q) (s .args .k) (s .args .limit) (s .args .scratch .now) (s .args .answers .now) (sym (n .search-number .ensures) ∙ e .if1 .left)
+    eager-done (G s) (s .args .points .now) (s .args .q) (s .args .k) (s .args .limit) (s .args .scratch .now) (s .args .answers .now) (sym (n .eager-number .ensures) ∙ e .if1 .left)
     (all-zero long (zero-length long (z .zero .ensures)) (h .area)) (h .within) (h .sized) (h .counted) (h .answers)
 
 pub answer-spec : {M : Type 1} → statement M
 answer-spec =
     tie.close
     (tie.spec
-    search-number-requires
+    eager-number-requires
     same-length
     same-length-2
     returns

@@ -23,7 +23,7 @@ start c = c .before .before .before .before .before .before .before
 abbrev used : tie.After-wide → ℕ
 used w =
     let s = start w in
-    7 * (length (s .args .starts .now) - 1) + 4 * (length (s .args .neighbours .now) + 1) + 2 * w .wide .result * (length (s .args .starts .now) - 1 + length (s .args .neighbours .now))
+    12 * (length (s .args .starts .now) - 1) + 2 * w .wide .result * (length (s .args .starts .now) - 1 + length (s .args .neighbours .now))
 
 small : (w : tie.After-wide) → let s = start w in 2 * w .wide .result * (length (s .args .starts .now) - 1 + length (s .args .neighbours .now)) ≤ 32 * (length (s .args .starts .now) - 1 + length (s .args .neighbours .now))
 small w =
@@ -37,7 +37,7 @@ fits w =
     omega (
       arith,
       ap (λ (k : ℕ). 2 * k * (length (s .args .starts .now) - 1 + length (s .args .neighbours .now))) (w .wide .ensures),
-      words-for-lazy (G s) (s .args .k) (p .some) (p .accepted .some),
+      words-for-lazy (G s) (s .args .k),
       p .room,
     )
 
@@ -54,26 +54,17 @@ wide-requires c κs = search needs
 mul-used : tie.Need-mul-used
 mul-used c = search needs
 
-add-used : tie.Need-add-used
-add-used c = search needs
-
 mul-used-2 : tie.Need-mul-used-2
 mul-used-2 c = search needs
 
-add-used-2 : tie.Need-add-used-2
-add-used-2 c = search needs
+add-used : tie.Need-add-used
+add-used c = search needs
 
 mul-used-3 : tie.Need-mul-used-3
-mul-used-3 c = search needs
+mul-used-3 c = let p = start c .pre .query .accepted in record { fits = omega (arith, small c, p .few-arcs, p .few) }
 
-add-used-3 : tie.Need-add-used-3
-add-used-3 c = search needs
-
-mul-used-4 : tie.Need-mul-used-4
-mul-used-4 c = let p = start c .pre .query .accepted in record { fits = omega (arith, small c, p .few-arcs, p .few) }
-
-add-used-4 : tie.Need-add-used-4
-add-used-4 c = let p = start c .pre .query .accepted in record { fits = omega (arith, small c, p .few-arcs, p .few) }
+add-used-2 : tie.Need-add-used-2
+add-used-2 c = let p = start c .pre .query .accepted in record { fits = omega (arith, small c, p .few-arcs, p .few) }
 
 zero-requires : tie.Need-zero-requires
 zero-requires c κs = search needs
@@ -136,13 +127,10 @@ run-spec =
     sub-n
     wide-requires
     mul-used
-    add-used
     mul-used-2
-    add-used-2
+    add-used
     mul-used-3
-    add-used-3
-    mul-used-4
-    add-used-4
+    add-used-2
     zero-requires
     slice-relend-prefix-search
     slice-aggregate-search

@@ -2,10 +2,11 @@
 -- Assumes nothing.
 use Prim.Native.Nat.{_+_, _*_, _≤_}
 use mathlib.Core.Path.{_≡_, refl, ap, _∙_}
+use native.Mathlib.Nat.{min-le-left}
 use native.Mathlib.Omega.{arith}
 use lib.ListN.{length, getD, take, length-take}
 use Rattle.network.specs.Count.{tabulate}
-use Rattle.network.specs.Network.{Network, network}
+use Rattle.network.specs.Network.{Network, network, nodeCount}
 use Rattle.network.specs.Answers.{answered}
 use Rattle.network.proofs.Rows.{nearest-length}
 use Rattle.expansion.specs.Found.{NearestLeft}
@@ -29,14 +30,14 @@ left c = rw (c .before .before .before .before .before .before .wide .ensures) a
 few : (c : tie.After-nearest) → c .nearest .result ≤ start c .args .k
 few c =
     let s = start c in
-    omega (arith, left c .found-in .count, nearest-length (G s) (s .args .points .now) (s .args .node) (s .args .e) (s .args .k))
+    omega (arith, left c .count, nearest-length (G s) (s .args .points .now) (s .args .node) (s .args .e) (s .args .k))
 
 long : (c : tie.After-nearest) → length (c .nearest .last .1 .1 .1 .1 .0) ≡ length (start c .args .scratch .now)
 long c = left c .size ∙ zero-length (length (start c .args .scratch .now)) (c .before .before .before .before .zero .ensures)
 
 -- the places of what was found are there
-room : (s : tie.Start) → 2 * s .args .k ≤ length (s .args .scratch .now)
-room s = let p = s .pre .query in omega (arith, words-for-search (G s) (s .args .k) (p .some) (p .few) (p .accepted .some), p .room)
+room : (s : tie.Start) → 3 * s .args .k ≤ length (s .args .scratch .now)
+room s = let p = s .pre .query in omega (arith, words-for-search (G s) (s .args .k) (p .some) (p .accepted .some), p .room)
 
 wide-requires : tie.Need-wide-requires
 wide-requires c κs = search needs
@@ -53,6 +54,7 @@ nearest-requires c κs =
     let long = length (s .args .scratch .now) in
     record {
       points = p .points;
+      few = omega (arith, min-le-left (w .wide .result) (nodeCount (G s)));
       blank = zero-blank long 0 (z .zero .ensures);
       expand =
           record {
@@ -62,7 +64,7 @@ nearest-requires c κs =
             size =
                 omega (
                   arith,
-                  words-for-search (G s) (s .args .k) (p .some) (p .few) (p .accepted .some),
+                  words-for-search (G s) (s .args .k) (p .some) (p .accepted .some),
                   p .room,
                   zero-length long (z .zero .ensures),
                   w .wide .ensures,
@@ -73,7 +75,11 @@ nearest-requires c κs =
 copy-requires : tie.Need-copy-requires
 copy-requires c κs =
     let n = c .before .before .before .before in
-    (omega (arith, few n, long n, room (start n)), omega (arith, few n, start n .pre .id-places))
+    let w = n .before .before .before .before .before .before in
+    (omega (arith, few n, long n, room (start n), w .wide .ensures), omega (arith, few n, start n .pre .id-places))
+
+mul-behind : tie.Need-mul-behind
+mul-behind c = search needs
 
 copy-requires-2 : tie.Need-copy-requires-2
 copy-requires-2 c κs =
@@ -111,18 +117,21 @@ returns c =
     let s = start n in
     let w = n .before .before .before .before .before .before in
     let ys = n .nearest .last .1 .1 .1 .1 .0 in
-    let end = 2 * w .wide .result in (
+    let end = 3 * w .wide .result in (
       all-zero (length (s .args .scratch .now)) refl
           (joined-wiped (s .args .scratch .now) ys _ end (long n) (omega (arith, room s, w .wide .ensures)) (zero-length (length (take end ys)) (z .zero2 .ensures))
           (zero-blank (length (take end ys)) 0 (z .zero2 .ensures))
           (n .nearest .ensures .blank)),
       record {
-        count = left n .found-in .count;
-        id-answers = p .copy .ensures ∙ ap (λ l. answered l (s .args .ids .now)) (copied-ids (left n .found-in));
+        count = left n .count;
+        id-answers =
+            p .copy .ensures
+            ∙ ap (λ l. answered l (s .args .ids .now))
+            (ap (λ k. tabulate (λ i. getD ys (k + i) 0) (n .nearest .result)) (w .wide .ensures) ∙ copied-ids (left n .count) (left n .listed));
         distance-answers =
             q .copy2 .ensures
             ∙ ap (λ l. answered l (s .args .distances .now))
-            (ap (λ k. tabulate (λ i. getD ys (k + i) 0) (n .nearest .result)) (w .wide .ensures) ∙ copied-distances (left n .found-in));
+            (ap (λ k. tabulate (λ i. getD ys (2 * k + i) 0) (n .nearest .result)) (w .wide .ensures) ∙ copied-distances (left n .count) (left n .listed));
       },
     )
 
@@ -134,6 +143,7 @@ run-spec =
     zero-requires
     nearest-requires
     copy-requires
+    mul-behind
     copy-requires-2
     mul-end
     slice-relend-prefix-zero

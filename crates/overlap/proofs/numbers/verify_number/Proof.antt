@@ -5,7 +5,7 @@ use native.Mathlib.Omega.{arith}
 use Rattle.network.specs.Network.{Network, network}
 use Rattle.network.specs.Accepted.{Accepted}
 use Rattle.overlap.specs.Verify.{verifyNumber}
-use Rattle.overlap.proofs.Ready.{first-is, first-later, first-last, k-ready, site-ready}
+use Rattle.overlap.proofs.Ready.{first-is, first-later, first-last, site-ready}
 use borrow.Author.Needs.{needs}
 use Rattle.overlap.proofs.numbers.verify_number.Statement.{statement}
 use Rattle.overlap.proofs.numbers.verify_number.Tie as tie
@@ -49,10 +49,8 @@ returns-3 c =
     (first-later _ _ _ _ (c .before .before .before .node-number .ensures) (c .before .before .if2 .left)
     (first-is _ _ _ (c .before .k-number .ensures) (c .if3 .taken)))
 
-scratch-number-requires : tie.Need-scratch-number-requires
-scratch-number-requires c κs =
-    let ok = ready (c .before .before .before .before) in
-    (ok .few, ok .few-arcs, omega (arith, k-ready _ (sym (c .before .k-number .ensures) ∙ c .if3 .left) .1))
+eager-scratch-number-requires : tie.Need-eager-scratch-number-requires
+eager-scratch-number-requires c κs = ready (c .before .before .before .before) .few
 
 returns-4 : tie.Need-returns-4
 unfolding verifyNumber
@@ -60,7 +58,7 @@ returns-4 c =
     first-later _ _ _ _ (c .before .before .before .before .before .before .before .site-number .ensures) (c .before .before .before .before .before .before .if1 .left)
     (first-later _ _ _ _ (c .before .before .before .before .before .node-number .ensures) (c .before .before .before .before .if2 .left)
     (first-later _ _ _ _ (c .before .before .before .k-number .ensures) (c .before .before .if3 .left)
-    (first-is _ _ _ (c .before .scratch-number .ensures) (c .if4 .taken))))
+    (first-is _ _ _ (c .before .eager-scratch-number .ensures) (c .if4 .taken))))
 
 unmarked-number-requires : tie.Need-unmarked-number-requires
 unmarked-number-requires c κs = search needs
@@ -71,7 +69,7 @@ returns-5 c =
     first-later _ _ _ _ (c .before .before .before .before .before .before .before .before .site-number .ensures) (c .before .before .before .before .before .before .before .if1 .left)
     (first-later _ _ _ _ (c .before .before .before .before .before .before .node-number .ensures) (c .before .before .before .before .before .if2 .left)
     (first-later _ _ _ _ (c .before .before .before .before .k-number .ensures) (c .before .before .before .if3 .left)
-    (first-later _ _ _ _ (c .before .before .scratch-number .ensures) (c .before .if4 .left)
+    (first-later _ _ _ _ (c .before .before .eager-scratch-number .ensures) (c .before .if4 .left)
     (first-last _ _ (c .unmarked-number .ensures)))))
 
 pub verify-number-spec : {M : Type 1} → statement M
@@ -85,7 +83,7 @@ verify-number-spec =
     returns-2
     k-number-requires
     returns-3
-    scratch-number-requires
+    eager-scratch-number-requires
     returns-4
     unmarked-number-requires
     returns-5)

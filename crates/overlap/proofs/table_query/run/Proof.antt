@@ -1,6 +1,6 @@
 -- `overlap::table_query::run` meets its contract: S is enough for the words that are used, and all words are 0 behind it.
 -- Assumes nothing.
-use Prim.Native.Nat.{ℕ, _+_, _*_, _-_, _≤_}
+use Prim.Native.Nat.{ℕ, _*_, _-_, _≤_}
 use mathlib.Core.Path.{_≡_}
 use native.Mathlib.Omega.{arith}
 use lib.ListN.{length, length-take}
@@ -19,7 +19,7 @@ start c = c .before .before .before .before .before .before .before .before .bef
 
 -- the words that are used are there
 abbrev used : tie.Start → ℕ
-used s = 6 * (length (s .args .starts .now) - 1) + 4 * (length (s .args .neighbours .now) + 1)
+used s = 10 * (length (s .args .starts .now) - 1)
 
 fits : (s : tie.Start) → used s ≤ length (s .args .scratch .now)
 fits s = let p = s .pre in omega (arith, words-enough (G s) (s .args .k) (p .some), p .room, p .ready .accepted .some)
@@ -33,15 +33,6 @@ sub-used c = omega (arith, c .before .before .before .before .before .before .be
 
 mul-used : tie.Need-mul-used
 mul-used c = search needs
-
-add-used : tie.Need-add-used
-add-used c = search needs
-
-mul-used-2 : tie.Need-mul-used-2
-mul-used-2 c = search needs
-
-add-used-2 : tie.Need-add-used-2
-add-used-2 c = search needs
 
 zero-requires : tie.Need-zero-requires
 zero-requires c κs = search needs
@@ -108,9 +99,6 @@ run-spec =
     (tie.spec
     sub-used
     mul-used
-    add-used
-    mul-used-2
-    add-used-2
     zero-requires
     slice-relend-prefix-query
     slice-aggregate-query

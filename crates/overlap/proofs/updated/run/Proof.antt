@@ -19,7 +19,7 @@ use Rattle.overlap.proofs.updated.run.Tie as tie
 
 -- what the work asks, of either kind
 can-change : (kind : Kind) (g : Network) (P xs ids distances : List ℕ) (node K : ℕ) → node < nodeCount g → TableReady g P K ids distances → KindReady kind P node
-    → Blank xs 0 → 3 * nodeCount g + 2 * (arcCount g + 1) ≤ length xs → CanChange kind g P xs ids distances node K
+    → Blank xs 0 → 4 * nodeCount g + 2 * arcCount g ≤ length xs → CanChange kind g P xs ids distances node K
 can-change Insert g P xs ids distances node K inside r byte blank room =
     record {
       expand = record { accepted = r .accepted; inside = inside; blank = blank; size = omega arith };
@@ -48,7 +48,7 @@ start c = c .before .before .before .before .before .before .before .before .bef
 
 -- the words that are used are there
 abbrev used : tie.Start → ℕ
-used s = 3 * (length (s .args .starts .now) - 1) + 2 * (length (s .args .neighbours .now) + 1)
+used s = 4 * (length (s .args .starts .now) - 1) + 2 * length (s .args .neighbours .now)
 
 fits : (s : tie.Start) → used s ≤ length (s .args .scratch .now)
 fits s =
@@ -65,14 +65,11 @@ sub-used c = omega (arith, c .before .before .before .before .before .before .be
 mul-used : tie.Need-mul-used
 mul-used c = search needs
 
-add-used : tie.Need-add-used
-add-used c = search needs
-
 mul-used-2 : tie.Need-mul-used-2
 mul-used-2 c = search needs
 
-add-used-2 : tie.Need-add-used-2
-add-used-2 c = search needs
+add-used : tie.Need-add-used
+add-used c = search needs
 
 zero-requires : tie.Need-zero-requires
 zero-requires c κs = search needs
@@ -132,9 +129,8 @@ run-spec =
     (tie.spec
     sub-used
     mul-used
-    add-used
     mul-used-2
-    add-used-2
+    add-used
     zero-requires
     slice-relend-prefix-change
     slice-aggregate-change

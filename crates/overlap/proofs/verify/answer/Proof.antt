@@ -7,7 +7,7 @@ use Rattle.network.specs.Network.{Network, network}
 use Rattle.network.specs.Points.{verified}
 use Rattle.expansion.proofs.Settled.{zero-blank}
 use Rattle.overlap.proofs.Ready.{VerifyReady, verify-ready}
-use Rattle.overlap.proofs.Scratch.{zero-length, all-zero, words-enough}
+use Rattle.overlap.proofs.Scratch.{zero-length, all-zero}
 use Rattle.overlap.proofs.Outcomes.{verify-refused, verify-done}
 use borrow.Author.Needs.{needs}
 use Rattle.overlap.proofs.verify.answer.Statement.{statement}
@@ -49,7 +49,7 @@ verify-requires c κs =
     let z = c .before .before .before .before in
     let e = z .before .before in
     let s = start (e .before) in
-    let p = ready e .query in
+    let p = ready e in
     let long = length (s .args .scratch .now) in
     record {
       expand =
@@ -57,9 +57,9 @@ verify-requires c κs =
             accepted = p .accepted;
             inside = p .inside;
             blank = zero-blank long 0 (z .zero .ensures);
-            size = omega (arith, words-enough (G s) (s .args .k) (p .some), p .room, p .accepted .some, zero-length long (z .zero .ensures));
+            size = omega (arith, p .room, p .accepted .some, zero-length long (z .zero .ensures));
           };
-      inside = ready e .inside-q;
+      inside = p .inside-q;
       points = p .points;
     }
 

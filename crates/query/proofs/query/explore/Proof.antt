@@ -1,17 +1,18 @@
 -- `query::query::explore` meets its contract. The loop's invariant is that the query is under way (`Querying`). A turn takes an entry, looks at its
 -- node, which sets flags before the area, and settles it; where k points are found the node is beaten, on the table of the points, and the search
--- stops behind it; else its arcs are followed. The measure is the expansion's room.
+-- stops behind it; else its arcs are followed. The measure is the number of nodes that are not settled.
 -- Assumes nothing.
 use mathlib.Core.Path.{_≡_, refl, sym, _∙_}
 use mathlib.Core.List.{_++_}
 use native.Mathlib.Omega.{arith}
+use Prim.Native.Nat.{_-_}
 use lib.ListN.{length, drop, length-set}
 use Rattle.network.specs.Network.{Network, network, nodeCount, neighboursOf}
 use Rattle.expansion.specs.Area.{Took, Followed}
-use Rattle.expansion.proofs.AreaLaws.{room, settledAs}
-use Rattle.expansion.proofs.Progress.{progress-nodes, took-place, took-fits, took-follow}
+use Rattle.expansion.proofs.AreaLaws.{settledAs}
+use Rattle.expansion.proofs.Progress.{took-place, took-fits, took-follow}
 use Rattle.rows.specs.Flat.{IsTable}
-use Rattle.query.proofs.Querying.{Querying, Arrived, querying-start, front-size, can-look, arrived-size, arrive, room-left, querying-stopped, room-followed, querying-opened, ended-only, ended-found}
+use Rattle.query.proofs.Querying.{Querying, Arrived, can-expand, querying-start, front-size, can-look, arrived-size, arrive, querying-stopped, querying-opened, ended-only, ended-found}
 use borrow.Author.Needs.{needs}
 use Rattle.query.proofs.query.explore.Statement.{statement}
 use Rattle.query.proofs.query.explore.Tie as tie
@@ -22,7 +23,7 @@ Inv-loop starts neighbours weights points ids distances s₀ b q k places n sett
     × Querying (IsTable (network starts neighbours weights) points places ids distances) (network starts neighbours weights) points q k s b settled len
 
 abbrev μ-loop : tie.MeasureT-loop
-μ-loop starts neighbours weights points ids distances s₀ b q k places n settled₀ len₀ s settled len = room (network starts neighbours weights) s b len
+μ-loop starts neighbours weights points ids distances s₀ b q k places n settled₀ len₀ s settled len = nodeCount (network starts neighbours weights) - settled
 
 -- the places: where the loop begins, the entry that was taken, its node looked at, and settled
 abbrev start-of : tie.At-loop Inv-loop μ-loop → tie.Start Inv-loop μ-loop
@@ -57,7 +58,7 @@ arrived : (k : tie.After-look Inv-loop μ-loop)
     → let c = taken-of k in
     let l = loop-of c in
     let a = start-of l .args in
-    Arrived (T l) (G l) (a .points .now) (a .q) (a .k) (room (G l) (l .loop .s) (a .b) (l .loop .len))
+    Arrived (T l) (G l) (a .points .now) (a .q) (a .k)
     (k .look .last .1 .1 .1 .1 .1 .1 .0 ++ drop (a .b) (c .before .before .before .before .next .last .0)) (a .b) (l .loop .settled)
     (c .taken .given .0 .1 .1 .1 .0) (c .taken .given .0 .0) (c .taken .given .0 .1 .0) (k .look .result)
 arrived k =
@@ -90,10 +91,8 @@ sub-n c = search needs
 
 start-requires : tie.Need-start-requires Inv-loop μ-loop
 start-requires c κs =
-    let p = c .before .before .before .before .before .before .before .before .pre in (
-      record { zero = λ j h. p .blank .zero j (omega (arith, p .base)) },
-      (omega (arith, p .size), p .asked .site, p .asked .accepted .few),
-    )
+    let p = can-expand (c .before .before .before .before .before .before .before .before .pre) in
+    (p .blank, (p .size, p .inside, p .accepted .few))
 
 loop-holds : tie.Need-loop-holds Inv-loop μ-loop
 loop-holds c =
@@ -103,8 +102,7 @@ loop-holds c =
 next-requires : tie.Need-next-requires Inv-loop μ-loop
 next-requires c κs =
     let l = c .before in
-    let p = l .loop .inv .1 .progress in
-    ((p .area .fits, p .area .queue), progress-nodes (start-of l .pre .asked .accepted) p)
+    l .loop .inv .1 .progress .area .queue
 
 enum-known-taken : tie.Need-enum-known-taken Inv-loop μ-loop
 enum-known-taken c = search needs
@@ -121,11 +119,12 @@ returns c =
     let l = n .before .before in
     let e = l .loop .inv .1 in
     let t = rw (c .enum-told .given .1) at (n .next .ensures) in
-    record {
-      size = t .leaves .frame .size ∙ l .loop .inv .0 ∙ l .before .before .before .start .ensures .frame .size;
-      only = ended-only (start-of l .pre) e t;
-      right = ended-found (start-of l .pre) e t;
-    }
+    rw (t .1)
+    (record {
+      size = l .loop .inv .0 ∙ l .before .before .before .start .ensures .frame .size;
+      only = ended-only (start-of l .pre) e (t .0);
+      right = ended-found (start-of l .pre) e (t .0);
+    })
 
 slice-relend-prefix-look : tie.Need-slice-relend-prefix-look Inv-loop μ-loop
 slice-relend-prefix-look c = search needs
@@ -159,7 +158,7 @@ loop-less c =
     let s = c .before .before .before in
     let k = look-of s in
     let l = loop-of (taken-of k) in
-    rw (s .settle .ensures) (room-left (start-of l .pre) (arrived k))
+    omega (arith, took-place (start-of l .pre .asked .accepted) (arrived k .querying .progress) (arrived k .took))
 
 loop-again : tie.Need-loop-again Inv-loop μ-loop
 loop-again c =
@@ -182,7 +181,7 @@ loop-less-2 c =
     let o = c .before .before in
     let k = look-of (settle-of o) in
     let l = loop-of (taken-of k) in
-    room-followed (start-of l .pre) (arrived k) (followed o)
+    omega (arith, took-place (start-of l .pre .asked .accepted) (arrived k .querying .progress) (arrived k .took))
 
 loop-again-2 : tie.Need-loop-again-2 Inv-loop μ-loop
 loop-again-2 c =

@@ -23,15 +23,6 @@ sub-n c = search needs
 mul-b : tie.Need-mul-b
 mul-b c = search needs
 
-add-b : tie.Need-add-b
-add-b c = search needs
-
-mul-b-2 : tie.Need-mul-b-2
-mul-b-2 c = search needs
-
-add-b-2 : tie.Need-add-b-2
-add-b-2 c = search needs
-
 wide-requires : tie.Need-wide-requires
 wide-requires c κs = search needs
 
@@ -83,9 +74,6 @@ query-spec =
     (tie.spec
     sub-n
     mul-b
-    add-b
-    mul-b-2
-    add-b-2
     wide-requires
     add-own
     own-flag-requires

@@ -36,21 +36,6 @@ sub-n c = search needs
 mul-b : tie.Need-mul-b
 mul-b c = search needs
 
-mul-b-2 : tie.Need-mul-b-2
-mul-b-2 c = search needs
-
-add-b : tie.Need-add-b
-add-b c = search needs
-
-add-b-2 : tie.Need-add-b-2
-add-b-2 c = search needs
-
-mul-b-3 : tie.Need-mul-b-3
-mul-b-3 c = search needs
-
-add-b-3 : tie.Need-add-b-3
-add-b-3 c = search needs
-
 wide-requires : tie.Need-wide-requires
 wide-requires c κs = search needs
 
@@ -125,11 +110,6 @@ eager-spec =
     (tie.spec
     sub-n
     mul-b
-    mul-b-2
-    add-b
-    add-b-2
-    mul-b-3
-    add-b-3
     wide-requires
     add-own
     own-flag-requires

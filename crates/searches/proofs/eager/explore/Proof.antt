@@ -1,8 +1,8 @@
 -- `searches::eager::explore` meets its contract. The loop's invariant is that eager is under way (`Exploring`). A turn takes an entry, looks at its
 -- node, which sets flags before the area, and settles it; where fewer than k points are found the node is expanded, and is counted, and its arcs
--- are followed; else it is beaten, and the search stops behind it. The measure is the expansion's room.
+-- are followed; else it is beaten, and the search stops behind it. The measure is the number of nodes that are not settled.
 -- Assumes nothing.
-use Prim.Native.Nat.{_+_, _<_}
+use Prim.Native.Nat.{_+_, _-_, _<_}
 use mathlib.Core.Path.{_≡_, refl, sym, _∙_}
 use mathlib.Core.Bool.{true, false≢true, true≢false}
 use mathlib.Core.Logic.{_≢_, ⊎-elim}
@@ -15,13 +15,13 @@ use borrow.Author.Tests.{eqb-true, eqb-false}
 use Rattle.network.specs.Network.{Network, network, nodeCount, neighboursOf}
 use Rattle.network.specs.Points.{isListed}
 use Rattle.network.proofs.Rank.{Near}
+use Rattle.expansion.proofs.Beside.{Beside}
 use Rattle.expansion.specs.Area.{Took, Followed}
-use Rattle.expansion.proofs.AreaLaws.{room, settledAs, area-left}
-use Rattle.expansion.proofs.Progress.{progress-nodes, took-area, took-place, took-fits, took-follow, room-falls, frame-settled}
-use Rattle.expansion.proofs.Beside.{Beside, room-beside}
+use Rattle.expansion.proofs.AreaLaws.{settledAs}
+use Rattle.expansion.proofs.AreaSearch.{took-area}
+use Rattle.expansion.proofs.Progress.{took-place, took-fits, took-follow, frame-settled}
 use Rattle.searches.proofs.Finds.{met-leads}
-use Rattle.expansion.proofs.Stopping.{room-stopped}
-use Rattle.searches.proofs.Exploring.{Exploring, exploring-start, can-look, beside-old, looked-took, looked-exploring, looked-told, few-expanded, many-beaten, beyond, exploring-stopped, exploring-opened, count-all, found-all}
+use Rattle.searches.proofs.Exploring.{can-expand, Exploring, exploring-start, can-look, beside-old, looked-took, looked-exploring, looked-told, few-expanded, many-beaten, beyond, exploring-stopped, exploring-opened, count-all, found-all}
 use Rattle.searches.proofs.eager.explore.Statement.{statement}
 use Rattle.searches.proofs.eager.explore.Tie as tie
 
@@ -30,7 +30,7 @@ Inv-loop starts neighbours weights points s₀ b q k limit n settled₀ len₀ c
     (length s ≡ length s₀) × Exploring (network starts neighbours weights) points q k limit s b settled len count
 
 abbrev μ-loop : tie.MeasureT-loop
-μ-loop starts neighbours weights points s₀ b q k limit n settled₀ len₀ count₀ s settled len count = room (network starts neighbours weights) s b len
+μ-loop starts neighbours weights points s₀ b q k limit n settled₀ len₀ count₀ s settled len count = nodeCount (network starts neighbours weights) - settled
 
 -- the places: where the loop begins, the entry that was taken, its node looked at, and settled
 abbrev start-of : tie.At-loop Inv-loop μ-loop → tie.Start Inv-loop μ-loop
@@ -112,7 +112,7 @@ sub-n c = search needs
 start-requires : tie.Need-start-requires Inv-loop μ-loop
 start-requires c κs =
     let p = c .before .before .before .before .before .before .pre in
-    (record { zero = λ j h. p .blank .zero j (omega (arith, p .base)) }, (omega (arith, p .size, p .base), p .site, p .accepted .few))
+    (can-expand p .blank, (can-expand p .size, p .site, p .accepted .few))
 
 loop-holds : tie.Need-loop-holds Inv-loop μ-loop
 loop-holds c =
@@ -122,8 +122,7 @@ loop-holds c =
 next-requires : tie.Need-next-requires Inv-loop μ-loop
 next-requires c κs =
     let l = c .before in
-    let p = l .loop .inv .1 .progress in
-    ((p .area .fits, p .area .queue), progress-nodes (start-of l .pre .accepted) p)
+    l .loop .inv .1 .progress .area .queue
 
 enum-known-taken : tie.Need-enum-known-taken Inv-loop μ-loop
 enum-known-taken c = search needs
@@ -143,15 +142,16 @@ returns c =
     let l = n .before .before in
     let e = l .loop .inv .1 in
     let t = rw (c .before .enum-told .given .1) at (n .next .ensures) in
-    let all = count-all (start-of l .pre) e t in
+    let all = count-all (start-of l .pre) e (t .0) in
     rw (c .complete .ensures)
-    record {
-      size = t .leaves .frame .size ∙ l .loop .inv .0 ∙ l .before .before .before .start .ensures .frame .size;
-      area = area-left (e .progress .area) (t .leaves);
-      blank = λ j h m. t .leaves .frame .words j (omega arith) ∙ e .blank j h m;
-      complete = λ a. record { count = all; within = rw (← all) (e .within); found = found-all (start-of l .pre) e t };
+    (rw (t .1)
+    (record {
+      size = l .loop .inv .0 ∙ l .before .before .before .start .ensures .frame .size;
+      area = rw (t .0) at (e .progress .area);
+      blank = e .blank;
+      complete = λ a. record { count = all; within = rw (← all) (e .within); found = found-all (start-of l .pre) e (t .0) };
       beyond = λ a. absurd (false≢true a);
-    }
+    }))
 
 slice-relend-prefix-f : tie.Need-slice-relend-prefix-f Inv-loop μ-loop
 slice-relend-prefix-f c = search needs
@@ -160,7 +160,7 @@ slice-aggregate-f : tie.Need-slice-aggregate-f Inv-loop μ-loop
 slice-aggregate-f c =
     let t = c .before .before in
     let l = loop-of t in
-    sym (length-take-le (start-of l .args .b) (t .before .before .before .before .next .last .0) (omega (arith, l .loop .inv .1 .progress .size, took t .leaves .frame .size)))
+    sym (length-take-le (start-of l .args .b) (t .before .before .before .before .next .last .0) (omega (arith, l .loop .inv .1 .progress .area .queue .room, took t .popped .frame .size)))
 
 look-requires : tie.Need-look-requires Inv-loop μ-loop
 look-requires c κs =
@@ -181,9 +181,9 @@ returns-2 c =
     let t = took-after k in
     rw (c .beyond .ensures)
     record {
-      size = t .leaves .frame .size ∙ flags-set k .size ∙ l .loop .inv .0 ∙ l .before .before .before .start .ensures .frame .size;
-      area = took-area (start-of l .pre .accepted) (e .progress) t;
-      blank = λ j h m. t .leaves .frame .words j (omega arith) ∙ e .blank j h m;
+      size = t .popped .frame .size ∙ flags-set k .size ∙ l .loop .inv .0 ∙ l .before .before .before .start .ensures .frame .size;
+      area = took-area (start-of l .pre .accepted) (e .progress .area) (e .progress .searched) t;
+      blank = λ j h m. t .popped .frame .before j m ∙ e .blank j h m;
       complete = λ a. absurd (true≢false a);
       beyond =
           λ a.
@@ -210,8 +210,7 @@ loop-less : tie.Need-loop-less Inv-loop μ-loop
 loop-less c =
     let k = look-of (c .before .before .before) in
     let l = loop-of (taken-of k) in
-    rw (c .before .before .before .settle .ensures)
-    (omega (arith, room-stopped (start-of l .pre .accepted) (exploring k .progress) (took-after k), room-beside (flags-set k) (G l) (l .loop .len)))
+    omega (arith, took-place (start-of l .pre .accepted) (exploring k .progress) (took-after k))
 
 loop-again : tie.Need-loop-again Inv-loop μ-loop
 loop-again c =
@@ -223,7 +222,7 @@ loop-again c =
     let x =
     exploring-stopped (start-of l .pre) e t (told k) (many-beaten (start-of l .pre) e t (k .look .ensures .count) (c .if3 .taken))
     in (
-      rw (s .settle .ensures) (simp length-set (t .leaves .frame .size ∙ flags-set k .size ∙ l .loop .inv .0)),
+      rw (s .settle .ensures) (simp length-set (t .popped .frame .size ∙ flags-set k .size ∙ l .loop .inv .0)),
       rw (s .settle .ensures) x,
     )
 
@@ -244,11 +243,7 @@ loop-less-2 c =
     let k = look-of (settle-of o) in
     let l = loop-of (taken-of k) in
     let p = start-of l .pre in
-    omega (
-      arith,
-      room-falls (p .accepted) (exploring k .progress) (took-after k) (met-leads (p .accepted) _ _ _ (p .some)) (followed o),
-      room-beside (flags-set k) (G l) (l .loop .len),
-    )
+    omega (arith, took-place (p .accepted) (exploring k .progress) (took-after k))
 
 loop-again-2 : tie.Need-loop-again-2 Inv-loop μ-loop
 loop-again-2 c =
@@ -260,7 +255,7 @@ loop-again-2 c =
     let e = exploring k in
     let t = took-after k in
     let few = o .before .before .if3 .left in (
-      frame-settled (p .accepted) (e .progress) t (followed o .frame) .size ∙ flags-set k .size ∙ l .loop .inv .0,
+      frame-settled (p .accepted) (e .progress) t (met-leads (p .accepted) _ _ _ (p .some)) (followed o) .size ∙ flags-set k .size ∙ l .loop .inv .0,
       exploring-opened p e t (told k) (few-expanded p e t (k .look .ensures .count) few) (below s few) (followed o),
     )
 

@@ -19,7 +19,7 @@ wide-of v = v .before .before .before .before
 verified : (v : tie.After-verify)
     → let a = start-of (wide-of v) .args in
     let g = network (a .starts .now) (a .neighbours .now) (a .weights .now) in
-    VerifyLeft g (a .points .now) (a .p) (a .q) (a .k) (set (a .f .now) (a .p) 1) (v .verify .last .1 .1 .1 .1 .0) (innerBase g (a .k)) (v .verify .result)
+    VerifyLeft g (a .points .now) (a .p) (a .q) (a .k) (set (a .f .now) (a .p) 1) (v .verify .last .1 .1 .1 .1 .0) (innerBase g) (v .verify .result)
 verified v = rw (wide-of v .wide .ensures) at (v .verify .ensures)
 
 sub-n : tie.Need-sub-n
@@ -47,12 +47,6 @@ slice-write-f c = search needs
 
 mul-b : tie.Need-mul-b
 mul-b c = search needs
-
-mul-b-2 : tie.Need-mul-b-2
-mul-b-2 c = search needs
-
-add-b : tie.Need-add-b
-add-b c = search needs
 
 verify-requires : tie.Need-verify-requires
 verify-requires c κs =
@@ -104,8 +98,6 @@ verify-once-spec =
     mul-f
     slice-write-f
     mul-b
-    mul-b-2
-    add-b
     verify-requires
     add-f
     mul-f-2

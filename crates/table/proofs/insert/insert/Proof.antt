@@ -1,19 +1,18 @@
 -- `table::insert::insert` meets its contract. The loop's invariant is that insert is under way (`Inserting`). A turn takes an entry, puts the new
 -- point into its node's row at the entry's label, and settles the node; where the row took the point it is counted, and the node's arcs are
--- followed; else the search stops behind it. The measure is the expansion's room.
+-- followed; else the search stops behind it. The measure is the number of nodes that are not settled.
 -- Assumes nothing.
 use mathlib.Core.Path.{_≡_, refl, ap, _∙_}
 use native.Mathlib.Omega.{arith}
-use Prim.Native.Nat.{_<_}
+use Prim.Native.Nat.{_-_, _<_}
 use lib.ListN.{length, getD, length-set}
 use borrow.Author.Needs.{needs}
 use borrow.Author.Tests.{not-true, not-false}
 use Rattle.network.specs.Network.{Network, network, nodeCount, neighboursOf}
 use Rattle.expansion.specs.Area.{Took, Followed}
-use Rattle.expansion.proofs.AreaLaws.{room, settledAs, area-left}
-use Rattle.expansion.proofs.Progress.{progress-nodes, took-place, took-fits, took-follow, room-falls, frame-settled}
+use Rattle.expansion.proofs.AreaLaws.{settledAs}
+use Rattle.expansion.proofs.Progress.{took-place, took-fits, took-follow, frame-settled}
 use Rattle.expansion.proofs.Settled.{wiped-after}
-use Rattle.expansion.proofs.Stopping.{room-stopped}
 use Rattle.rows.specs.Put.{PutInRow}
 use Rattle.table.proofs.Inserting.{Inserting, enters-leads, inserting-start, has-row, inserting-stopped, inserting-entered, most, table-now, count-all}
 use Rattle.table.proofs.insert.insert.Statement.{statement}
@@ -25,7 +24,7 @@ Inv-loop starts neighbours weights points₀ s₀ ids₀ distances₀ x k n sett
 
 abbrev μ-loop : tie.MeasureT-loop
 μ-loop starts neighbours weights points₀ s₀ ids₀ distances₀ x k n settled₀ len₀ changed₀ points s ids distances settled len changed =
-    room (network starts neighbours weights) s 0 len
+    nodeCount (network starts neighbours weights) - settled
 
 -- the places: where the loop begins, the entry that was taken, the point put into its node's row, and the node settled
 abbrev begun-of : tie.At-loop Inv-loop μ-loop → tie.After-start Inv-loop μ-loop
@@ -87,8 +86,7 @@ loop-holds c =
 next-requires : tie.Need-next-requires Inv-loop μ-loop
 next-requires c κs =
     let l = c .before in
-    let p = l .loop .inv .2 .progress in
-    ((p .area .fits, p .area .queue), progress-nodes (start-of l .pre .expand .accepted) p)
+    l .loop .inv .2 .progress .area .queue
 
 enum-known-taken : tie.Need-enum-known-taken Inv-loop μ-loop
 enum-known-taken c = search needs
@@ -100,7 +98,7 @@ clear-requires : tie.Need-clear-requires Inv-loop μ-loop
 clear-requires c κs =
     let n = c .before .before .before .before .before in
     let t = rw (c .before .enum-told .given .1) at (n .next .ensures) in
-    area-left (n .before .before .loop .inv .2 .progress .area) (t .leaves)
+    rw (t .1) (rw (t .0) at (n .before .before .loop .inv .2 .progress .area))
 
 wide-requires : tie.Need-wide-requires Inv-loop μ-loop
 wide-requires c κs = search needs
@@ -151,14 +149,14 @@ returns c =
     let e = l .loop .inv .2 in
     let p = start-of l .pre in
     let t = rw (w .before .before .enum-told .given .1) at (n .next .ensures) in
-    let size = t .leaves .frame .size ∙ l .loop .inv .1 ∙ begun-of l .start .ensures .frame .size in
+    let size = ap length (t .1) ∙ l .loop .inv .1 ∙ begun-of l .start .ensures .frame .size in
     record {
       marks = rw (c .before .wide .ensures, l .loop .inv .0);
       area = wiped-after (record { size = size; words = λ i h. absurd (omega arith) }) (w .clear .ensures);
       sized = e .sized;
       most = omega (arith, most p e);
-      table = table-now p e t;
-      counted = count-all p e t;
+      table = table-now p e (t .0);
+      counted = count-all p e (t .0);
     }
 
 wide-requires-2 : tie.Need-wide-requires-2 Inv-loop μ-loop
@@ -188,7 +186,7 @@ loop-less c =
     let s = c .before .before .before in
     let t = taken-of (put-of s) in
     let l = loop-of t in
-    rw (s .settle .ensures) (room-stopped (start-of l .pre .expand .accepted) (l .loop .inv .2 .progress) (took t))
+    omega (arith, took-place (start-of l .pre .expand .accepted) (l .loop .inv .2 .progress) (took t))
 
 loop-again : tie.Need-loop-again Inv-loop μ-loop
 loop-again c =
@@ -197,7 +195,7 @@ loop-again c =
     let t = taken-of q in
     let l = loop-of t in (
       l .loop .inv .0,
-      rw (s .settle .ensures) (simp length-set (took t .leaves .frame .size ∙ l .loop .inv .1)),
+      rw (s .settle .ensures) (simp length-set (took t .popped .frame .size ∙ l .loop .inv .1)),
       rw (s .settle .ensures) (inserting-stopped (start-of l .pre) (l .loop .inv .2) (took t) (put q) (not-true _ (c .if1 .taken))),
     )
 
@@ -221,7 +219,7 @@ loop-less-2 c =
     let t = taken-of (put-of (settle-of o)) in
     let l = loop-of t in
     let p = start-of l .pre in
-    room-falls (p .expand .accepted) (l .loop .inv .2 .progress) (took t) (enters-leads p) (followed o)
+    omega (arith, took-place (p .expand .accepted) (l .loop .inv .2 .progress) (took t))
 
 loop-again-2 : tie.Need-loop-again-2 Inv-loop μ-loop
 loop-again-2 c =
@@ -231,7 +229,7 @@ loop-again-2 c =
     let l = loop-of t in
     let p = start-of l .pre in (
       l .loop .inv .0,
-      frame-settled (p .expand .accepted) (l .loop .inv .2 .progress) (took t) (followed o .frame) .size ∙ l .loop .inv .1,
+      frame-settled (p .expand .accepted) (l .loop .inv .2 .progress) (took t) (enters-leads p) (followed o) .size ∙ l .loop .inv .1,
       inserting-entered p (l .loop .inv .2) (took t) (put q) (not-false _ (o .before .before .if1 .left)) (followed o),
     )
 

@@ -9,7 +9,7 @@ use native.Mathlib.Omega.{arith}
 use Rattle.network.specs.Network.{Network, nodeCount, arcCount, startOf}
 use Rattle.network.specs.Accepted.{Accepted}
 use Rattle.network.proofs.Tests.{bool-cases}
-use Rattle.expansion.specs.Room.{degree, arcsLeft}
+use Rattle.table.specs.Room.{degree, arcsLeft}
 
 pub left-same : (g : Network) (t u : ℕ → Bool) (n : ℕ) → ((x : ℕ) → x < n → u x ≡ t x) → arcsLeft g u n ≡ arcsLeft g t n
 unfolding arcsLeft
