@@ -12,7 +12,8 @@
  *     starts                n + 1 words; the arcs of node i are those from starts[i] up to, not including, starts[i + 1]
  *     neighbours, weights   A words each: the node that the arc leads to, ascending within a node, and its weight, 1 to 65,535
  *     points                n bytes: the number of points (lockers) on each node, 0 to 15
- *     scratch               SCRATCH_LEN (below) words or more, of any contents; a call that is accepted leaves them all 0
+ *     scratch               SCRATCH_LEN (below) words or more, for eager, verify and the short query EAGER_SCRATCH_LEN, of any contents; a call
+ *                           that is accepted leaves them all 0
  *     answers               n words or more; the list stands in the first `length`, distances fill n
  *     ids, distances        of nearest k words each or more; of a table n x K words each, row i from i x K on, and `places` is K; a node with
  *                           several lockers comes as often, as far as there is room
@@ -32,7 +33,8 @@
  *      7  a node given is n or more
  *      8  K not 2 to 17, or a table array not n x K long
  *      9  k is 0 or above 16; by table, above K - 1
- *     10  scratch shorter than SCRATCH_LEN, or an array for answers shorter than n (nearest: than k)
+ *     10  scratch shorter than SCRATCH_LEN (eager, verify and the short query: than EAGER_SCRATCH_LEN), or an array for answers shorter than n
+ *         (nearest: than k)
  *     11  insert at 15 lockers; remove or verify at none
  *     12  eager: the expanded count would exceed the limit
  *
@@ -51,6 +53,9 @@ enum { NODES = 6, ARCS = 10, MOST_PLACES = 3 };
  * build, insert and remove, and 1 for distances." "Both checks have no scratch." */
 #define SCRATCH_LEN(n, arcs, m) (16 * (n) + 8 * ((arcs) + (n)) * (m))
 
+/* Document 02 (Ask 5): "Eager, verify and the short query shall work with 12 x n entries for every k." It is never more than S. */
+#define EAGER_SCRATCH_LEN(n) (12 * (n))
+
 /* The three arrays of a network with their lengths. */
 typedef struct {
     const uint32_t *starts;
@@ -65,6 +70,7 @@ typedef struct {
 #define LEND_NETWORK(g) (g).starts, (g).starts_len, (g).neighbours, (g).neighbours_len, (g).weights, (g).weights_len
 #define LEND(array) (array), sizeof(array) / sizeof *(array)
 #define LEND_SCRATCH LEND(scratch)
+#define LEND_EAGER_SCRATCH scratch, EAGER_SCRATCH_LEN(NODES)
 
 /* A network of literal arrays. */
 #define NETWORK(starts, neighbours, weights) { LEND(starts), LEND(neighbours), LEND(weights) }
@@ -79,7 +85,8 @@ static const network p7 = NETWORK(n_starts, n_neighbours, p7_weights);
 static const uint8_t n_points[NODES] = { 0, 0, 1, 0, 1, 1 };
 static const uint8_t no_points[NODES] = { 0 };
 
-/* One array serves all calls: it may be longer than S, and an accepted call leaves it all zero. */
+/* One array serves all calls: it may be longer than they ask for, and an accepted call leaves it all zero. Eager, verify and the short query
+ * are lent its first words alone. */
 static uint32_t scratch[SCRATCH_LEN(NODES, ARCS, MOST_PLACES)];
 
 /* Ends the program where a call is refused that must not be. */
@@ -169,7 +176,7 @@ static void print_nearest(void)
 
 static const char *verdict_of(uint32_t p, uint32_t k)
 {
-    overlap_verdict verdict = overlap_verify(LEND_NETWORK(n), LEND(n_points), p, 0, k, LEND_SCRATCH);
+    overlap_verdict verdict = overlap_verify(LEND_NETWORK(n), LEND(n_points), p, 0, k, LEND_EAGER_SCRATCH);
     expect_accepted(verdict.number);
     return verdict.yes ? "yes" : "no";
 }
@@ -206,7 +213,7 @@ static void print_by_table(network g, const uint8_t points[NODES], uint32_t q, u
 static void print_case(const char *name, network g, const uint8_t points[NODES], uint32_t q, uint32_t k)
 {
     uint32_t answers[NODES];
-    overlap_listing eager = overlap_eager(LEND_NETWORK(g), points, NODES, q, k, 65535, LEND_SCRATCH, LEND(answers));
+    overlap_listing eager = overlap_eager(LEND_NETWORK(g), points, NODES, q, k, 65535, LEND_EAGER_SCRATCH, LEND(answers));
     printf("%s, q %u, k %u: eager ", name, (unsigned)q, (unsigned)k);
     print_list(eager, answers);
     printf(" expanded %u, lazy ", (unsigned)eager.count);
@@ -221,7 +228,7 @@ static void print_case(const char *name, network g, const uint8_t points[NODES],
 static void print_short_query(uint32_t q)
 {
     uint32_t answers[NODES];
-    overlap_listing listing = overlap_short_query(LEND_NETWORK(n), LEND(n_points), q, LEND_SCRATCH, LEND(answers));
+    overlap_listing listing = overlap_short_query(LEND_NETWORK(n), LEND(n_points), q, LEND_EAGER_SCRATCH, LEND(answers));
     printf("short query, q %u: ", (unsigned)q);
     print_list(listing, answers);
     printf(" expanded %u\n", (unsigned)listing.count);
@@ -316,7 +323,7 @@ static void print_other_numbers(void)
     uint8_t points[NODES] = { 0, 0, 1, 0, 1, 1 };
     uint32_t answers[NODES], ids[NODES * 2], distances[NODES * 2];
     expect_accepted(overlap_build(LEND_NETWORK(n), LEND(points), 2, LEND_SCRATCH, LEND(ids), LEND(distances)));
-    print_number(overlap_short_query(LEND_NETWORK(n), LEND(byte_16), 0, LEND_SCRATCH, LEND(answers)).number, "N, byte 16");
+    print_number(overlap_short_query(LEND_NETWORK(n), LEND(byte_16), 0, LEND_EAGER_SCRATCH, LEND(answers)).number, "N, byte 16");
     print_number(overlap_distances(LEND_NETWORK(n), 6, LEND_SCRATCH, LEND(answers)), "N, node 6");
     print_number(overlap_table_check(LEND_NETWORK(n), LEND(points), 2, ids, 11, LEND(distances)).number, "N, K = 2, 11 ids");
     print_number(overlap_table_query(LEND_NETWORK(n), LEND(points), 0, 2, 2, LEND(ids), LEND(distances), LEND_SCRATCH,
@@ -324,7 +331,7 @@ static void print_other_numbers(void)
     print_number(overlap_distances(LEND_NETWORK(n), 0, LEND_SCRATCH, answers, 5), "N, 5 answer places");
     print_number(overlap_remove(LEND_NETWORK(n), LEND(points), 0, 2, LEND_SCRATCH, LEND(ids), LEND(distances)).number,
                  "N, remove 0");
-    print_number(overlap_eager(LEND_NETWORK(n), LEND(points), 0, 2, 3, LEND_SCRATCH, LEND(answers)).number,
+    print_number(overlap_eager(LEND_NETWORK(n), LEND(points), 0, 2, 3, LEND_EAGER_SCRATCH, LEND(answers)).number,
                  "N, q = 0, k = 2, limit 3");
 }
 

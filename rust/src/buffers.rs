@@ -7,6 +7,24 @@ use std::fmt;
 /// before its scratch is looked at, so no more than S for 17 is ever allocated.
 const MOST: u32 = 17;
 
+/// The words of scratch that a call asks for.
+#[derive(Clone, Copy)]
+pub(crate) enum Words {
+    /// S, for the m of the call.
+    S(u32),
+    /// 12 × n, for eager, verify and the short query.
+    Eager,
+}
+
+impl Words {
+    fn on(self, network: &Network) -> usize {
+        match self {
+            Self::S(m) => network.scratch_len(m.min(MOST)),
+            Self::Eager => network.eager_scratch_len(),
+        }
+    }
+}
+
 #[derive(Default)]
 pub(crate) struct Buffers {
     scratch: Vec<u32>,
@@ -14,14 +32,14 @@ pub(crate) struct Buffers {
 }
 
 impl Buffers {
-    /// Scratch of S words for the m of a call, no more, since a call clears all that it is lent.
-    pub(crate) fn scratch(&mut self, network: &Network, m: u32) -> &mut [u32] {
-        self.both(network, m).0
+    /// Scratch of the words that a call asks for, no more, since a call clears all that it is lent.
+    pub(crate) fn scratch(&mut self, network: &Network, words: Words) -> &mut [u32] {
+        self.both(network, words).0
     }
 
     /// Scratch, and n places for answers.
-    pub(crate) fn both(&mut self, network: &Network, m: u32) -> (&mut [u32], &mut [u32]) {
-        let length = network.scratch_len(m.min(MOST));
+    pub(crate) fn both(&mut self, network: &Network, words: Words) -> (&mut [u32], &mut [u32]) {
+        let length = words.on(network);
         if self.scratch.len() < length {
             self.scratch = vec![0; length];
         }

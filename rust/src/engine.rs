@@ -1,15 +1,15 @@
 //! The calls without a table.
 
-use crate::buffers::Buffers;
+use crate::buffers::{Buffers, Words};
 use crate::calls::{self, accepted, Found, Listing};
 use crate::{Distances, Listed, Nearest, Network, Points, Refusal};
 
 /// The calls without a table, on one network.
 ///
-/// It owns the scratch and the places for answers, as long as document 01 asks for. They are
-/// allocated at the first call and again only when a later call has a larger k; for k = 16 on the
-/// largest network scratch is 76,545,904 words. An answer is lent from them, so it is read or
-/// copied before the next call.
+/// It owns the scratch and the places for answers, as long as documents 01 and 02 ask for. They are
+/// allocated at the first call and again only when a later call needs more. On the largest network
+/// scratch is 786,420 words for eager, verify and the short query, and 76,545,904 for the other calls
+/// with k = 16. An answer is lent from them, so it is read or copied before the next call.
 ///
 /// Document 01: "For query node q and k, point p is listed if it can be reached from q and fewer
 /// than k other points p' have d(p, p') < d(p, q). The point p itself doesn't count. A point on q
@@ -102,7 +102,7 @@ impl Engine {
     ///
     /// 7 where the node is n or more.
     pub fn distances(&mut self, node: u32) -> Result<Distances<'_>, Refusal> {
-        let (scratch, words) = self.buffers.both(&self.network, 1);
+        let (scratch, words) = self.buffers.both(&self.network, Words::S(1));
         accepted(calls::distances(self.network.lend(), node, scratch, words))?;
         Ok(Distances { words })
     }
@@ -146,7 +146,7 @@ impl Engine {
         e: u32,
         k: u32,
     ) -> Result<Nearest<'_>, Refusal> {
-        let scratch = self.buffers.scratch(&self.network, k);
+        let scratch = self.buffers.scratch(&self.network, Words::S(k));
         let found = Found {
             ids: &mut self.ids,
             distances: &mut self.distances,
@@ -193,7 +193,7 @@ impl Engine {
     ///
     /// The first condition met of 6, 7, 9 and 11.
     pub fn verify(&mut self, points: &Points, p: u32, q: u32, k: u32) -> Result<bool, Refusal> {
-        let scratch = self.buffers.scratch(&self.network, k);
+        let scratch = self.buffers.scratch(&self.network, Words::Eager);
         calls::verify(self.network.lend(), points.marks(), p, q, k, scratch).accepted()
     }
 
@@ -231,7 +231,7 @@ impl Engine {
         k: u32,
         limit: u32,
     ) -> Result<Listed<'_>, Refusal> {
-        let (scratch, answers) = self.buffers.both(&self.network, k);
+        let (scratch, answers) = self.buffers.both(&self.network, Words::Eager);
         let (network, marks) = (self.network.lend(), points.marks());
         let listing = calls::eager(network, marks, q, k, limit, scratch, answers);
         self.listed(listing)
@@ -258,7 +258,7 @@ impl Engine {
     ///
     /// The first condition met of 6 and 7.
     pub fn short_query(&mut self, points: &Points, q: u32) -> Result<Listed<'_>, Refusal> {
-        let (scratch, answers) = self.buffers.both(&self.network, 1);
+        let (scratch, answers) = self.buffers.both(&self.network, Words::Eager);
         let (network, marks) = (self.network.lend(), points.marks());
         let listing = calls::short_query(network, marks, q, scratch, answers);
         self.listed(listing)
@@ -284,7 +284,7 @@ impl Engine {
     ///
     /// The first condition met of 6, 7 and 9.
     pub fn lazy(&mut self, points: &Points, q: u32, k: u32) -> Result<&[u32], Refusal> {
-        let (scratch, answers) = self.buffers.both(&self.network, k);
+        let (scratch, answers) = self.buffers.both(&self.network, Words::S(k));
         let (network, marks) = (self.network.lend(), points.marks());
         let listing = calls::lazy(network, marks, q, k, scratch, answers);
         Ok(self.listed(listing)?.points)
@@ -310,7 +310,7 @@ impl Engine {
     ///
     /// The first condition met of 6, 7 and 9.
     pub fn lazy_ep(&mut self, points: &Points, q: u32, k: u32) -> Result<&[u32], Refusal> {
-        let (scratch, answers) = self.buffers.both(&self.network, k);
+        let (scratch, answers) = self.buffers.both(&self.network, Words::S(k));
         let (network, marks) = (self.network.lend(), points.marks());
         let listing = calls::lazy_ep(network, marks, q, k, scratch, answers);
         Ok(self.listed(listing)?.points)

@@ -3,8 +3,9 @@
 //! The engine works on a network of junctions and roads on which lockers stand, and answers which
 //! lockers have a new site among their k nearest, by road distance. It is written in Rattle and
 //! proved: each call of it meets a contract that says what document 01, the requirements of the
-//! build, says, with what Ask 8 of document 02 changed: several lockers at one junction. Each item
-//! of this crate quotes the sentence that it is.
+//! build, says, with what document 02 changed: several lockers at one junction (Ask 8), and less
+//! scratch for eager, verify and the short query (Ask 5). Each item of this crate quotes the
+//! sentence that it is.
 //!
 //! | Type | What it is |
 //! |---|---|

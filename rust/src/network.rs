@@ -261,7 +261,8 @@ impl Network {
             .filter(|&(a, b, _)| a < b)
     }
 
-    /// S, the words of scratch that a call on this network needs, by [`calls::scratch_len`].
+    /// S, the words of scratch that a call on this network needs, by [`calls::scratch_len`]; eager,
+    /// verify and the short query need [`eager_scratch_len`](Self::eager_scratch_len).
     ///
     /// [`Engine`](crate::Engine) and [`Table`](crate::Table) keep scratch of this length
     /// themselves.
@@ -277,6 +278,23 @@ impl Network {
     #[must_use]
     pub fn scratch_len(&self, m: u32) -> usize {
         calls::scratch_len(self.lend(), m as usize)
+    }
+
+    /// 12 × n, the words of scratch that eager, verify and the short query need on this network for
+    /// every k, by [`calls::eager_scratch_len`].
+    ///
+    /// [`Engine`](crate::Engine) keeps scratch of this length itself.
+    ///
+    /// ```
+    /// # fn main() -> Result<(), overlap::Refusal> {
+    /// let network = overlap::Network::from_roads(3, &[(0, 1, 4), (1, 2, 3)])?;
+    /// assert_eq!(network.eager_scratch_len(), 36);
+    /// # Ok(())
+    /// # }
+    /// ```
+    #[must_use]
+    pub fn eager_scratch_len(&self) -> usize {
+        calls::eager_scratch_len(self.lend())
     }
 
     /// The three arrays as the functions of [`calls`] are lent them.

@@ -1,6 +1,6 @@
 //! The table and the points that it stands for.
 
-use crate::buffers::Buffers;
+use crate::buffers::{Buffers, Words};
 use crate::calls::{self, accepted, TableMut};
 use crate::{Nearest, Network, Points, Refusal};
 
@@ -240,7 +240,7 @@ impl Table {
     ///
     /// 7 where q is n or more, 9 where k is not 1 to K - 1.
     pub fn query(&mut self, q: u32, k: u32) -> Result<&[u32], Refusal> {
-        let (scratch, answers) = self.buffers.both(&self.network, k);
+        let (scratch, answers) = self.buffers.both(&self.network, Words::S(k));
         let (network, marks) = (self.network.lend(), self.points.marks());
         let table = calls::Table {
             places: self.places,
@@ -404,7 +404,7 @@ impl Table {
 
     /// All that a call which writes the table is lent.
     fn lend_mut(&mut self) -> (calls::Network<'_>, &mut [u8], &mut [u32], TableMut<'_>) {
-        let scratch = self.buffers.scratch(&self.network, self.places);
+        let scratch = self.buffers.scratch(&self.network, Words::S(self.places));
         let table = TableMut {
             places: self.places,
             ids: &mut self.ids,

@@ -188,16 +188,17 @@ const CUT: &str = "a row cut in the midst of a node's lockers";
 fn assert_searches(state: &State, pairs: &AllPairs, random: &mut Random) {
     for k in 1..state.table.places {
         for q in 0..state.points.len() as u32 {
-            let site = Site::exact(&state.network, &state.points, (q, k), random);
+            let mut site = Site::exact(&state.network, &state.points, (q, k), random);
             let list = site.list(pairs);
-            for search in [EAGER, lazy, lazy_ep] {
+            let mut by_eager = site.for_eager(random);
+            let listing = by_eager.run(EAGER);
+            assert_listing(listing, &by_eager, &list);
+            assert_eq!(listing.count, site.expanded(pairs));
+            for search in [lazy, lazy_ep] {
                 let mut site = site.clone();
                 let listing = site.run(search);
                 assert_listing(listing, &site, &list);
             }
-            let count = site.clone().run(EAGER).count;
-            assert_eq!(count, site.expanded(pairs));
-            let mut site = site;
             let (scratch, answers) = (site.scratch.part_mut(), site.answers.part_mut());
             let (network, table) = (state.network.lend(), state.table.lend());
             let listing = table_query(network, &state.points, q, k, table, scratch, answers);

@@ -4,9 +4,8 @@ mod common;
 
 use common::all_pairs::AllPairs;
 use common::call::{assert_lower_numbers_first, assert_outcome, assert_random_calls};
-use common::call::{assert_refused, compare, Answer, Call, Outcome, LEAST_OF_EACH};
-use common::faults::Fault;
-use common::inputs::{no_k, no_node, some_node, some_points, spoil_points};
+use common::call::{assert_refused, assert_scratch_lengths, Call, LEAST_OF_EACH};
+use common::eager::{Asked, Eager, Short};
 use common::largest::{each, largest_grid, largest_star, longest_chain, several_on_each};
 use common::largest::{LAST, MOST_NODES};
 use common::lent::Lent;
@@ -16,204 +15,6 @@ use common::random::Random;
 use common::rows::relaxed_row;
 use common::shapes::{try_all_small_points, weight_by_product};
 use common::site::Site;
-use common::tally::Tally;
-use overlap::calls::{eager, short_query, Listing};
-
-/// "The short query: no k and no limit; eager with k = 1 and limit 65,535."
-const SHORT_K: u32 = 1;
-const SHORT_LIMIT: u32 = 65_535;
-
-/// Everything that a call is lent.
-#[derive(Clone)]
-struct Eager {
-    site: Site,
-    limit: u32,
-}
-
-/// The numbers that a call asks for: its q, k and limit.
-type Asked = (u32, u32, u32);
-
-impl Eager {
-    /// A call with arrays that are just long enough and full of junk. The network is an accepted
-    /// one and k at most 16.
-    fn exact(network: &OwnedNetwork, points: &[u8], asked: Asked, random: &mut Random) -> Self {
-        let (q, k, limit) = asked;
-        let site = Site::exact(network, points, (q, k), random);
-        Self { site, limit }
-    }
-
-    /// "It [...] returns the list and the count of nodes expanded."
-    fn accepted(&self, list: &[u32], count: u32) -> Outcome<Self> {
-        let (listing, site) = self.site.accepted(list, count);
-        let limit = self.limit;
-        (listing, Self { site, limit })
-    }
-}
-
-impl Call for Eager {
-    type Answer = Listing;
-
-    const OWN_FAULTS: &'static [(u32, Fault<Self>)] = &[
-        (6, |c, r| spoil_points(&mut c.site.points, r)),
-        (7, |c, r| c.site.q = no_node(&c.site.network, r)),
-        (9, |c, r| c.site.k = no_k(r)),
-        (10, |c, r| c.site.shorten_answers(r)),
-        (12, lower_limit),
-    ];
-
-    fn random(network: &OwnedNetwork, pairs: &AllPairs, random: &mut Random) -> Self {
-        let site = Site::random(network, random);
-        let expanded = site.expanded(pairs);
-        let limit = random.pick(&[expanded, expanded, expanded + 1, 65_535, u32::MAX]);
-        Self { site, limit }
-    }
-
-    fn run(&mut self) -> Listing {
-        let site = &mut self.site;
-        eager(
-            site.network.lend(),
-            &site.points,
-            site.q,
-            site.k,
-            self.limit,
-            site.scratch.part_mut(),
-            site.answers.part_mut(),
-        )
-    }
-
-    fn number(&self) -> u32 {
-        let expanded = || self.site.expanded(&AllPairs::of(self.site.network.lend()));
-        match self.site.number() {
-            0 if expanded() > self.limit => 12,
-            number => number,
-        }
-    }
-
-    fn accepted_by(&self, pairs: &AllPairs) -> Outcome<Self> {
-        self.accepted(&self.site.list(pairs), self.site.expanded(pairs))
-    }
-
-    fn network(&self) -> &OwnedNetwork {
-        &self.site.network
-    }
-
-    fn network_mut(&mut self) -> &mut OwnedNetwork {
-        &mut self.site.network
-    }
-
-    fn points(&self) -> &[u8] {
-        &self.site.points
-    }
-
-    fn m(&self) -> u32 {
-        self.site.k
-    }
-
-    fn scratch_mut(&mut self) -> &mut Lent {
-        &mut self.site.scratch
-    }
-
-    fn arrays(&self) -> Vec<(&'static str, &Lent)> {
-        self.site.arrays()
-    }
-
-    fn asked(&self) -> String {
-        let (q, k, limit) = (self.site.q, self.site.k, self.limit);
-        format!("q {q}, k {k}, limit {limit}")
-    }
-
-    fn tally(&self, tally: &mut Tally, pairs: &AllPairs) {
-        self.site.tally(tally, pairs);
-        let just = self.limit == self.site.expanded(pairs);
-        tally.add_if(just, "a limit of just the count");
-    }
-
-    /// "A refusal [...] changes no buffer; 12 alone leaves the scratch all zero."
-    fn refused(&self, number: u32) -> Outcome<Self> {
-        let mut left = self.clone();
-        if number == 12 {
-            left.site.scratch = left.site.scratch.cleared();
-        }
-        (Listing::refusal(number), left)
-    }
-}
-
-/// Lowers the limit below the count, often just below. A call with another fault gets limit 0.
-fn lower_limit(call: &mut Eager, random: &mut Random) {
-    let expanded = match call.site.number() {
-        0 => call.site.expanded(&AllPairs::of(call.site.network.lend())),
-        _ => 1,
-    };
-    call.limit = random.pick(&[expanded - 1, expanded - 1, expanded / 2, 0]);
-}
-
-/// A call of the short query: that of eager with its k and limit.
-#[derive(Clone)]
-struct Short(Eager);
-
-impl Call for Short {
-    type Answer = Listing;
-
-    const OWN_FAULTS: &'static [(u32, Fault<Self>)] = &[
-        (6, |c, r| spoil_points(&mut c.0.site.points, r)),
-        (7, |c, r| c.0.site.q = no_node(&c.0.site.network, r)),
-        (10, |c, r| c.0.site.shorten_answers(r)),
-    ];
-
-    fn random(network: &OwnedNetwork, _: &AllPairs, random: &mut Random) -> Self {
-        let (points, q) = (some_points(network, random), some_node(network, random));
-        let site = Site::exact(network, &points, (q, SHORT_K), random).lengthen(random);
-        let limit = SHORT_LIMIT;
-        Self(Eager { site, limit })
-    }
-
-    fn run(&mut self) -> Listing {
-        let site = &mut self.0.site;
-        let (scratch, answers) = (site.scratch.part_mut(), site.answers.part_mut());
-        short_query(site.network.lend(), &site.points, site.q, scratch, answers)
-    }
-
-    fn number(&self) -> u32 {
-        self.0.number()
-    }
-
-    fn accepted_by(&self, pairs: &AllPairs) -> Outcome<Self> {
-        let (listing, left) = self.0.accepted_by(pairs);
-        (listing, Self(left))
-    }
-
-    fn network(&self) -> &OwnedNetwork {
-        &self.0.site.network
-    }
-
-    fn network_mut(&mut self) -> &mut OwnedNetwork {
-        &mut self.0.site.network
-    }
-
-    fn points(&self) -> &[u8] {
-        &self.0.site.points
-    }
-
-    fn m(&self) -> u32 {
-        SHORT_K
-    }
-
-    fn scratch_mut(&mut self) -> &mut Lent {
-        &mut self.0.site.scratch
-    }
-
-    fn arrays(&self) -> Vec<(&'static str, &Lent)> {
-        self.0.arrays()
-    }
-
-    fn asked(&self) -> String {
-        format!("q {}", self.0.site.q)
-    }
-
-    fn tally(&self, tally: &mut Tally, pairs: &AllPairs) {
-        self.0.tally(tally, pairs);
-    }
-}
 
 /// Network N of document 01, by hand.
 mod network_n {
@@ -290,29 +91,30 @@ mod network_n {
         assert_number(12, |c| c.limit = 3);
     }
 
-    /// S is 16 × 6 + 8 × (10 + 6) × k.
+    /// "Eager, verify and the short query shall work with 12 × n entries for every k."
     #[test]
-    fn scratch_grows_with_k() {
-        for (k, length) in [(1, 224), (2, 352), (16, 2_144)] {
-            for (length, number) in [(length - 1, 10), (length, 0), (length + 1, 0)] {
-                let mut call = call(0, k, 65_535);
-                call.site.scratch = Lent::junk(length, &mut Random::new(0));
-                assert_eq!(compare(call), number);
+    fn scratch_is_the_same_for_every_k() {
+        let (mut random, pairs) = (Random::new(0), AllPairs::of(network_n().lend()));
+        for k in 1..=16 {
+            for _ in 0..20 {
+                let accepted = call(0, k, 65_535);
+                assert_scratch_lengths(&accepted, &mut random, |c| c.accepted_by(&pairs));
+                assert_scratch_lengths(&call(0, k, 0), &mut random, |c| c.refused(12));
             }
         }
     }
 
     #[test]
     fn the_short_query_is_eager_with_k_1() {
+        let (mut random, points) = (Random::new(0), marks(N_NODES, &N_POINTS));
         for (q, list, count) in [
             (0, &[2][..], 1),
             (1, &[2], 2),
             (2, &[2, 4], 3),
             (5, &[5], 1),
         ] {
-            let short = call(q, SHORT_K, SHORT_LIMIT);
-            let (listing, left) = short.accepted(list, count);
-            assert_outcome(Short(short), &(listing, Short(left)));
+            let short = Short::exact(&network_n(), &points, q, &mut random);
+            assert_scratch_lengths(&short, &mut random, |c| c.accepted(list, count));
         }
     }
 }

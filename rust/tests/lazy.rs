@@ -104,8 +104,8 @@ impl<S: Search> Call for By<S> {
         &self.site.points
     }
 
-    fn m(&self) -> u32 {
-        self.site.k
+    fn least_scratch(&self) -> usize {
+        self.site.least_scratch()
     }
 
     fn scratch_mut(&mut self) -> &mut Lent {

@@ -14,7 +14,7 @@ use common::random::Random;
 use common::shapes::{belt, grid, random_network, weight_by_product, weighted};
 use common::table::PlainTable;
 use common::table_damage;
-use overlap::calls::{self, scratch_len};
+use overlap::calls::{self, eager_scratch_len, scratch_len};
 use overlap::{Engine, Network, Points, Refusal, Table, NONE};
 
 /// The network of these arrays.
@@ -202,6 +202,15 @@ mod networks {
             assert_eq!(network.scratch_len(m), by_call);
         }
     }
+
+    #[test]
+    fn scratch_of_eager_is_that_of_the_thin_calls() {
+        for seed in 0..200 {
+            let arrays = random_network(&mut Random::new(seed));
+            let length = accepted(&arrays).unwrap().eager_scratch_len();
+            assert_eq!(length, eager_scratch_len(arrays.lend()));
+        }
+    }
 }
 
 /// Points: the lockers on each node.
@@ -308,13 +317,13 @@ mod engine {
     /// The answer of a thin call that lists points.
     type Thin = (Result<(), u32>, Vec<u32>, u32);
 
-    /// The list of a thin search with arrays that are long enough.
+    /// The list of a thin search with scratch of this length and enough places for answers.
     fn thin(
         network: &Network,
-        k: u32,
+        scratch: usize,
         call: impl FnOnce(&mut [u32], &mut [u32]) -> calls::Listing,
     ) -> Thin {
-        let mut scratch = vec![7; network.scratch_len(k.min(16))];
+        let mut scratch = vec![7; scratch];
         let mut answers = vec![7; network.nodes() as usize];
         let listing = call(&mut scratch, &mut answers);
         answers.truncate(listing.length);
@@ -331,7 +340,8 @@ mod engine {
 
         let listed = engine.eager(points, q, k, expanded).unwrap();
         assert_eq!((listed.points, listed.expanded), (&list[..], expanded));
-        let by_call = thin(&network, k, |s, a| {
+        let (small, by_s) = (network.eager_scratch_len(), network.scratch_len(k));
+        let by_call = thin(&network, small, |s, a| {
             calls::eager(lent, marks, q, k, expanded, s, a)
         });
         assert_eq!(by_call, (Ok(()), list.clone(), expanded));
@@ -341,16 +351,23 @@ mod engine {
         }
 
         assert_eq!(engine.lazy(points, q, k), Ok(&list[..]));
-        let by_call = thin(&network, k, |s, a| calls::lazy(lent, marks, q, k, s, a));
+        let by_call = thin(&network, by_s, |s, a| calls::lazy(lent, marks, q, k, s, a));
         assert_eq!(by_call, (Ok(()), list.clone(), 0));
 
         assert_eq!(engine.lazy_ep(points, q, k), Ok(&list[..]));
-        let by_call = thin(&network, k, |s, a| calls::lazy_ep(lent, marks, q, k, s, a));
+        let by_call = thin(&network, by_s, |s, a| {
+            calls::lazy_ep(lent, marks, q, k, s, a)
+        });
         assert_eq!(by_call, (Ok(()), list, 0));
 
         let short = engine.short_query(points, q).unwrap();
-        assert_eq!(short.points, pairs.plain_listed(marks, q, 1));
-        assert_eq!(short.expanded, pairs.plain_expanded(marks, q, 1));
+        let list = pairs.plain_listed(marks, q, 1);
+        let expanded = pairs.plain_expanded(marks, q, 1);
+        assert_eq!((short.points, short.expanded), (&list[..], expanded));
+        let by_call = thin(&network, small, |s, a| {
+            calls::short_query(lent, marks, q, s, a)
+        });
+        assert_eq!(by_call, (Ok(()), list, expanded));
     }
 
     #[test]
@@ -437,15 +454,47 @@ mod engine {
         });
     }
 
+    /// Sees that the engine has allocated so many words of scratch, which is all that it shows of
+    /// them.
+    fn assert_scratch(engine: &Engine, words: usize) {
+        let shown = format!("{engine:?}");
+        let lengths = format!("Buffers {{ scratch_len: {words}, answers_len: 6 }}");
+        assert!(shown.contains(&lengths), "{shown}");
+    }
+
     /// Scratch can be millions of words.
     #[test]
     fn is_shown_without_the_words_of_scratch() {
         let (network, points) = n_and_points();
         let mut engine = Engine::new(&network);
         engine.lazy(&points, 0, 16).unwrap();
-        let shown = format!("{engine:?}");
-        let lengths = "Buffers { scratch_len: 2144, answers_len: 6 }";
-        assert!(shown.contains(lengths), "{shown}");
+        assert_scratch(&engine, 2_144);
+    }
+
+    /// "Eager, verify and the short query shall work with 12 × n entries for every k."
+    #[test]
+    fn has_scratch_of_12_n_for_eager_verify_and_the_short_query() {
+        let (network, points) = n_and_points();
+        let (small, by_s) = (network.eager_scratch_len(), network.scratch_len(16));
+        let mut engine = Engine::new(&network);
+        for k in 1..=16 {
+            engine.eager(&points, 0, k, 6).unwrap();
+            engine.verify(&points, 2, 0, k).unwrap();
+            engine.short_query(&points, 0).unwrap();
+            assert_scratch(&engine, small);
+        }
+        for call in [
+            |e: &mut Engine, p: &Points| e.lazy(p, 0, 16).map(|_| ()),
+            |e: &mut Engine, p: &Points| e.lazy_ep(p, 0, 16).map(|_| ()),
+            |e: &mut Engine, p: &Points| e.nearest(p, 0, NONE, 16).map(|_| ()),
+        ] {
+            let mut engine = engine.clone();
+            assert_eq!(call(&mut engine, &points), Ok(()));
+            assert_scratch(&engine, by_s);
+            // What is there already serves them too.
+            assert_eq!(engine.eager(&points, 0, 2, 6).unwrap().points, [2, 4]);
+            assert_scratch(&engine, by_s);
+        }
     }
 
     #[test]
@@ -654,7 +703,8 @@ mod refusals {
         }
     }
 
-    /// The column "Condition" of document 01's table of refusals, 6 and 11 with the bounds of Ask 8.
+    /// The column "Condition" of document 01's table of refusals, 10 with the length of Ask 5, 6 and
+    /// 11 with the bounds of Ask 8.
     #[test]
     fn have_the_wording_of_document_01() {
         let conditions = [
@@ -667,7 +717,7 @@ mod refusals {
             "a node given is n or more",
             "K not 2 to 17, or a table array not n × K long",
             "k is 0 or above 16; by table, above K - 1",
-            "scratch shorter than S, or an array for answers shorter than n (nearest: than k)",
+            "scratch shorter than S (eager, verify and the short query: than 12 × n), or an array for answers shorter than n (nearest: than k)",
             "insert at 15 lockers; remove or verify at none",
             "eager: the expanded count would exceed the limit",
         ];

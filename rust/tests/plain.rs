@@ -12,7 +12,8 @@ use common::random::Random;
 use common::rows::{relaxed_row, row_of};
 use common::shapes::random_network;
 use common::table::PlainTable;
-use overlap::calls::{accepted, meaning, scratch_len, Listing, Network, Update, Verdict, NONE};
+use overlap::calls::{accepted, eager_scratch_len, meaning, scratch_len};
+use overlap::calls::{Listing, Network, Update, Verdict, NONE};
 
 /// The cases of document 01.
 mod cases {
@@ -227,7 +228,7 @@ mod tables {
     }
 }
 
-/// The length of scratch.
+/// The lengths of scratch.
 mod scratch {
     use super::*;
 
@@ -264,6 +265,23 @@ mod scratch {
         }
         let alone = OwnedNetwork::from_roads(6, &[]);
         assert_eq!(scratch_len(alone.lend(), usize::MAX / 48), usize::MAX);
+    }
+
+    /// Ask 5: "Eager, verify and the short query shall work with 12 × n entries for every k." All
+    /// other tests take the length from this one definition.
+    #[test]
+    fn of_eager_is_12_n_of_document_02() {
+        for (n, length) in [(0, 0), (1, 12), (6, 72), (725, 8_700), (65_535, 786_420)] {
+            let network = OwnedNetwork::from_roads(n, &[]);
+            assert_eq!(network.starts.len(), n as usize + 1);
+            assert_eq!(eager_scratch_len(network.lend()), length);
+        }
+        let empty = OwnedNetwork::default();
+        assert_eq!(eager_scratch_len(empty.lend()), 0);
+        // Arcs don't count, and any arrays have an answer.
+        assert_eq!(eager_scratch_len(network_n().lend()), 72);
+        let arcs_alone = OwnedNetwork::from_arrays(&[], &[1, 0], &[4, 4]);
+        assert_eq!(eager_scratch_len(arcs_alone.lend()), 0);
     }
 }
 

@@ -15,20 +15,21 @@ use overlap::calls::{lazy, lazy_ep, Listing};
 /// A twin that also says how many nodes it settled.
 type CountingCall = SearchCall<(Listing, usize)>;
 
-/// Each search of the engine and its twin.
-const PAIRS: [(SearchCall, SearchCall); 3] = [
-    (EAGER, |n, points, q, k, s, a| {
-        plain::eager(n, points, q, k, 65_535, s, a)
-    }),
-    (lazy, plain::lazy),
-    (lazy_ep, plain::lazy_ep),
-];
+/// The twin of eager, with a limit that is never met.
+const PLAIN_EAGER: SearchCall = |n, points, q, k, s, a| plain::eager(n, points, q, k, 65_535, s, a);
 
-/// Sees that engine and twin return the same and leave the same.
+/// Sees that engine and twin return the same and leave the same, eager in scratch of its own length.
 fn assert_same(site: &Site) {
-    for (engine, twin) in PAIRS {
+    let for_eager = site.for_eager(&mut Random::new(4));
+    let pairs: [(&Site, SearchCall, SearchCall); 3] = [
+        (&for_eager, EAGER, PLAIN_EAGER),
+        (site, lazy, plain::lazy),
+        (site, lazy_ep, plain::lazy_ep),
+    ];
+    for (site, engine, twin) in pairs {
         let [mut is, mut wanted] = [site.clone(), site.clone()];
-        assert_eq!(is.run(engine), wanted.run(twin));
+        let listing = is.run(engine);
+        assert_eq!((listing.number, listing), (0, wanted.run(twin)));
         for ((name, is), (_, wanted)) in is.arrays().into_iter().zip(wanted.arrays()) {
             assert_eq!(is.difference(wanted), None, "{name}");
         }

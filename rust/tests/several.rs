@@ -56,6 +56,7 @@ mod numbers {
     fn of_others(points: &[u8]) -> [u32; 8] {
         let network = network_n();
         let (lent, mut s, mut a) = (network.lend(), vec![0; network.scratch_len(2)], [0; 6]);
+        let small = network.eager_scratch_len();
         let (mut ids, mut distances) = ([NONE; 12], [NONE; 12]);
         let (s, a) = (&mut s[..], &mut a[..]);
         let found = Found {
@@ -63,8 +64,8 @@ mod numbers {
             distances: &mut distances,
         };
         let nearest = calls::nearest(lent, points, 0, NONE, 2, s, found).number;
-        let eager = calls::eager(lent, points, 0, 2, 6, s, a).number;
-        let short_query = calls::short_query(lent, points, 0, s, a).number;
+        let eager = calls::eager(lent, points, 0, 2, 6, &mut s[..small], a).number;
+        let short_query = calls::short_query(lent, points, 0, &mut s[..small], a).number;
         let lazy = calls::lazy(lent, points, 0, 2, s, a).number;
         let lazy_ep = calls::lazy_ep(lent, points, 0, 2, s, a).number;
         let build = calls::build(lent, points, s, table_mut(&mut ids, &mut distances));
@@ -99,7 +100,8 @@ mod numbers {
     fn on_node_3(points: &[u8]) -> [u32; 3] {
         let network = network_n();
         let (lent, mut scratch) = (network.lend(), vec![0; network.scratch_len(2)]);
-        let verify = calls::verify(lent, points, 3, 0, 2, &mut scratch).number;
+        let small = &mut scratch[..network.eager_scratch_len()];
+        let verify = calls::verify(lent, points, 3, 0, 2, small).number;
         let change = |call: common::change::ChangeCall| {
             let (mut ids, mut distances) = ([NONE; 12], [NONE; 12]);
             let (table, mut points) = (table_mut(&mut ids, &mut distances), points.to_vec());

@@ -103,10 +103,6 @@ impl Call for TableCheck {
         &self.points
     }
 
-    fn m(&self) -> u32 {
-        unreachable!("both checks have no scratch")
-    }
-
     fn scratch_mut(&mut self) -> &mut Lent {
         unreachable!("both checks have no scratch")
     }

@@ -101,8 +101,8 @@ impl Call for Query {
         &self.site.points
     }
 
-    fn m(&self) -> u32 {
-        self.site.k
+    fn least_scratch(&self) -> usize {
+        self.site.least_scratch()
     }
 
     fn scratch_mut(&mut self) -> &mut Lent {

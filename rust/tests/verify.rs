@@ -3,173 +3,16 @@
 mod common;
 
 use common::all_pairs::AllPairs;
-use common::call::{
-    assert_lower_numbers_first, assert_outcome, assert_random_calls, assert_refused,
-};
-use common::call::{compare, Call, Outcome, LEAST_OF_EACH};
-use common::faults::Fault;
-use common::inputs::{enough, no_k, no_node, some_k, some_node};
-use common::inputs::{some_points, spoil_points};
+use common::call::{assert_lower_numbers_first, assert_outcome, assert_random_calls};
+use common::call::{assert_refused, assert_scratch_lengths, Call, LEAST_OF_EACH};
 use common::largest::{each, largest_grid, largest_star, longest_chain, several_on_each};
 use common::largest::{LAST, MOST_NODES};
 use common::lent::Lent;
 use common::network::{marks, network_n, OwnedNetwork, N_NODES, N_POINTS};
-use common::numbers::{plain_scratch_len, verify_number};
 use common::random::Random;
 use common::rows::{relaxed_row, verify_in};
 use common::shapes::{far_grid, try_all_small_points, weight_by_product};
-use common::tally::Tally;
-use overlap::calls::{verify, Verdict};
-
-/// Everything that a call is lent.
-#[derive(Clone)]
-struct Verify {
-    network: OwnedNetwork,
-    points: Vec<u8>,
-    p: u32,
-    q: u32,
-    k: u32,
-    scratch: Lent,
-}
-
-/// The numbers that a call asks for: its p, q and k.
-type Asked = (u32, u32, u32);
-
-impl Verify {
-    /// A call with scratch that is just long enough and full of junk. The network is an accepted
-    /// one and k at most 16.
-    fn exact(network: &OwnedNetwork, points: &[u8], asked: Asked, random: &mut Random) -> Self {
-        let (p, q, k) = asked;
-        Self {
-            network: network.clone(),
-            points: points.to_vec(),
-            p,
-            q,
-            k,
-            scratch: Lent::junk(plain_scratch_len(network.lend(), k), random),
-        }
-    }
-
-    /// "An accepted call returns number 0". "An accepted call with scratch leaves it all zero."
-    fn accepted(&self, yes: bool) -> Outcome<Self> {
-        let mut left = self.clone();
-        left.scratch = left.scratch.cleared();
-        let verdict = Verdict {
-            number: 0,
-            yes: u32::from(yes),
-        };
-        (verdict, left)
-    }
-
-    /// How many other lockers are at most as far from p as q is, equal distances counted.
-    fn others_not_farther(&self, pairs: &AllPairs) -> usize {
-        let to_q = pairs.plain_distances(self.p)[self.q as usize];
-        let e = to_q.saturating_add(1);
-        let near = pairs.plain_nearest(&self.points, self.p, e, u32::MAX);
-        near.len() - 1
-    }
-}
-
-impl Call for Verify {
-    type Answer = Verdict;
-
-    const OWN_FAULTS: &'static [(u32, Fault<Self>)] = &[
-        (6, |c, r| spoil_points(&mut c.points, r)),
-        (7, |c, r| c.p = no_node(&c.network, r)),
-        (7, |c, r| c.q = no_node(&c.network, r)),
-        (9, |c, r| c.k = no_k(r)),
-        (11, unmark),
-    ];
-
-    fn random(network: &OwnedNetwork, _: &AllPairs, random: &mut Random) -> Self {
-        let mut points = some_points(network, random);
-        let (p, q) = (some_node(network, random), some_node(network, random));
-        if points[p as usize] == 0 {
-            points[p as usize] = random.pick(&[1, 1, 2, 3, 15]);
-        }
-        let mut call = Self::exact(network, &points, (p, q, some_k(random)), random);
-        call.scratch = Lent::junk(enough(call.scratch.len(), random), random);
-        call
-    }
-
-    fn run(&mut self) -> Verdict {
-        let (p, q, k) = (self.p, self.q, self.k);
-        let (network, scratch) = (self.network.lend(), self.scratch.part_mut());
-        verify(network, &self.points, p, q, k, scratch)
-    }
-
-    fn number(&self) -> u32 {
-        let (network, scratch) = (self.network.lend(), self.scratch.len());
-        verify_number(network, &self.points, self.p, self.q, self.k, scratch)
-    }
-
-    fn accepted_by(&self, pairs: &AllPairs) -> Outcome<Self> {
-        self.accepted(pairs.plain_verify(&self.points, self.p, self.q, self.k))
-    }
-
-    fn network(&self) -> &OwnedNetwork {
-        &self.network
-    }
-
-    fn network_mut(&mut self) -> &mut OwnedNetwork {
-        &mut self.network
-    }
-
-    fn points(&self) -> &[u8] {
-        &self.points
-    }
-
-    fn m(&self) -> u32 {
-        self.k
-    }
-
-    fn scratch_mut(&mut self) -> &mut Lent {
-        &mut self.scratch
-    }
-
-    fn arrays(&self) -> Vec<(&'static str, &Lent)> {
-        vec![("scratch", &self.scratch)]
-    }
-
-    fn asked(&self) -> String {
-        let (p, q, k) = (self.p, self.q, self.k);
-        format!("p {p}, q {q}, k {k}")
-    }
-
-    fn tally(&self, tally: &mut Tally, pairs: &AllPairs) {
-        let (p, q, k) = (self.p, self.q, self.k);
-        let verdict = |p, q, k| pairs.plain_verify(&self.points, p, q, k);
-        let yes = verdict(p, q, k);
-        let reached = pairs.row(p)[q as usize].is_some();
-        let equal = self.others_not_farther(pairs) >= k as usize;
-        tally.add_k(k);
-        tally.add_if(yes, "yes");
-        tally.add_if(!reached, "no, as q can't be reached");
-        tally.add_if(reached && !yes, "no, as k others are nearer");
-        tally.add_if(p == q, "p on q");
-        let companions = self.points[p as usize] > 1;
-        tally.add_if(p == q && companions, "p on q, with companions");
-        let mut alone = self.points.clone();
-        alone[p as usize] = 1;
-        let by_companions = reached && !yes && pairs.plain_verify(&alone, p, q, k);
-        tally.add_if(by_companions, "no, as companions are nearer");
-        tally.add_if(p != q && yes && companions, "yes, with companions");
-        tally.add_if(
-            p != q && yes && equal,
-            "yes, as equal distances don't count",
-        );
-        let without_place = p != q && yes && !verdict(p, q, k - 1);
-        tally.add_if(without_place, "yes, as p doesn't count");
-        tally.add_if(yes != verdict(q, p, k), "another answer from q");
-    }
-}
-
-/// Takes the lockers of p away, where p has any.
-fn unmark(call: &mut Verify, _: &mut Random) {
-    if let Some(lockers) = call.points.get_mut(call.p as usize) {
-        *lockers = 0;
-    }
-}
+use common::verify::{Asked, Verify};
 
 /// Network N of document 01, by hand.
 mod network_n {
@@ -262,14 +105,15 @@ mod network_n {
         assert_number(11, |c| c.points[2] = 0);
     }
 
-    /// S is 16 × 6 + 8 × (10 + 6) × k.
+    /// "Eager, verify and the short query shall work with 12 × n entries for every k."
     #[test]
-    fn scratch_grows_with_k() {
-        for (k, length) in [(1, 224), (2, 352), (16, 2_144)] {
-            for (length, number) in [(length - 1, 10), (length, 0), (length + 1, 0)] {
-                let mut call = call(2, 0, k);
-                call.scratch = Lent::junk(length, &mut Random::new(0));
-                assert_eq!(compare(call), number);
+    fn scratch_is_the_same_for_every_k() {
+        let mut random = Random::new(0);
+        for k in 1..=16 {
+            for _ in 0..20 {
+                assert_scratch_lengths(&call(2, 0, k), &mut random, |c| c.accepted(true));
+                // Node 3 has no locker.
+                assert_scratch_lengths(&call(3, 0, k), &mut random, |c| c.refused(11));
             }
         }
     }
@@ -284,14 +128,17 @@ mod order {
         assert_lower_numbers_first::<Verify>();
     }
 
-    /// With k = 17 scratch would be too short as well, and 9 comes before 10.
+    /// 9 comes before 10, and scratch is not looked at.
     #[test]
     fn a_wrong_k_comes_before_short_scratch() {
-        let points = marks(N_NODES, &N_POINTS);
-        for k in [17, 18, 1 << 29, u32::MAX] {
-            let mut call = Verify::exact(&network_n(), &points, (2, 0, 16), &mut Random::new(4));
-            call.k = k;
-            assert_refused(call, 9);
+        let (mut random, points) = (Random::new(4), marks(N_NODES, &N_POINTS));
+        for k in [0, 17, 18, 1 << 29, u32::MAX] {
+            let call = Verify::exact(&network_n(), &points, (2, 0, k), &mut random);
+            for length in [0, call.scratch.len() - 1, call.scratch.len()] {
+                let mut call = call.clone();
+                call.scratch = Lent::junk(length, &mut random);
+                assert_refused(call, 9);
+            }
         }
     }
 }

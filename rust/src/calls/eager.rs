@@ -10,15 +10,17 @@ use super::{ffi, Listing, Network};
 /// is a point that counts.
 ///
 /// The answer is number 0, the length of the list and the count, or the first condition met of 1 to
-/// 7, 9, 10 and 12. Scratch has at least [`scratch_len`](super::scratch_len)`(network, k)` entries
-/// of any contents, and `answers` at least n.
+/// 7, 9, 10 and 12. Document 02 (Ask 5): "Eager, verify and the short query shall work with 12 × n
+/// entries for every k." So scratch has at least
+/// [`eager_scratch_len`](super::eager_scratch_len)`(network)` entries of any contents, and `answers`
+/// at least n.
 ///
 /// "Lists are ascending by node." "An accepted call with scratch leaves it all zero. Answer arrays
 /// hold the answer, then their old entries." "A refusal returns its number, count 0 and no, and
 /// changes no buffer; 12 alone leaves the scratch all zero."
 ///
 /// ```
-/// use overlap::calls::{eager, scratch_len, Network};
+/// use overlap::calls::{eager, eager_scratch_len, Network};
 ///
 /// # fn main() -> Result<(), overlap::Refusal> {
 /// // Network N of document 01.
@@ -28,7 +30,7 @@ use super::{ffi, Listing, Network};
 ///     weights: &[4, 5, 4, 3, 3, 7, 5, 3, 7, 3],
 /// };
 /// let points = [0, 0, 1, 0, 1, 1];
-/// let mut scratch = vec![0; scratch_len(network, 2)];
+/// let mut scratch = vec![0; eager_scratch_len(network)];
 /// let mut answers = [0; 6];
 ///
 /// let listing = eager(network, &points, 0, 2, 4, &mut scratch, &mut answers).accepted()?;
@@ -76,10 +78,11 @@ pub fn eager(
 
 /// Document 01: "The short query: no k and no limit; eager with k = 1 and limit 65,535."
 ///
-/// The answer and all that the call leaves are those of [`eager`]; no condition 9 or 12 can be met.
+/// The answer and all that the call leaves are those of [`eager`], in as much scratch; no condition 9
+/// or 12 can be met.
 ///
 /// ```
-/// use overlap::calls::{scratch_len, short_query, Network};
+/// use overlap::calls::{eager_scratch_len, short_query, Network};
 ///
 /// # fn main() -> Result<(), overlap::Refusal> {
 /// // Network N of document 01.
@@ -88,7 +91,7 @@ pub fn eager(
 ///     neighbours: &[1, 3, 0, 2, 1, 4, 0, 4, 2, 3],
 ///     weights: &[4, 5, 4, 3, 3, 7, 5, 3, 7, 3],
 /// };
-/// let mut scratch = vec![0; scratch_len(network, 1)];
+/// let mut scratch = vec![0; eager_scratch_len(network)];
 /// let mut answers = [0; 6];
 /// let points = [0, 0, 1, 0, 1, 1];
 /// let listing = short_query(network, &points, 2, &mut scratch, &mut answers).accepted()?;

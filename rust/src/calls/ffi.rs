@@ -34,11 +34,11 @@ pub struct Listing {
 /// Document 01: "A refusal returns its number, count 0 and no".
 ///
 /// ```
-/// use overlap::calls::{scratch_len, verify, Network, Verdict};
+/// use overlap::calls::{eager_scratch_len, verify, Network, Verdict};
 ///
 /// // One node with a point and a site on it: "A point on q is listed."
 /// let one_node = Network { starts: &[0, 0], neighbours: &[], weights: &[] };
-/// let mut scratch = vec![0; scratch_len(one_node, 1)];
+/// let mut scratch = vec![0; eager_scratch_len(one_node)];
 /// let verdict = verify(one_node, &[1], 0, 0, 1, &mut scratch);
 /// assert_eq!(verdict, Verdict { number: 0, yes: 1 });
 /// ```

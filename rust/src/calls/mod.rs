@@ -10,7 +10,8 @@
 //! name make a `Result` of it.
 //!
 //! The engine allocates nothing. A call that needs working space is lent it as scratch, whose
-//! length [`scratch_len`] gives; the arrays for its answers are lent as well.
+//! length [`scratch_len`] gives, or [`eager_scratch_len`] for eager, verify and the short query; the
+//! arrays for its answers are lent as well.
 //!
 //! ```
 //! use overlap::calls::{meaning, network_check, Network};
@@ -50,7 +51,7 @@ pub use lazy::{lazy, lazy_ep};
 pub use nearest::{nearest, Found};
 pub use network::{network_check, Network};
 pub use numbers::{accepted, meaning};
-pub use scratch::scratch_len;
+pub use scratch::{eager_scratch_len, scratch_len};
 pub use table::{build, insert, table_check, Table, TableMut};
 pub use table_query::table_query;
 pub use table_remove::remove;

@@ -9,14 +9,16 @@ use super::{ffi, Network, Verdict};
 /// listed." Document 02 (Ask 8): "Each counts, so a locker has its companions on the node as others
 /// at distance 0." p is marked where it has a locker.
 ///
-/// The answer is number 0 with yes or no, or the first condition met of 1 to 7 and 9 to 11. Scratch
-/// has at least [`scratch_len`](super::scratch_len)`(network, k)` entries of any contents.
+/// The answer is number 0 with yes or no, or the first condition met of 1 to 7 and 9 to 11. Document
+/// 02 (Ask 5): "Eager, verify and the short query shall work with 12 × n entries for every k." So
+/// scratch has at least [`eager_scratch_len`](super::eager_scratch_len)`(network)` entries of any
+/// contents.
 ///
 /// "An accepted call with scratch leaves it all zero." "A refusal returns its number, count 0 and
 /// no, and changes no buffer".
 ///
 /// ```
-/// use overlap::calls::{scratch_len, verify, Network};
+/// use overlap::calls::{eager_scratch_len, verify, Network};
 ///
 /// # fn main() -> Result<(), overlap::Refusal> {
 /// // Network N of document 01.
@@ -26,7 +28,7 @@ use super::{ffi, Network, Verdict};
 ///     weights: &[4, 5, 4, 3, 3, 7, 5, 3, 7, 3],
 /// };
 /// let points = [0, 0, 1, 0, 1, 1];
-/// let mut scratch = vec![0; scratch_len(network, 2)];
+/// let mut scratch = vec![0; eager_scratch_len(network)];
 ///
 /// // "Equal distances: 4 is no nearer to 2 than site 0 is in P1."
 /// assert!(verify(network, &points, 2, 0, 1, &mut scratch).accepted()?);

@@ -84,8 +84,15 @@ pub trait Call: Clone + 'static {
         &[]
     }
 
-    /// The m of document 01's length S of scratch.
-    fn m(&self) -> u32;
+    /// The m of document 01's length S of scratch, for a call whose least length that is.
+    fn m(&self) -> u32 {
+        unreachable!("S is not the least length of this call's scratch")
+    }
+
+    /// The least length of scratch that 10 lets pass, also for a k or K that 9 or 8 refuses.
+    fn least_scratch(&self) -> usize {
+        plain_scratch_len(self.network().lend(), self.m().min(17))
+    }
 
     fn scratch_mut(&mut self) -> &mut Lent;
 
@@ -148,10 +155,45 @@ pub fn compare<C: Call>(call: C) -> u32 {
     number
 }
 
-/// 10: "scratch shorter than S".
+/// 10: "scratch shorter than S". Ask 5: "10 compares with 12 × n for these."
 fn shorten_scratch<C: Call>(call: &mut C, random: &mut Random) {
-    let least = plain_scratch_len(call.network().lend(), call.m().min(16));
-    *call.scratch_mut() = Lent::junk(too_short(least, random), random);
+    let length = too_short(call.least_scratch(), random);
+    *call = with_scratch(call, length, random);
+}
+
+/// Lends the call scratch of just the least length and of one word less, which 10 refuses, each full
+/// of junk. The function gives the outcome of the call where 10 lets it pass.
+pub fn assert_least_scratch<C: Call>(
+    call: &C,
+    random: &mut Random,
+    outcome_of: impl Fn(&C) -> Outcome<C>,
+) {
+    let least = call.least_scratch();
+    assert_refused(with_scratch(call, least - 1, random), 10);
+    let call = with_scratch(call, least, random);
+    let outcome = outcome_of(&call);
+    assert_outcome(call, &outcome);
+}
+
+/// The same, and longer scratch.
+pub fn assert_scratch_lengths<C: Call>(
+    call: &C,
+    random: &mut Random,
+    outcome_of: impl Fn(&C) -> Outcome<C>,
+) {
+    assert_least_scratch(call, random, &outcome_of);
+    for longer in [1, random.pick(&[2, 7, 60, 999])] {
+        let call = with_scratch(call, call.least_scratch() + longer, random);
+        let outcome = outcome_of(&call);
+        assert_outcome(call, &outcome);
+    }
+}
+
+/// This call with scratch of this length, full of junk.
+fn with_scratch<C: Call>(call: &C, length: usize, random: &mut Random) -> C {
+    let mut call = call.clone();
+    *call.scratch_mut() = Lent::junk(length, random);
+    call
 }
 
 /// Faults of each condition that the call tests, in the order of their numbers.
@@ -200,11 +242,10 @@ fn faulty<C: Call>(network: &OwnedNetwork, pairs: &AllPairs, random: &mut Random
     call
 }
 
-/// Counts scratch of just S words, and longer.
+/// Counts scratch of just the least length, and longer.
 fn tally_scratch<C: Call>(call: &C, tally: &mut Tally) {
-    let least = plain_scratch_len(call.network().lend(), call.m());
-    let (_, scratch) = call.arrays()[0];
-    tally.add_if(scratch.len() == least, "scratch of S words");
+    let (least, (_, scratch)) = (call.least_scratch(), call.arrays()[0]);
+    tally.add_if(scratch.len() == least, "scratch of the least length");
     tally.add_if(scratch.len() > least, "longer scratch");
 }
 
@@ -246,7 +287,7 @@ pub fn assert_random_calls<C: Call>(numbers: &[u32], names: &[&str]) -> Tally {
     tally.print();
     tally.assert_numbers(LEAST_OF_EACH, numbers);
     let of_scratch: &[&str] = match C::HAS_SCRATCH {
-        true => &["scratch of S words", "longer scratch"],
+        true => &["scratch of the least length", "longer scratch"],
         false => &[],
     };
     let of_lockers: &[&str] = match C::HAS_POINTS {

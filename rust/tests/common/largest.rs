@@ -1,7 +1,7 @@
 //! Networks at document 01's bounds, and points on them.
 
 use super::network::OwnedNetwork;
-use super::shapes::{belt, chain, grid, star, weighted};
+use super::shapes::{belt, chain, complete, grid, star, weighted};
 
 /// "n is 1 to 65,535".
 pub const MOST_NODES: u32 = 65_535;
@@ -28,6 +28,18 @@ pub fn largest_grid(weight: impl FnMut(u32, u32) -> u32) -> OwnedNetwork {
 /// The most nodes and the most roads.
 pub fn most_roads(weight: impl FnMut(u32, u32) -> u32) -> OwnedNetwork {
     weighted(MOST_NODES, &belt(MOST_NODES, MOST_ROADS), weight)
+}
+
+/// The fewest nodes that the most roads can join: 725 × 724 / 2 is 262,450.
+pub const DENSEST_NODES: u32 = 725;
+
+/// The most roads on the fewest nodes: all pairs have one but 0 and 1, 2 and 3, and so on, as many as
+/// there are too many.
+pub fn densest(weight: impl FnMut(u32, u32) -> u32) -> OwnedNetwork {
+    let mut pairs = complete(DENSEST_NODES);
+    let too_many = pairs.len() as u32 - MOST_ROADS;
+    pairs.retain(|&(a, b)| a % 2 == 1 || b != a + 1 || a / 2 >= too_many);
+    weighted(DENSEST_NODES, &pairs, weight)
 }
 
 /// One to 15 lockers on each multiple of the step, of the most nodes.

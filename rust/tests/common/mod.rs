@@ -1,5 +1,5 @@
 //! What the test programs and the benchmarks share. All of it is written from document 01, with what
-//! Ask 8 of document 02 changes, and knows nothing of how the engine works.
+//! Asks 5 and 8 of document 02 change, and knows nothing of how the engine works.
 
 // Each program uses a part of this.
 #![allow(dead_code)]
@@ -10,6 +10,7 @@ pub mod call;
 pub mod change;
 pub mod change_cases;
 pub mod damage;
+pub mod eager;
 pub mod faults;
 pub mod inputs;
 pub mod largest;
@@ -25,3 +26,4 @@ pub mod site;
 pub mod table;
 pub mod table_damage;
 pub mod tally;
+pub mod verify;

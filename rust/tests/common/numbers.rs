@@ -1,9 +1,12 @@
 //! The number of each call: the first condition met of document 01's table of refusals.
 
 use super::plain::plain_check;
-use overlap::calls::Network;
+use overlap::calls::{eager_scratch_len, Network};
 
 /// "Length S = 16 × n + 8 × (A + n) × m entries". The network is an accepted one and m at most 17.
+///
+/// Ask 5: "10 compares with 12 × n" for eager, verify and the short query. That length has one
+/// definition, `eager_scratch_len`, which `plain.rs` pins by its values.
 pub fn plain_scratch_len(network: Network<'_>, m: u32) -> usize {
     let (n, arcs) = (node_count(network), network.neighbours.len());
     16 * n + 8 * (arcs + n) * m as usize
@@ -47,7 +50,7 @@ pub fn nearest_number(
     }
 }
 
-/// Verify: the conditions 1 to 7 and 9 to 11. Scratch is given by its length.
+/// Verify: the conditions 1 to 7 and 9 to 11, 10 with 12 × n. Scratch is given by its length.
 pub fn verify_number(
     network: Network<'_>,
     points: &[u8],
@@ -63,7 +66,7 @@ pub fn verify_number(
         7
     } else if is_no_k(k) {
         9
-    } else if scratch < plain_scratch_len(network, k) {
+    } else if scratch < eager_scratch_len(network) {
         10
     } else if points[p as usize] == 0 {
         11
@@ -72,15 +75,23 @@ pub fn verify_number(
     }
 }
 
-/// The searches, eager but for 12: the conditions 1 to 7, 9 and 10. Scratch and answers are given by
-/// their lengths.
+/// The least length of scratch that a search asks for, by its network and its k.
+pub type Least = fn(Network<'_>, u32) -> usize;
+
+/// Lazy, lazy-EP and the table query: S, "m is the k of a search".
+pub const LEAST_OF_LAZY: Least = plain_scratch_len;
+
+/// Eager and the short query: "12 × n entries for every k".
+pub const LEAST_OF_EAGER: Least = |network, _| eager_scratch_len(network);
+
+/// The searches without a table, eager but for 12: the conditions 1 to 7, 9 and 10, with the least
+/// scratch of the search. Scratch and answers are given by their lengths.
 pub fn search_number(
     network: Network<'_>,
     points: &[u8],
-    q: u32,
-    k: u32,
-    scratch: usize,
-    answers: usize,
+    (q, k): (u32, u32),
+    least: Least,
+    (scratch, answers): (usize, usize),
 ) -> u32 {
     let of_points = points_number(network, points);
     if of_points != 0 {
@@ -89,7 +100,7 @@ pub fn search_number(
         7
     } else if is_no_k(k) {
         9
-    } else if scratch < plain_scratch_len(network, k) || answers < node_count(network) {
+    } else if scratch < least(network, k) || answers < node_count(network) {
         10
     } else {
         0

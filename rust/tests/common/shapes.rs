@@ -128,7 +128,13 @@ pub fn random_parts(n: u32, random: &mut Random) -> Vec<Pair> {
 /// A valid network of 1 to 60 nodes, of any shape and any weights below.
 pub fn random_network(random: &mut Random) -> OwnedNetwork {
     let most = random.pick(&[3, 8, 20, 60]);
-    let (n, mut pairs) = random_shape(random.between(1, most), random);
+    let n = random.between(1, most);
+    random_network_of(n, random)
+}
+
+/// The same of n nodes, as a grid perhaps of fewer.
+pub fn random_network_of(n: u32, random: &mut Random) -> OwnedNetwork {
+    let (n, mut pairs) = random_shape(n, random);
     if random.once_in(2) {
         renumber(n, &mut pairs, random);
     }

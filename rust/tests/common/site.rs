@@ -4,7 +4,7 @@ use super::all_pairs::AllPairs;
 use super::inputs::{enough, some_k, some_node, some_points, too_short};
 use super::lent::Lent;
 use super::network::OwnedNetwork;
-use super::numbers::{plain_scratch_len, search_number};
+use super::numbers::{search_number, Least, LEAST_OF_EAGER, LEAST_OF_LAZY};
 use super::random::Random;
 use super::tally::Tally;
 use overlap::calls::{eager, Listing, Network};
@@ -24,12 +24,33 @@ pub struct Site {
     pub k: u32,
     pub scratch: Lent,
     pub answers: Lent,
+    least: Least,
 }
 
 impl Site {
-    /// Arrays that are just long enough and full of junk. The network is an accepted one and k at
-    /// most 16.
+    /// For lazy, lazy-EP and the table query: arrays that are just long enough and full of junk. The
+    /// network is an accepted one and k at most 16.
     pub fn exact(
+        network: &OwnedNetwork,
+        points: &[u8],
+        asked: (u32, u32),
+        random: &mut Random,
+    ) -> Self {
+        Self::with(LEAST_OF_LAZY, network, points, asked, random)
+    }
+
+    /// The same for eager and the short query.
+    pub fn exact_eager(
+        network: &OwnedNetwork,
+        points: &[u8],
+        asked: (u32, u32),
+        random: &mut Random,
+    ) -> Self {
+        Self::with(LEAST_OF_EAGER, network, points, asked, random)
+    }
+
+    fn with(
+        least: Least,
         network: &OwnedNetwork,
         points: &[u8],
         (q, k): (u32, u32),
@@ -40,9 +61,15 @@ impl Site {
             points: points.to_vec(),
             q,
             k,
-            scratch: Lent::junk(plain_scratch_len(network.lend(), k), random),
+            scratch: Lent::junk(least(network.lend(), k), random),
             answers: Lent::junk(network.starts.len() - 1, random),
+            least,
         }
+    }
+
+    /// This site for eager, with arrays that are just long enough.
+    pub fn for_eager(&self, random: &mut Random) -> Self {
+        Self::exact_eager(&self.network, &self.points, (self.q, self.k), random)
     }
 
     /// Makes scratch and answers longer at times.
@@ -53,10 +80,17 @@ impl Site {
         self
     }
 
-    /// Any points, site and k that are accepted, with arrays that are long enough.
+    /// Any points, site and k that are accepted, with arrays that are long enough for lazy, lazy-EP
+    /// and the table query, and so for all searches.
     pub fn random(network: &OwnedNetwork, random: &mut Random) -> Self {
-        let (points, q) = (some_points(network, random), some_node(network, random));
-        Self::exact(network, &points, (q, some_k(random)), random).lengthen(random)
+        let (points, asked) = some_asked(network, random);
+        Self::exact(network, &points, asked, random).lengthen(random)
+    }
+
+    /// The same with arrays that are long enough for eager and the short query.
+    pub fn random_eager(network: &OwnedNetwork, random: &mut Random) -> Self {
+        let (points, asked) = some_asked(network, random);
+        Self::exact_eager(network, &points, asked, random).lengthen(random)
     }
 
     /// Lends everything to a search; the arrays are then what it leaves.
@@ -83,9 +117,14 @@ impl Site {
 
     /// The first condition met of 1 to 7, 9 and 10, or 0.
     pub fn number(&self) -> u32 {
-        let (network, points) = (self.network.lend(), &self.points);
-        let (scratch, answers) = (self.scratch.len(), self.answers.len());
-        search_number(network, points, self.q, self.k, scratch, answers)
+        let (network, asked) = (self.network.lend(), (self.q, self.k));
+        let lengths = (self.scratch.len(), self.answers.len());
+        search_number(network, &self.points, asked, self.least, lengths)
+    }
+
+    /// The least length of scratch, also for a k that 9 refuses.
+    pub fn least_scratch(&self) -> usize {
+        (self.least)(self.network.lend(), self.k.min(16))
     }
 
     pub fn list(&self, pairs: &AllPairs) -> Vec<u32> {
@@ -149,4 +188,10 @@ impl Site {
         "several lockers that change the list",
         "several lockers that change the count",
     ];
+}
+
+/// Any points, site and k that are accepted.
+fn some_asked(network: &OwnedNetwork, random: &mut Random) -> (Vec<u8>, (u32, u32)) {
+    let (points, q) = (some_points(network, random), some_node(network, random));
+    (points, (q, some_k(random)))
 }
