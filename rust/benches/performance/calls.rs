@@ -2,13 +2,15 @@
 
 use super::common::change::ChangeCall;
 use super::common::site::SearchCall;
-use super::lent::Lent;
+use super::lent::{Lent, Scratch};
 use super::plain;
-use overlap::calls::{Found, Listing, Network, Table, TableMut, Verdict, NONE};
+use overlap::calls::{eager_scratch_len, Found, Listing, Network, Table, TableMut, Verdict, NONE};
 
 /// The functions of the engine, their twins in plain Rust, or those of another build.
 #[allow(clippy::type_complexity)] // each type is used once, and a field reads as its function does
 pub struct Functions {
+    /// The words of scratch that eager, verify and the short query ask for with this k.
+    pub eager_scratch: fn(Network<'_>, u32) -> usize,
     pub network_check: fn(Network<'_>) -> u32,
     pub distances: fn(Network<'_>, u32, &mut [u32], &mut [u32]) -> u32,
     pub nearest: fn(Network<'_>, &[u8], u32, u32, u32, &mut [u32], Found<'_>) -> Listing,
@@ -25,6 +27,7 @@ pub struct Functions {
 }
 
 pub const ENGINE: Functions = Functions {
+    eager_scratch: |network, _| eager_scratch_len(network),
     network_check: overlap::calls::network_check,
     distances: overlap::calls::distances,
     nearest: overlap::calls::nearest,
@@ -41,6 +44,7 @@ pub const ENGINE: Functions = Functions {
 };
 
 pub const PLAIN: Functions = Functions {
+    eager_scratch: ENGINE.eager_scratch,
     network_check: plain::network_check,
     distances: plain::distances,
     nearest: plain::nearest,
@@ -55,6 +59,9 @@ pub const PLAIN: Functions = Functions {
     table_query: plain::table_query,
     table_check: plain::table_check,
 };
+
+/// The engine and its twins.
+pub const TWINS: [&Functions; 2] = [&ENGINE, &PLAIN];
 
 /// What a call is asked: a site, a point, k, and eager's limit. Insert adds a locker to the site,
 /// remove takes one from the point.
@@ -105,7 +112,7 @@ pub const NEAREST: Call = call("nearest", |by, lent, Query { site, k, .. }| {
 
 pub const VERIFY: Call = call("verify", |by, lent, query| {
     let (network, points) = (lent.network, &lent.written.points);
-    let scratch = lent.scratch.of(network, query.k);
+    let scratch = eager_scratch(by, network, query.k, &mut lent.scratch);
     of_verdict((by.verify)(
         network,
         points,
@@ -118,7 +125,7 @@ pub const VERIFY: Call = call("verify", |by, lent, query| {
 
 pub const EAGER: Call = call("eager", |by, lent, query| {
     let (network, w) = (lent.network, &mut lent.written);
-    let scratch = lent.scratch.of(network, query.k);
+    let scratch = eager_scratch(by, network, query.k, &mut lent.scratch);
     let (q, k, limit) = (query.site, query.k, query.limit);
     of_listing((by.eager)(
         network,
@@ -133,7 +140,7 @@ pub const EAGER: Call = call("eager", |by, lent, query| {
 
 pub const SHORT_QUERY: Call = call("short query", |by, lent, query| {
     let (network, w) = (lent.network, &mut lent.written);
-    let scratch = lent.scratch.of(network, 1);
+    let scratch = eager_scratch(by, network, 1, &mut lent.scratch);
     of_listing((by.short_query)(
         network,
         &w.points,
@@ -209,6 +216,16 @@ pub const ALL: [Call; 13] = [
 
 /// The calls that take a k.
 pub const BY_K: [Call; 6] = [NEAREST, VERIFY, EAGER, LAZY, LAZY_EP, TABLE_QUERY];
+
+/// The words of scratch for eager, verify or the short query.
+fn eager_scratch<'a>(
+    by: &Functions,
+    network: Network<'_>,
+    k: u32,
+    scratch: &'a mut Scratch,
+) -> &'a mut [u32] {
+    scratch.of_length((by.eager_scratch)(network, k))
+}
 
 fn search(search: SearchCall, lent: &mut Lent<'_>, query: Query) -> Answer {
     let (network, w) = (lent.network, &mut lent.written);

@@ -1,6 +1,6 @@
 //! How far the searches go, and where eager goes too far.
 
-use super::calls::{Call, Query, EAGER, ENGINE, LAZY, LAZY_EP, PLAIN};
+use super::calls::{Call, Query, EAGER, ENGINE, LAZY, LAZY_EP, TWINS};
 use super::common::network::{marks, OwnedNetwork};
 use super::common::shapes::{chain, figure_12, star, weight_by_product, weighted};
 use super::lent::Lent;
@@ -48,7 +48,7 @@ pub fn figure_12_times(budget: Budget) -> Vec<(Call, Pairs)> {
         limit: 65_535,
     };
     let searches = [EAGER, LAZY, LAZY_EP].into_iter();
-    let mut times = |call| (call, measure(call, &PLAIN, &mut lent, &[query], budget));
+    let mut times = |call| (call, measure(call, TWINS, &mut lent, &[query], budget));
     searches.map(&mut times).collect()
 }
 

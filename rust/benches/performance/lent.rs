@@ -22,16 +22,51 @@ pub struct Written {
     pub answer_distances: Vec<u32>,
 }
 
-/// Scratch for several m; a call is lent S words of it.
+/// Scratch for several m; a call is lent the first words of it.
 pub struct Scratch {
     words: Vec<u32>,
+    /// How many words a call is lent beyond those that it asks for.
+    pub more: isize,
+    /// How many words the last call was lent.
+    lent: usize,
 }
 
+/// What stands in scratch before a call.
+const OLD: u32 = 1;
+
 impl Scratch {
-    /// The S words of a call with this m, as far as there are so many.
+    fn new(words: usize) -> Self {
+        Self {
+            words: vec![OLD; words],
+            more: 0,
+            lent: 0,
+        }
+    }
+
+    /// The words of a call that asks for S with this m.
     pub fn of(&mut self, network: Network<'_>, m: u32) -> &mut [u32] {
-        let words = scratch_len(network, m as usize).min(self.words.len());
-        &mut self.words[..words]
+        self.of_length(scratch_len(network, m as usize))
+    }
+
+    /// The words of a call that asks for so many, as far as there are so many.
+    pub fn of_length(&mut self, asked: usize) -> &mut [u32] {
+        let words = asked.saturating_add_signed(self.more);
+        self.lent = words.min(self.words.len());
+        &mut self.words[..self.lent]
+    }
+
+    fn make_old(&mut self) {
+        self.words.fill(OLD);
+        self.lent = 0;
+    }
+
+    /// The word that the last call left in all that it was lent, if that is any. Two builds may be
+    /// lent different lengths, so it is this that is compared.
+    fn left(&self) -> Option<u32> {
+        let (lent, rest) = self.words.split_at(self.lent);
+        assert!(rest.iter().all(|&word| word == OLD), "it wrote behind");
+        assert!(lent.iter().all(|&word| word == lent[0]), "it left a part");
+        lent.first().copied()
     }
 }
 
@@ -70,9 +105,7 @@ impl<'a> Lent<'a> {
             network,
             places,
             written,
-            scratch: Scratch {
-                words: vec![1; scratch_len(network, most_m as usize)],
-            },
+            scratch: Scratch::new(scratch_len(network, most_m as usize)),
         }
     }
 
@@ -98,33 +131,32 @@ impl<'a> Lent<'a> {
     /// is the same.
     pub fn assert_same(
         &mut self,
-        other: &Functions,
+        by: [&Functions; 2],
         call: Call,
         query: Query,
         before: &Written,
     ) -> Answer {
-        let engine = self.outcome(&ENGINE, call, query, before);
-        let outcome = self.outcome(other, call, query, before);
-        assert!(engine == outcome, "{} differs: {query:?}", call.name);
+        let [engine, other] = by.map(|by| self.outcome(by, call, query, before));
+        assert!(engine == other, "{} differs: {query:?}", call.name);
         engine.answer
     }
 
     /// What a call answers and leaves when it starts from these arrays and old entries in scratch.
     fn outcome(&mut self, by: &Functions, call: Call, query: Query, before: &Written) -> Outcome {
         self.written.clone_from(before);
-        self.scratch.words.fill(1);
+        self.scratch.make_old();
         Outcome {
             answer: (call.run)(by, self, query),
             written: self.written.clone(),
-            scratch: self.scratch.words.clone(),
+            scratch: self.scratch.left(),
         }
     }
 }
 
-/// What a call answers, and every array that it may write.
+/// What a call answers, and what it leaves in every array that it may write.
 #[derive(PartialEq, Eq)]
 struct Outcome {
     answer: Answer,
     written: Written,
-    scratch: Vec<u32>,
+    scratch: Option<u32>,
 }

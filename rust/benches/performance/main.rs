@@ -19,7 +19,7 @@ mod report;
 mod roads;
 mod settings;
 
-use calls::{Call, PLAIN};
+use calls::{Call, TWINS};
 use chart::{Axis, Chart, Panel, Sample};
 use lent::Lent;
 use measure::{measure, Budget, Pairs};
@@ -52,7 +52,7 @@ fn measure_calls(
     let mut lent = Lent::built(subject.network.lend(), &subject.points, places, places);
     let mut times = Vec::new();
     for &call in calls {
-        let pairs = measure(call, &PLAIN, &mut lent, &queries, budget);
+        let pairs = measure(call, TWINS, &mut lent, &queries, budget);
         print!("{}", pairs.row(call.name, 2));
         times.push((call, pairs));
     }

@@ -1,7 +1,7 @@
 //! Times of a call by the engine and by other functions, its twin or another build, taken in turn in
 //! one run.
 
-use super::calls::{Answer, Call, Functions, Query, ENGINE};
+use super::calls::{Answer, Call, Functions, Query};
 use super::lent::{Lent, Written};
 use std::hint::black_box;
 use std::time::{Duration, Instant};
@@ -78,10 +78,10 @@ pub struct Budget {
     pub most_pairs: usize,
 }
 
-/// A call, what the engine is timed against, and the arrays from which each run starts.
+/// A call, the engine and what it is timed against, and the arrays from which each run starts.
 struct Timed<'a, 'b> {
     call: Call,
-    other: &'a Functions,
+    by: [&'a Functions; 2],
     lent: &'a mut Lent<'b>,
     before: Written,
 }
@@ -90,17 +90,17 @@ struct Timed<'a, 'b> {
 /// of runs the answers and all arrays but scratch are compared. All calls are accepted.
 pub fn measure(
     call: Call,
-    other: &Functions,
+    by: [&Functions; 2],
     lent: &mut Lent<'_>,
     queries: &[Query],
     budget: Budget,
 ) -> Pairs {
     let before = lent.written.clone();
-    let answer = lent.assert_same(other, call, queries[0], &before);
+    let answer = lent.assert_same(by, call, queries[0], &before);
     assert_eq!(answer.0, 0, "{} is refused", call.name);
     let mut timed = Timed {
         call,
-        other,
+        by,
         lent,
         before,
     };
@@ -126,9 +126,10 @@ pub fn measure(
 impl Timed<'_, '_> {
     /// The times of the engine and of the other, one behind the other.
     fn time_pair(&mut self, query: Query, engine_first: bool) -> (f64, f64) {
+        let [engine, other] = self.by;
         let (first, second) = match engine_first {
-            true => (&ENGINE, self.other),
-            false => (self.other, &ENGINE),
+            true => (engine, other),
+            false => (other, engine),
         };
         let (first_time, first_answer) = self.time(first, query);
         let first_written = self.lent.written.clone();

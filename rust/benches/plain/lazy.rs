@@ -1,8 +1,7 @@
 //! Lazy (000, 3.3): the verification of a point prunes the nodes that it visits nearer than the site
 //! is.
 //!
-//! Words of scratch: counts n, found flags n, inner area, outer area; 2 × k are cleared beside them,
-//! as in the engine.
+//! Words of scratch: counts n, found flags n, inner area 4 × n, outer area 4 × n.
 
 use super::area::Area;
 use super::queue::Entry;
@@ -38,17 +37,15 @@ pub fn lazy_and_settled(
     };
     let lent = Lent { scratch, answers };
     let mut settled = 0;
-    let listing = site.answer(lent, words, |words, answers| {
-        settled = search(site, words);
+    let listing = site.answer(lent, Site::s_words, |scratch, answers| {
         let n = points.len();
-        listed(&words[n..2 * n], answers, 0)
+        let words = &mut scratch[..10 * n];
+        settled = search(site, words);
+        let listing = listed(&words[n..2 * n], answers, 0);
+        words.fill(0);
+        listing
     });
     (listing, settled)
-}
-
-fn words(site: Site<'_>) -> usize {
-    let (n, arcs) = site.sizes();
-    2 * site.k + 6 * n + 4 * (arcs + 1)
 }
 
 /// Sets the found flags and returns how many nodes it settled.
@@ -56,13 +53,12 @@ fn search(site: Site<'_>, words: &mut [u32]) -> usize {
     let n = site.points.len();
     let (flags, areas) = words.split_at_mut(2 * n);
     let (counts, found) = flags.split_at_mut(n);
-    let (inner, outer) = areas.split_at_mut(2 * n + 2 * (site.network.neighbours.len() + 1));
+    let (inner, outer) = areas.split_at_mut(4 * n);
     let mut area = Area::start(outer, site.network, site.q);
     while let Some(entry) = area.next() {
         if is_pruned(site, entry, counts) {
             continue;
         }
-        area.settle(entry);
         let node = entry.node();
         let lockers = u32::from(site.points[node]);
         if lockers > 0 {
@@ -71,6 +67,7 @@ fn search(site: Site<'_>, words: &mut [u32]) -> usize {
             count_visit((entry.distance, lockers), &visit, &area, counts);
             visit.clear();
         }
+        area.settle(entry);
         if (counts[node] as usize) < site.k {
             area.open(site.network, entry);
         }
@@ -80,8 +77,8 @@ fn search(site: Site<'_>, words: &mut [u32]) -> usize {
 
 /// Whether k lockers are nearer than the site to the entry's node, or to the node that put it in.
 fn is_pruned(site: Site<'_>, entry: Entry, counts: &[u32]) -> bool {
-    let (node, parent) = (entry.node(), entry.parent());
-    counts[node] as usize >= site.k || (parent != node && counts[parent] as usize >= site.k)
+    let is_closed = |node: usize| counts[node] as usize >= site.k;
+    is_closed(entry.node()) || is_closed(entry.parent())
 }
 
 /// Counts the point's lockers for each node that its visit settled nearer than the site is, as far as

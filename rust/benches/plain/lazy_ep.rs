@@ -1,9 +1,9 @@
 //! Lazy-EP (000, 4.2): the points that the site's expansion has come to are expanded too, and a node
 //! to which k of their lockers are nearer than the site is pruned.
 //!
-//! Words of scratch: found flags n, row ids n × k, row distances n × k, second queue 2 × (k × A + n),
-//! inner area, outer area. An empty place of a row has 0 as its distance word, another one its
-//! distance plus one. The tag of an entry of the second queue is its point and then its node.
+//! Words of scratch: found flags n, row ids n × k, row distances n × k, second queue 2 × k × A + 3 × n,
+//! inner area 4 × n, outer area 4 × n. An empty place of a row has 0 as its distance word, another one
+//! its distance plus one. The tag of an entry of the second queue is its point and then its node.
 
 use super::area::Area;
 use super::queue::{Entry, Queue};
@@ -39,29 +39,23 @@ pub fn lazy_ep_and_settled(
     };
     let lent = Lent { scratch, answers };
     let mut settled = 0;
-    let listing = site.answer(lent, words, |words, answers| {
+    let listing = site.answer(lent, Site::s_words, |scratch, answers| {
+        let (n, arcs) = site.sizes();
+        let words = &mut scratch[..12 * n + 2 * site.k * (n + arcs)];
         settled = search(site, words);
-        listed(&words[..points.len()], answers, 0)
+        let listing = listed(&words[..n], answers, 0);
+        words.fill(0);
+        listing
     });
     (listing, settled)
-}
-
-fn words(site: Site<'_>) -> usize {
-    let (n, arcs) = site.sizes();
-    5 * n + 2 * n * site.k + second_words(site) + 4 * (arcs + 1)
-}
-
-fn second_words(site: Site<'_>) -> usize {
-    let (n, arcs) = site.sizes();
-    2 * (site.k * arcs + n)
 }
 
 /// Sets the found flags and returns how many nodes it settled.
 fn search(site: Site<'_>, words: &mut [u32]) -> usize {
     let n = site.points.len();
     let (found, rest) = words.split_at_mut(n);
-    let (rows, areas) = rest.split_at_mut(2 * n * site.k + second_words(site));
-    let (inner, outer) = areas.split_at_mut(areas.len() / 2);
+    let (rows, areas) = rest.split_at_mut(rest.len() - 8 * n);
+    let (inner, outer) = areas.split_at_mut(4 * n);
     let mut second = Second::new(site, rows);
     let mut area = Area::start(outer, site.network, site.q);
     while let Some(entry) = area.next() {
@@ -70,11 +64,11 @@ fn search(site: Site<'_>, words: &mut [u32]) -> usize {
         if second.is_closed(site, node, label) || second.is_closed_parent(site, entry, &area) {
             continue;
         }
-        area.settle(entry);
         if site.points[node] > 0 {
             found[node] = u32::from(site.verify(node as u32, inner));
             second.admit(site, Entry::new(0, node as u32, node as u32));
         }
+        area.settle(entry);
         if !second.is_closed(site, node, label) {
             area.open(site.network, entry);
         }
@@ -155,12 +149,16 @@ impl<'a> Second<'a> {
         }
     }
 
-    /// Whether the points of the row that are nearer than the label have k lockers.
+    /// Whether the points of the row that are nearer than the label have k lockers. An empty place
+    /// ends the row.
     fn is_closed(&self, site: Site<'_>, node: usize, label: u32) -> bool {
         let row = node * self.k..(node + 1) * self.k;
         let mut lockers = 0;
         for (&p, &word) in self.ids[row.clone()].iter().zip(&self.distances[row]) {
-            if word != 0 && word <= label {
+            if word == 0 || lockers >= self.k {
+                break;
+            }
+            if word <= label {
                 lockers += usize::from(site.points[p as usize]);
             }
         }

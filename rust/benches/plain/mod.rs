@@ -1,8 +1,9 @@
 //! The engine's algorithms in plain safe Rust, with Rust's own bounds checks, to compare times
 //! with. Each function has the form of the engine's call, its checks and its answers.
 //!
-//! A call makes all of scratch zero before its work and the words that it used zero behind it; an
-//! expansion inside another makes zero what it touched.
+//! A call makes all of scratch zero before its work. Behind it distances, nearest, verify, eager and
+//! insert make zero what they touched, the others the words that they used. So do the engine's calls,
+//! but lazy, which makes the words of lazy-EP zero.
 
 // The benchmark and a test use parts of this.
 #![allow(dead_code, unused_imports)]
@@ -14,6 +15,7 @@ mod lazy;
 mod lazy_ep;
 mod nearest;
 mod network_check;
+mod node_queue;
 mod queue;
 mod site;
 mod table;

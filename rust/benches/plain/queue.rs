@@ -8,6 +8,12 @@ pub struct Entry {
 }
 
 impl Entry {
+    /// The words of a place where no entry stands.
+    pub const EMPTY: Self = Self {
+        distance: 0,
+        tag: 0,
+    };
+
     pub fn new(distance: u32, first: u32, second: u32) -> Self {
         Self {
             distance,
@@ -26,73 +32,30 @@ impl Entry {
     }
 
     /// The number by which entries are ordered.
-    fn key(self) -> u64 {
+    pub fn key(self) -> u64 {
         u64::from(self.distance) << 32 | u64::from(self.tag)
     }
+
+    pub fn read(words: &[u32], index: usize) -> Self {
+        Self {
+            distance: words[2 * index],
+            tag: words[2 * index + 1],
+        }
+    }
+
+    pub fn write(self, words: &mut [u32], index: usize) {
+        words[2 * index] = self.distance;
+        words[2 * index + 1] = self.tag;
+    }
 }
 
-/// Words behind the length are zero.
-pub struct Queue<'a> {
-    words: &'a mut [u32],
-    length: usize,
-}
+/// The steps of a heap, which are the same whether its entries have seats or not.
+pub trait Heap {
+    fn length(&self) -> usize;
 
-impl<'a> Queue<'a> {
-    /// The words are all zero.
-    pub fn new(words: &'a mut [u32]) -> Self {
-        Self { words, length: 0 }
-    }
+    fn entry(&self, index: usize) -> Entry;
 
-    pub fn has_room(&self) -> bool {
-        2 * self.length < self.words.len()
-    }
-
-    /// The least distance that waits.
-    pub fn least(&self) -> Option<u32> {
-        (self.length > 0).then(|| self.words[0])
-    }
-
-    /// Makes the words that were touched zero.
-    pub fn clear(self) {
-        self.words[..2 * self.length].fill(0);
-    }
-
-    fn entry(&self, index: usize) -> Entry {
-        Entry {
-            distance: self.words[2 * index],
-            tag: self.words[2 * index + 1],
-        }
-    }
-
-    fn put(&mut self, index: usize, entry: Entry) {
-        self.words[2 * index] = entry.distance;
-        self.words[2 * index + 1] = entry.tag;
-    }
-
-    pub fn push(&mut self, entry: Entry) {
-        self.length += 1;
-        self.rise(self.length - 1, entry);
-    }
-
-    pub fn pop(&mut self) -> Option<Entry> {
-        if self.length == 0 {
-            return None;
-        }
-        let least = self.entry(0);
-        self.length -= 1;
-        let last = self.entry(self.length);
-        self.put(
-            self.length,
-            Entry {
-                distance: 0,
-                tag: 0,
-            },
-        );
-        if self.length > 0 {
-            self.sink(0, last);
-        }
-        Some(least)
-    }
+    fn put(&mut self, index: usize, entry: Entry);
 
     /// Carries the entry up from the hole and stores it once, in its final place.
     fn rise(&mut self, mut hole: usize, entry: Entry) {
@@ -123,12 +86,67 @@ impl<'a> Queue<'a> {
 
     fn least_child(&self, index: usize) -> Option<usize> {
         let left = 2 * index + 1;
-        if left >= self.length {
+        if left >= self.length() {
             None
-        } else if left + 1 < self.length && self.entry(left + 1).key() < self.entry(left).key() {
+        } else if left + 1 < self.length() && self.entry(left + 1).key() < self.entry(left).key() {
             Some(left + 1)
         } else {
             Some(left)
         }
+    }
+}
+
+/// Words behind the length are zero.
+pub struct Queue<'a> {
+    words: &'a mut [u32],
+    length: usize,
+}
+
+impl<'a> Queue<'a> {
+    /// The words are all zero.
+    pub fn new(words: &'a mut [u32]) -> Self {
+        Self { words, length: 0 }
+    }
+
+    pub fn has_room(&self) -> bool {
+        self.length < self.words.len() / 2
+    }
+
+    /// The least distance that waits.
+    pub fn least(&self) -> Option<u32> {
+        (self.length > 0).then(|| self.words[0])
+    }
+
+    pub fn push(&mut self, entry: Entry) {
+        self.length += 1;
+        self.rise(self.length - 1, entry);
+    }
+
+    pub fn pop(&mut self) -> Option<Entry> {
+        if self.length == 0 {
+            return None;
+        }
+        let least = self.entry(0);
+        self.length -= 1;
+        let last = self.entry(self.length);
+        self.put(self.length, Entry::EMPTY);
+        if self.length > 0 {
+            self.sink(0, last);
+        }
+        Some(least)
+    }
+}
+
+impl Heap for Queue<'_> {
+    fn length(&self) -> usize {
+        self.length
+    }
+
+    fn entry(&self, index: usize) -> Entry {
+        Entry::read(self.words, index)
+    }
+
+    fn put(&mut self, index: usize, entry: Entry) {
+        entry.write(self.words, index);
     }
 }

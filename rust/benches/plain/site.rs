@@ -26,33 +26,40 @@ impl Site<'_> {
         (self.network.starts.len() - 1, self.network.neighbours.len())
     }
 
-    /// The checks, then all of scratch is made zero and searched in so many words of it, which are
-    /// made zero again behind it. The search is handed the answers too.
+    /// The checks, scratch against the least that the search asks for; then all of scratch is made
+    /// zero, and the search is handed it and the answers.
     pub fn answer(
         self,
         lent: Lent<'_>,
-        words: fn(Self) -> usize,
+        least: fn(Self) -> usize,
         search: impl FnOnce(&mut [u32], &mut [u32]) -> Listing,
     ) -> Listing {
         let Lent { scratch, answers } = lent;
-        let mut number = self.number(scratch.len());
+        let mut number = self.number(scratch.len(), least);
         if number == 0 && answers.len() < self.points.len() {
             number = 10;
         }
         if number != 0 {
             return refused(number);
         }
-        let used = words(self);
         scratch.fill(0);
-        let listing = search(&mut scratch[..used], answers);
-        scratch[..used].fill(0);
-        listing
+        search(scratch, answers)
+    }
+
+    /// S of a search, of nearest and of the table query.
+    pub fn s_words(self) -> usize {
+        least_scratch(self.network, self.k)
+    }
+
+    /// What eager, the short query and verify ask for, whatever k is.
+    pub fn eager_words(self) -> usize {
+        12 * self.points.len()
     }
 
     /// The first condition met of 1 to 7, 9, and 10 of scratch, or 0.
-    pub fn number(self, scratch: usize) -> u32 {
+    pub fn number(self, scratch: usize, least: fn(Self) -> usize) -> u32 {
         match self.place_number() {
-            0 => self.k_number(scratch),
+            0 => self.k_number(scratch, least),
             number => number,
         }
     }
@@ -72,10 +79,10 @@ impl Site<'_> {
     }
 
     /// 9, or 10 of scratch, or 0.
-    pub fn k_number(self, scratch: usize) -> u32 {
+    pub fn k_number(self, scratch: usize, least: fn(Self) -> usize) -> u32 {
         if self.k == 0 || self.k > 16 {
             9
-        } else if scratch < least_scratch(self.network, self.k) {
+        } else if scratch < least(self) {
             10
         } else {
             0

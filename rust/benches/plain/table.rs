@@ -46,9 +46,8 @@ pub fn insert(
     if number != 0 {
         return Update { number, changed: 0 };
     }
-    let used = 3 * points.len() + 2 * (network.neighbours.len() + 1);
     scratch.fill(0);
-    let changed = expand(network, node, &mut scratch[..used], &mut table);
+    let changed = expand(network, node, scratch, &mut table);
     points[node as usize] += 1;
     Update { number, changed }
 }

@@ -1,11 +1,11 @@
 //! The table query (eager-M): eager's expansion, with the rows of the table in place of the nearest
 //! points.
 //!
-//! Words of scratch: verified flags n, found flags n, inner area, outer area. The lent table may hold
-//! anything.
+//! Words of scratch: verified flags n, found flags n, inner area 4 × n, outer area 4 × n. The lent table
+//! may hold anything.
 
 use super::area::Area;
-use super::site::{least_scratch, listed, lockers_at, refused, Site};
+use super::site::{listed, lockers_at, refused, Site};
 use super::table::number_of;
 use overlap::calls::{Listing, Network, Table};
 
@@ -29,9 +29,9 @@ pub fn table_query(
     if number != 0 {
         return refused(number);
     }
-    let (n, arcs) = site.sizes();
+    let n = points.len();
     scratch.fill(0);
-    let words = &mut scratch[..6 * n + 4 * (arcs + 1)];
+    let words = &mut scratch[..10 * n];
     search(site, table, words);
     let listing = listed(&words[n..2 * n], answers, 0);
     words.fill(0);
@@ -45,7 +45,7 @@ fn number(site: Site<'_>, table: Table<'_>, scratch: usize, answers: usize) -> u
         number
     } else if site.k == 0 || site.k >= table.places as usize {
         9
-    } else if scratch < least_scratch(site.network, site.k) || answers < site.points.len() {
+    } else if scratch < site.s_words() || answers < site.points.len() {
         10
     } else {
         0
@@ -56,7 +56,7 @@ fn number(site: Site<'_>, table: Table<'_>, scratch: usize, answers: usize) -> u
 fn search(site: Site<'_>, table: Table<'_>, words: &mut [u32]) {
     let n = site.points.len();
     let (flags, areas) = words.split_at_mut(2 * n);
-    let (inner, outer) = areas.split_at_mut(areas.len() / 2);
+    let (inner, outer) = areas.split_at_mut(4 * n);
     flags[n + site.q as usize] = u32::from(site.points[site.q as usize] > 0);
     let mut area = Area::start(outer, site.network, site.q);
     while let Some(entry) = area.next() {

@@ -1,7 +1,7 @@
 //! Removal of a locker from the table.
 //!
-//! Words of scratch: short flags n, queue 2 × (n + A). The tag of an entry is its point and then its
-//! node.
+//! Words of scratch: short flags n, queue 2 × (n + A), and n that are cleared beside them, as the engine
+//! lends removal what insertion needs too. The tag of an entry is its point and then its node.
 
 use super::queue::{Entry, Queue};
 use super::site::lockers_at;
@@ -21,7 +21,7 @@ pub fn remove(
         return Update { number, changed: 0 };
     }
     let (n, arcs) = (points.len(), network.neighbours.len());
-    let used = 3 * n + 2 * (arcs + 1);
+    let used = 4 * n + 2 * arcs;
     scratch.fill(0);
     let all = lockers_at(points, node);
     points[node as usize] -= 1;

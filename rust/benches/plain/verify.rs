@@ -24,10 +24,8 @@ pub fn verify(
     if number != 0 {
         return Verdict { number, yes: 0 };
     }
-    let (n, arcs) = site.sizes();
     scratch.fill(0);
-    let words = &mut scratch[..2 * n + 2 * (arcs + 1)];
-    let yes = site.verify(p, words);
+    let yes = site.verify(p, scratch);
     Verdict {
         number,
         yes: u32::from(yes),
@@ -42,7 +40,7 @@ fn number(site: Site<'_>, p: u32, scratch: usize) -> u32 {
     } else if p as usize >= site.points.len() {
         7
     } else {
-        match site.k_number(scratch) {
+        match site.k_number(scratch, Site::eager_words) {
             0 if site.points[p as usize] == 0 => 11,
             number => number,
         }

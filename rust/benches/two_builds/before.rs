@@ -6,6 +6,8 @@ use before::calls as old;
 use overlap::calls::{Listing, Network, Table, TableMut, Update, Verdict};
 
 pub const BEFORE: Functions = Functions {
+    // A build before Ask 5 asks for S; a later one takes it too, as 12 × n is never more.
+    eager_scratch: |n, k| old::scratch_len(network(n), k as usize),
     network_check: |n| old::network_check(network(n)),
     distances: |n, node, s, a| old::distances(network(n), node, s, a),
     nearest: |n, points, node, e, k, s, found| {
