@@ -1,5 +1,5 @@
-// Network N of document 01, and each public call on it, with scratch for a k or K of 3, the largest here. Insert, remove and the table check are
-// lent a table with K = 2.
+// Network N of document 01, and each public call on it, with scratch for a k or K of 3, the largest here; eager, verify and the short query need less.
+// Insert, remove and the table check are lent a table with K = 2.
 use overlap::Listing;
 use overlap::Update;
 use overlap::Verdict;
@@ -16,6 +16,9 @@ pub const POINTS: [u8; 6] = [0, 0, 1, 0, 1, 1];
 
 // 16 × n + 8 × (A + n) × m with n = 6, A = 10 and m = 3.
 pub const SCRATCH: usize = 480;
+
+// 12 × n, for eager, verify and the short query with any k.
+pub const EAGER_SCRATCH: usize = 72;
 
 pub fn check() -> u32 {
     overlap::overlap_network_check(&STARTS, &NEIGHBOURS, &WEIGHTS)
@@ -43,7 +46,7 @@ pub fn nearest(node: u32, e: u32, k: u32, ids: &mut [u32; 3], distances: &mut [u
 }
 
 pub fn verify(p: u32, q: u32, k: u32) -> Verdict {
-    let mut scratch = [0; SCRATCH];
+    let mut scratch = [0; EAGER_SCRATCH];
     overlap::overlap_verify(
         &STARTS,
         &NEIGHBOURS,
@@ -65,7 +68,7 @@ pub fn eager(
     limit: u32,
     answers: &mut [u32; 6],
 ) -> Listing {
-    let mut scratch = [0; SCRATCH];
+    let mut scratch = [0; EAGER_SCRATCH];
     overlap::overlap_eager(
         &STARTS,
         &NEIGHBOURS,
@@ -80,7 +83,7 @@ pub fn eager(
 }
 
 pub fn short_query(q: u32, answers: &mut [u32; 6]) -> Listing {
-    let mut scratch = [0; SCRATCH];
+    let mut scratch = [0; EAGER_SCRATCH];
     overlap::overlap_short_query(
         &STARTS,
         &NEIGHBOURS,

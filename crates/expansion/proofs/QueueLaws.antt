@@ -9,7 +9,7 @@ use native.Mathlib.Decide.{ℕ-discrete, decLt}
 use lib.ListN.{length, getD, set, drop, length-set, length-drop}
 use lib.Seq.{getD-set-same, getD-set-other}
 use borrow.Rule.Slice.PartMut.{midOf, putMid}
-use Rattle.expansion.specs.Queue.{keyOf, keyAt, parentOf, Holds, HoldsBeside, Ordered, ZeroFrom, Put, Hole, AtLeastParent, AtMostChildren, CanSink, CanRise, Filled, LeastChild, Children, Chosen, Queue, Pushed, Popped, Cleared, PushedAt, PoppedAt, ClearedAt}
+use Rattle.expansion.specs.Queue.{keyOf, keyAt, parentOf, Holds, HoldsBeside, Ordered, ZeroFrom, Put, Hole, AtLeastParent, AtMostChildren, CanSink, CanRise, Filled, LeastChild, Children, Chosen, Queue, Pushed, Popped, PushedAt, PoppedAt}
 use Rattle.expansion.proofs.LentParts.{lent-part, rejoined}
 
 -- ---- An entry is stored.
@@ -424,35 +424,6 @@ module _ (xs ys : List ℕ) (len : ℕ) (q : Queue xs len) (some : 0 < len) (p :
           kept = pop-kept;
         }
 
--- clear: the first i words are zeroed
-pub record Zeroed (xs ys : List ℕ) (i : ℕ) : Type 0 where
-  pub size : length ys ≡ length xs
-  pub done : (j : ℕ) → j < i → getD ys j 0 ≡ 0
-  pub rest : (j : ℕ) → i ≤ j → getD ys j 0 ≡ getD xs j 0
-
-pub zeroed-none : (xs : List ℕ) → Zeroed xs xs 0
-zeroed-none xs = record { size = refl; done = λ j lt. omega arith; rest = λ j le. refl }
-
-pub zeroed-more : (xs ys : List ℕ) (i : ℕ) → i < length ys → Zeroed xs ys i → Zeroed xs (set ys i 0) (i + 1)
-zeroed-more xs ys i lt z =
-    record {
-      size = length-set ys i 0 ∙ z .size;
-      done =
-          λ j l.
-          elim (ℕ-discrete j i) [
-            | yes e ↦ ap (λ (k : ℕ). getD (set ys i 0) k 0) e ∙ getD-set-same ys i 0 0 lt
-            | no n ↦ getD-set-other ys i j 0 0 n ∙ z .done j (omega arith)
-          ];
-      rest = λ j l. getD-set-other ys i j 0 0 (omega arith) ∙ z .rest j (omega arith);
-    }
-
-pub cleared : (xs ys : List ℕ) (len i : ℕ) → ZeroFrom xs len → Zeroed xs ys i → i ≡ 2 * len → Cleared xs ys
-cleared xs ys len i zeros z e =
-    record {
-      size = z .size;
-      zero = λ j. elim (decLt j i) [ yes lt ↦ z .done j lt | no n ↦ z .rest j (omega arith) ∙ zeros j (omega arith) ];
-    }
-
 -- ---- A queue from the word `at` on, which is lent and comes back as zs.
 module _ (xs : List ℕ) (at : ℕ) where
   pub lent-queue : (len : ℕ) → Queue (drop at xs) len → Queue (midOf at (length xs - at) xs) len
@@ -476,8 +447,3 @@ module _ (xs : List ℕ) (at : ℕ) where
     popped-at len key p =
         let r = rejoined at xs zs fits (p .size) in
         record { size = r .size; before = r .before; queue = part-says (λ x y. Popped x y len key) (p .size) p }
-
-    pub cleared-at : Cleared (midOf at (length xs - at) xs) zs → ClearedAt xs (putMid at (length xs - at) xs zs) at
-    cleared-at p =
-        let r = rejoined at xs zs fits (p .size) in
-        record { size = r .size; before = r .before; queue = part-says (λ x y. Cleared x y) (p .size) p }

@@ -1,5 +1,6 @@
 -- The queue: a binary heap in a list of words. Entry i is two words, its tag at 2 i and its distance at 2 i + 1: its key, as a machine has a 64-bit
--- number. Entries are ordered by one number, the key; the entries 2 i + 1 and 2 i + 2 are the children of entry i, and no entry has a key less than its parent's.
+-- number. Entries are ordered by that one number; the entries 2 i + 1 and 2 i + 2 are the children of entry i, and no entry has a key less than its
+-- parent's.
 -- Assumes nothing.
 use mathlib.Core.Path.{_≡_}
 use mathlib.Core.Logic.{_⊎_, _≢_, _↔_}
@@ -62,11 +63,6 @@ pub record Popped (xs ys : List ℕ) (len key : ℕ) : Type 0 where
   pub old : (k : ℕ) → Holds ys (len - 1) k → Holds xs len k
   pub kept : (k : ℕ) → Holds xs len k → Holds ys (len - 1) k ⊎ (k ≡ key)
 
--- clear: ys is as long as xs, and all its words are 0
-pub record Cleared (xs ys : List ℕ) : Type 0 where
-  pub size : length ys ≡ length xs
-  pub zero : (j : ℕ) → getD ys j 0 ≡ 0
-
 -- The same of a queue that starts at the word `at` of a longer list and reaches to its end: what stands before it stays as it is.
 pub record PushedAt (xs ys : List ℕ) (at len key : ℕ) : Type 0 where
   pub size : length ys ≡ length xs
@@ -77,11 +73,6 @@ pub record PoppedAt (xs ys : List ℕ) (at len key : ℕ) : Type 0 where
   pub size : length ys ≡ length xs
   pub before : (i : ℕ) → i < at → getD ys i 0 ≡ getD xs i 0
   pub queue : Popped (drop at xs) (drop at ys) len key
-
-pub record ClearedAt (xs ys : List ℕ) (at : ℕ) : Type 0 where
-  pub size : length ys ≡ length xs
-  pub before : (i : ℕ) → i < at → getD ys i 0 ≡ getD xs i 0
-  pub queue : Cleared (drop at xs) (drop at ys)
 
 -- ---- What the inner functions promise.
 

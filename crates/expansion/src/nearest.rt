@@ -27,6 +27,20 @@ struct Search {
     len: usize,
 }
 
+impl Search {
+    // These four.
+    fn ended(found: usize, tally: usize, settled: usize, len: usize) -> Self
+        ensures { λ r. ⌜ r ≡ record { found = found; tally = tally; settled = settled; len = len } ⌝ }
+    {
+        Self {
+            found,
+            tally,
+            settled,
+            len,
+        }
+    }
+}
+
 // Adds a settled node to the found nodes, where it has a locker. Returns how many there are then.
 fn note(points: &[u8], s: &mut [u32], found: usize, node: u32) -> usize
     requires { ⌜ found < length (now s) ⌝ }
@@ -79,20 +93,10 @@ fn find(
             left,
         } = taken
         else {
-            return Search {
-                found,
-                tally,
-                settled,
-                len: 0,
-            };
+            return Search::ended(found, tally, settled, 0);
         };
         if e <= label {
-            return Search {
-                found,
-                tally,
-                settled,
-                len: left,
-            };
+            return Search::ended(found, tally, settled, left);
         }
         step::settle(s, b, n, settled, at, label);
         settled += 1;
@@ -100,12 +104,7 @@ fn find(
         found = note(points, s, found, at);
         tally = add(points, tally, at, k);
     }
-    Search {
-        found,
-        tally,
-        settled,
-        len,
-    }
+    Search::ended(found, tally, settled, len)
 }
 
 // The nodes with the k nearest lockers that are nearer to a node than e, by distance and then node, in the first words. All words are 0 before, and

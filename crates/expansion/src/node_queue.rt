@@ -1,6 +1,6 @@
 // The node queue: a binary heap in which every node stands at most once, so that a node's label can be lowered and n entries are enough. Entry i is
-// two words from word `at` on, as in queue.rt: its tag at 2 i and its distance at 2 i + 1. Node v's seat is the word b + v: i + 1 while v waits as entry i, 0 or a
-// word above n while it doesn't wait.
+// two words from word `at` on, as in queue.rt: its tag at 2 i and its distance at 2 i + 1. Node v's seat is the word b + v: i + 1 while v waits as
+// entry i, 0 or a word above n while it doesn't wait.
 ghost use mathlib.Core.Path.{_≡_};
 ghost use Prim.Native.Nat.{_+_, _*_, _≤_, _<_};
 ghost use lib.ListN.{length, getD, drop};

@@ -1,10 +1,10 @@
 // The queue: a binary heap in a lent slice of words, least entry first. Entry i is two words, its tag at 2 i and its distance at 2 i + 1, and
-// entries are ordered by one number, the key: distance * 2^32 + tag. So the words are those of the key, the lower one first: one load reads it. Words behind the queue's entries are zero, so that a queue
-// that is popped empty or cleared is all zero.
+// entries are ordered by one number, the key: distance * 2^32 + tag. So the words are those of the key, the lower one first, and one load reads it.
+// Words behind the queue's entries are zero, so that a queue that is popped empty is all zero.
 ghost use mathlib.Core.Path.{_≡_};
 ghost use Prim.Native.Nat.{_+_, _*_, _≤_, _<_};
 ghost use lib.ListN.{length, getD, drop};
-ghost use Rattle.expansion.specs.Queue.{keyOf, keyAt, Queue, Pushed, Popped, Cleared, PushedAt, PoppedAt, ClearedAt, Put, LeastChild, Children, Chosen, CanSink, CanRise, Filled, Sank};
+ghost use Rattle.expansion.specs.Queue.{keyOf, keyAt, Queue, Pushed, Popped, PushedAt, PoppedAt, Put, LeastChild, Children, Chosen, CanSink, CanRise, Filled, Sank};
 
 // An entry of a queue.
 pub struct Entry {
@@ -212,19 +212,6 @@ pub fn pop(q: &mut [u32], len: usize) -> Entry
     Entry { distance, tag }
 }
 
-// Zeroes the words of a queue of `len` entries.
-pub fn clear(q: &mut [u32], len: usize)
-    requires { ⌜ Queue (now q) len ⌝ }
-    ensures { λ _. ⌜ Cleared (now (q .entry)) (now (q .exit)) ⌝ }
-{
-    let end = 2 * len;
-    let mut i = 0;
-    while i < end {
-        q[i] = 0;
-        i += 1;
-    }
-}
-
 // Adds an entry to a queue of `len` entries that starts at the word `at` of a longer slice.
 pub fn push_at(s: &mut [u32], at: usize, len: usize, distance: u32, tag: u32)
     requires { ⌜ Queue (drop at (now s)) len ⌝ }
@@ -241,13 +228,4 @@ pub fn pop_at(s: &mut [u32], at: usize, len: usize) -> Entry
     ensures { λ r. ⌜ PoppedAt (now (s .entry)) (now (s .exit)) at len (keyOf (r .distance) (r .tag)) ⌝ }
 {
     pop(&mut s[at..], len)
-}
-
-// Zeroes the words of a queue of `len` entries that starts at the word `at` of a longer slice.
-pub fn clear_at(s: &mut [u32], at: usize, len: usize)
-    requires { ⌜ Queue (drop at (now s)) len ⌝ }
-    requires { ⌜ at ≤ length (now s) ⌝ }
-    ensures { λ _. ⌜ ClearedAt (now (s .entry)) (now (s .exit)) at ⌝ }
-{
-    clear(&mut s[at..], len);
 }

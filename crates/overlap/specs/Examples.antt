@@ -43,6 +43,10 @@ distances = 7 ∷ 8 ∷ 3 ∷ 10 ∷ 0 ∷ 7 ∷ 3 ∷ 10 ∷ 0 ∷ 7 ∷ 0 ∷ 
 abbrev pub star : Network
 star = network (0 ∷ 2 ∷ 3 ∷ 4 ∷ []) (1 ∷ 2 ∷ 0 ∷ 0 ∷ []) (5 ∷ 5 ∷ 5 ∷ 5 ∷ [])
 
+-- two nodes, 4 apart
+abbrev pub two : Network
+two = network (0 ∷ 1 ∷ 2 ∷ []) (1 ∷ 0 ∷ []) (4 ∷ 4 ∷ [])
+
 pub record Examples : Type 0 where
   -- 1: 'starts of 1 entry'
   pub no-1 : networkNumber (network (0 ∷ []) [] []) ≡ 1
@@ -77,6 +81,15 @@ pub record Examples : Type 0 where
       ≡ record { answer = is.Points 2 4; scratch = replicate 352 0; answers = 2 ∷ 4 ∷ 9 ∷ 9 ∷ 9 ∷ 9 ∷ [] }
   -- one word of scratch less than S
   pub short : lazyOutcome N points 0 2 (replicate 351 9) old ≡ record { answer = is.Refused 10; scratch = replicate 351 9; answers = old }
+  -- Ask 5: '12 × n entries for every k', and one word less; lazy asks S; two nodes of which one has 15 lockers: the other alone is expanded
+  pub in-72 : eagerOutcome N points 0 16 65535 (replicate 72 9) old
+      ≡ record { answer = is.Points 2 5; scratch = replicate 72 0; answers = 2 ∷ 4 ∷ 9 ∷ 9 ∷ 9 ∷ 9 ∷ [] }
+  pub in-71 : eagerOutcome N points 0 1 65535 (replicate 71 9) old ≡ record { answer = is.Refused 10; scratch = replicate 71 9; answers = old }
+  pub verify-in-72 : verifyOutcome N points 2 0 16 (replicate 72 9) ≡ record { answer = rule.Answer true; scratch = replicate 72 0 }
+  pub verify-in-71 : verifyOutcome N points 2 0 1 (replicate 71 9) ≡ record { answer = rule.Refused 10; scratch = replicate 71 9 }
+  pub lazy-in-72 : lazyOutcome N points 0 2 (replicate 72 9) old ≡ record { answer = is.Refused 10; scratch = replicate 72 9; answers = old }
+  pub in-24 : eagerOutcome two (0 ∷ 15 ∷ []) 0 3 65535 (replicate 24 9) (9 ∷ 9 ∷ [])
+      ≡ record { answer = is.Points 0 1; scratch = replicate 24 0; answers = 9 ∷ 9 ∷ [] }
   -- the first condition met: 6 before 7, 9 and 10
   pub first : lazyOutcome N (replicate 5 0) 6 0 [] [] ≡ record { answer = is.Refused 6; scratch = []; answers = [] }
   -- 'Distances from a node: n entries, NONE where none.'

@@ -60,7 +60,8 @@ fn search(
     }
 }
 
-// Clears the scratch, and searches over the part of it that either search fills: lazy-EP has rows of k places and a second queue of k A + n entries.
+// Clears the scratch, and searches over the part of it that either search fills: lazy-EP has rows of k places and a second queue of k A + n entries
+// and more.
 fn run(
     method: Method,
     starts: &[u32],

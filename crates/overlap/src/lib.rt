@@ -143,7 +143,7 @@ fn verdict_of(rule: Rule) -> Verdict
     }
 }
 
-// Verify. Lent: the network, the points and scratch of S entries with m = k. Returned: number 0 and yes or no, or 1 to 5, 6, 7, 9, 10, 11.
+// Verify. Lent: the network, the points and scratch of 12 × n entries (Ask 5). Returned: number 0 and yes or no, or 1 to 5, 6, 7, 9, 10, 11.
 // Accepted: the whole scratch is zero. Refused: nothing is written. Document 01: 'Verify: for a marked p and q, yes or no by the rule above.'
 #[no_mangle]
 pub extern "C" fn overlap_verify(
@@ -179,7 +179,7 @@ fn listing_of(answer: Listed) -> Listing
     }
 }
 
-// Eager. Lent: the network, the points, scratch of S entries with m = k, and an array for n answers. Returned: number 0, the length of the list and
+// Eager. Lent: the network, the points, scratch of 12 × n entries (Ask 5), and an array for n answers. Returned: number 0, the length of the list and
 // the nodes expanded, or 1 to 5, 6, 7, 9, 10, 12. Accepted: the answers are the listed points, ascending, then the old entries, and the whole
 // scratch is zero. Refused: nothing is written, but 12 leaves the whole scratch zero. Document 01: 'Eager (000, Fig. 4): expands outward from q,
 // stops behind a node with k points strictly nearer than q. It takes a 32-bit limit and returns the list and the count of nodes expanded.'
@@ -210,7 +210,7 @@ pub extern "C" fn overlap_eager(
     ))
 }
 
-// The short query. Lent: the network, the points, scratch of S entries with m = 1, and an array for n answers. Returned and left: as eager with k =
+// The short query. Lent: the network, the points, scratch of 12 × n entries (Ask 5), and an array for n answers. Returned and left: as eager with k =
 // 1 and limit 65,535, which no count exceeds. Document 01: 'The short query: no k and no limit; eager with k = 1 and limit 65,535.'
 #[no_mangle]
 pub extern "C" fn overlap_short_query(

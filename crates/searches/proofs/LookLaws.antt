@@ -136,7 +136,6 @@ module _ {g : Network} {P : List ℕ} {q k : ℕ} {xs : List ℕ} {v : ℕ} (c :
       looked =
           record {
             size = clear .size ∙ a .flagged .size ∙ back .size;
-            stays = λ i h m. clear .before i m ∙ a .flagged .words i h ∙ back .before i m;
             blank = record { zero = zeros };
             flags = flags-same (λ i h. clear .before i (omega arith)) (a .flagged .flags);
             grows =

@@ -1,4 +1,4 @@
--- The words when the flags and the outer area are cleared.
+-- The words when those before the found nodes and the outer area are cleared.
 -- Assumes nothing.
 use Prim.Native.Nat.{ℕ, _*_, _≤_}
 use mathlib.Core.Path.{_≡_, ap, _∙_}

@@ -1,5 +1,5 @@
 -- What eager requires and leaves. Document 01, 'What a site receives', and number 12. The lent words are: verified flags n | found flags n |
--- n words that stay 0 (for the visits of Ask 4) | found nodes n | the area of the inner expansions, 4 n | the area of the outer expansion, 4 n.
+-- n words that are kept free (Ask 4 needs them) | found nodes n | the area of the inner expansions, 4 n | the area of the outer expansion, 4 n.
 -- Assumes nothing.
 use Prim.Native.Nat.{ℕ, _+_, _*_, _≤_, _<_}
 use mathlib.Core.Path.{_≡_}

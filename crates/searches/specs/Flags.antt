@@ -1,4 +1,4 @@
--- The words in front of eager's outer area: verified flags n | found flags n | n words that stay (for the visits of Ask 4) | found nodes n
+-- The words in front of eager's outer area: verified flags n | found flags n | n words that are kept free | found nodes n
 -- | the area of the inner expansions, 4 n. What the functions over them require and leave. The flags of node p are the words p and n + p.
 -- (No sentence of document 01: the answers of the searches are network's definitions.)
 -- Assumes nothing.
@@ -81,7 +81,6 @@ pub record CanLook (g : Network) (P : List ℕ) (q k : ℕ) (xs : List ℕ) (v :
 -- then each listed point among the first k lockers that are nearer to v than l has its found flag. r is how many there are, cut at k
 pub record Looked (g : Network) (P : List ℕ) (q k : ℕ) (xs ys : List ℕ) (v l r : ℕ) : Type 0 where
   pub size : length ys ≡ length xs
-  pub stays : (i : ℕ) → flagsEnd g ≤ i → i < idsBase g → getD ys i 0 ≡ getD xs i 0
   pub blank : Blank ys (idsBase g)
   pub flags : Flags g P q k ys
   pub grows : Grows g xs ys

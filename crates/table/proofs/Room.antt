@@ -1,4 +1,4 @@
--- What a queue has room for: the entries, with the arcs that are not yet followed, are no more than the arcs and one.
+-- The arcs of the nodes that pass a test: how many they are when a node passes no more, and no more than all. Remove's queue has room by them.
 -- Assumes nothing.
 use Prim.Native.Nat.{ℕ, zero, suc, _+_, _≤_, _<_}
 use mathlib.Core.Path.{_≡_, refl}

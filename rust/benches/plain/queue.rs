@@ -1,5 +1,6 @@
-//! A binary heap in lent words, with the least entry first. An entry is two words, a distance and a
-//! tag of two numbers below 65,536.
+//! A binary heap in lent words, with the least entry first. An entry is two words, a tag of two
+//! numbers below 65,536 and a distance: those of its key, the lower one first, as the engine has
+//! them.
 
 #[derive(Clone, Copy)]
 pub struct Entry {
@@ -38,14 +39,14 @@ impl Entry {
 
     pub fn read(words: &[u32], index: usize) -> Self {
         Self {
-            distance: words[2 * index],
-            tag: words[2 * index + 1],
+            tag: words[2 * index],
+            distance: words[2 * index + 1],
         }
     }
 
     pub fn write(self, words: &mut [u32], index: usize) {
-        words[2 * index] = self.distance;
-        words[2 * index + 1] = self.tag;
+        words[2 * index] = self.tag;
+        words[2 * index + 1] = self.distance;
     }
 }
 
@@ -114,7 +115,7 @@ impl<'a> Queue<'a> {
 
     /// The least distance that waits.
     pub fn least(&self) -> Option<u32> {
-        (self.length > 0).then(|| self.words[0])
+        (self.length > 0).then(|| self.words[1])
     }
 
     pub fn push(&mut self, entry: Entry) {

@@ -1,5 +1,5 @@
 -- `expansion::nearest::find` meets its contract. The loop's invariant: the area is that of an expansion under way (`Progress`), and the first words hold
--- the first points in order, the nodes of which are settled (`Finding`). The measure is the number of nodes that are not settled.
+-- the found nodes in order, which are settled (`Finding`). The measure is the number of nodes that are not settled.
 -- Assumes nothing.
 use mathlib.Core.Path.{refl, _≡_, _∙_}
 use mathlib.Core.Logic.{inl}
@@ -67,7 +67,7 @@ place c = c .before .before .before .before .before .before .loop-test .taken
 near : (c : tie.After-open Inv-loop μ-loop) → taken-of c .taken .given .0 .0 < start-of (loop-of (taken-of c)) .args .e
 near c = c .before .before .before .before .before .before .if1 .left
 
--- the found points have their room
+-- the found nodes have their room
 roomy : (c : tie.After-open Inv-loop μ-loop) → start-of (loop-of (taken-of c)) .args .b ≤ length (c .«open» .last .1 .1 .1 .0)
 roomy c =
     let t = taken-of c in
@@ -115,33 +115,41 @@ enum-known-taken c = search needs
 enum-told : tie.Need-enum-told Inv-loop μ-loop
 enum-told c = search needs
 
+ended-requires : tie.Need-ended-requires Inv-loop μ-loop
+ended-requires c κs = search needs
+
 same-length : tie.Need-same-length Inv-loop μ-loop
 same-length c = search needs
 
 returns : tie.Need-returns Inv-loop μ-loop
 returns c =
-    let n = c .before .before .before .before in
+    let n = c .before .before .before .before .before in
     let l = n .before .before .before in
     let s = start-of l in
-    let t = rw (c .enum-told .given .1) at (n .next .ensures) in
+    let t = rw (c .before .enum-told .given .1) at (n .next .ensures) in
     let r = found-emptied (s .pre .expand .accepted) (s .pre .few) (l .loop .inv .3) (l .loop .inv .1) (l .loop .inv .2) (t .0) (omega (arith, s .fits .e)) in
-    rw (t .1)
+    rw (c .ended .ensures)
+    (rw (t .1)
     (record {
       size = l .loop .inv .0 ∙ l .before .before .before .start .ensures .frame .size;
       found-in = r .0;
       labels = r .1;
       area = rw (t .0) at (l .loop .inv .1 .area);
-    })
+    }))
+
+ended-requires-2 : tie.Need-ended-requires-2 Inv-loop μ-loop
+ended-requires-2 c κs = search needs
 
 same-length-2 : tie.Need-same-length-2 Inv-loop μ-loop
 same-length-2 c = search needs
 
 returns-2 : tie.Need-returns-2 Inv-loop μ-loop
 returns-2 c =
-    let t = c .before .before in
+    let t = c .before .before .before in
     let l = loop-of t in
     let s = start-of l in
-    let r = found-far (s .pre .expand .accepted) (s .pre .few) (l .loop .inv .3) (l .loop .inv .1) (l .loop .inv .2) (took t) (c .if1 .taken) in
+    let r = found-far (s .pre .expand .accepted) (s .pre .few) (l .loop .inv .3) (l .loop .inv .1) (l .loop .inv .2) (took t) (c .before .if1 .taken) in
+    rw (c .ended2 .ensures)
     record {
       size = took t .popped .frame .size ∙ l .loop .inv .0 ∙ l .before .before .before .start .ensures .frame .size;
       found-in = r .0;
@@ -201,15 +209,19 @@ loop-again c =
       omega (arith, l .loop .inv .4, c .add .ensures .1),
     )
 
+ended-requires-3 : tie.Need-ended-requires-3 Inv-loop μ-loop
+ended-requires-3 c κs = search needs
+
 same-length-3 : tie.Need-same-length-3 Inv-loop μ-loop
 same-length-3 c = search needs
 
 returns-3 : tie.Need-returns-3 Inv-loop μ-loop
 returns-3 c =
-    let l = c .before in
+    let l = c .before .before in
+    rw (c .ended3 .ensures)
     record {
       size = l .loop .inv .0 ∙ l .before .before .before .start .ensures .frame .size;
-      found-in = found-when (l .loop .inv .2) (found-nodes (start-of l .pre .expand .accepted) (start-of l .pre .few) (l .loop .inv .3) (l .loop .inv .1) (l .loop .inv .2)) (inl (c .loop-test .left));
+      found-in = found-when (l .loop .inv .2) (found-nodes (start-of l .pre .expand .accepted) (start-of l .pre .few) (l .loop .inv .3) (l .loop .inv .1) (l .loop .inv .2)) (inl (c .before .loop-test .left));
       labels = labels-when (l .loop .inv .2);
       area = l .loop .inv .1 .area;
     }
@@ -226,8 +238,10 @@ find-spec =
     next-requires
     enum-known-taken
     enum-told
+    ended-requires
     same-length
     returns
+    ended-requires-2
     same-length-2
     returns-2
     settle-requires
@@ -237,5 +251,6 @@ find-spec =
     add-requires
     loop-less
     loop-again
+    ended-requires-3
     same-length-3
     returns-3)

@@ -1,5 +1,5 @@
--- `expansion::nearest::nearest` meets its contract: the search finds the nodes of the answer, they are written out, and its area and the words of the found nodes
--- are cleared.
+-- `expansion::nearest::nearest` meets its contract: the search finds the nodes of the answer, they are written out, and its area and the words of the
+-- found nodes are cleared.
 -- Assumes nothing.
 use mathlib.Core.Path.{sym, refl}
 use Rattle.expansion.proofs.Beside.{area-beside}

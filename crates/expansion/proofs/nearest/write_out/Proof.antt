@@ -1,5 +1,5 @@
--- `expansion::nearest::write_out` meets its contract. The loop's invariant: the first i nodes are written out, and the next is written where they end. The measure is
--- what is left of them.
+-- `expansion::nearest::write_out` meets its contract. The loop's invariant: the first i nodes are written out, and the next is written where they end. The
+-- measure is what is left of them.
 -- Assumes nothing.
 use Prim.Native.Nat.{ℕ, _+_, _-_, _*_, _≤_, _<_, min}
 use mathlib.Core.Path.{_≡_, ap, _∙_}

@@ -1,4 +1,4 @@
--- `searches::eager::wipe` meets its contract: the area is cleared, and the flags, and the words between them are 0.
+-- `searches::eager::wipe` meets its contract: the area is cleared, and the words before the found nodes, and those between them are 0.
 -- Assumes nothing.
 use mathlib.Core.Path.{sym}
 use Rattle.searches.proofs.Wiping.{flags-length, wiped-all}
