@@ -5,7 +5,9 @@ use crate::network_n::WEIGHTS;
 use crate::rows::put_row;
 use crate::text::put;
 use crate::text::put_answer;
+use crate::text::put_list;
 use crate::text::put_number;
+use network::arcs::wide;
 use overlap::Listing;
 
 // A limit that no count exceeds.
@@ -23,16 +25,28 @@ fn show_search(listing: Listing, answers: &[u32; 6]) {
     if listing.number == 0 {
         put_number(b"; expanded ", listing.count);
     }
+}
+
+// The nodes that eager expanded, in the order of its visits; a refused call counts none.
+fn show_visits(count: u32, visits: &[u32; 6]) {
+    if 0 < count {
+        put(b" (");
+        put_list(visits, wide(count));
+        put(b")");
+    }
     put(b"\n");
 }
 
 fn show_eager(name: &[u8], weights: &[u32; 10], points: &[u8; 6], q: u32, k: u32, limit: u32) {
     let mut answers = [0; 6];
-    let listing = network_n::eager(weights, points, q, k, limit, &mut answers);
+    let mut visits = [0; 6];
+    let listing = network_n::eager(weights, points, q, k, limit, &mut answers, &mut visits);
+    let count = listing.count;
     put(name);
     put_number(b"site ", q);
     put_number(b", k ", k);
     show_search(listing, &answers);
+    show_visits(count, &visits);
 }
 
 fn show_on_n(name: &[u8], q: u32, k: u32, limit: u32) {
@@ -44,9 +58,10 @@ fn show_short_query(q: u32) {
     let listing = network_n::short_query(q, &mut answers);
     put_number(b"       short query, site ", q);
     show_search(listing, &answers);
+    put(b"\n");
 }
 
-// P1 to P7: the lists of eager and the nodes that it expanded.
+// P1 to P7: the lists of eager and the nodes that it expanded; and a site that two junctions are equally far from.
 pub fn show_searches() {
     put(b"Cases of document 01\n");
     show_on_n(b"  P1   ", 0, 1, NO_LIMIT);
@@ -58,6 +73,7 @@ pub fn show_searches() {
     show_on_n(b"  P4   ", 2, 1, NO_LIMIT);
     show_on_n(b"  P5   ", 5, 1, NO_LIMIT);
     show_eager(b"  P6   no lockers, ", &WEIGHTS, &NO_POINTS, 0, 1, NO_LIMIT);
+    show_eager(b"       no lockers, ", &WEIGHTS, &NO_POINTS, 2, 1, NO_LIMIT);
     show_eager(b"  P7   road 2-4 of 6, ", &LIGHTER, &POINTS, 0, 1, NO_LIMIT);
 }
 

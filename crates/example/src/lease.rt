@@ -55,7 +55,8 @@ fn agree(
 
 fn show_lease(q: u32, k: u32, ids: &[u32; 18], distances: &[u32; 18]) {
     let mut answers = [0; 6];
-    let listing = network_n::eager(&WEIGHTS, &POINTS, q, k, 65535, &mut answers);
+    let mut visits = [0; 6];
+    let listing = network_n::eager(&WEIGHTS, &POINTS, q, k, 65535, &mut answers, &mut visits);
     put_number(b"  a site at junction ", q);
     put_number(b", k ", k);
     put(b": overflow rent to ");

@@ -67,6 +67,7 @@ pub fn eager(
     k: u32,
     limit: u32,
     answers: &mut [u32; 6],
+    visits: &mut [u32; 6],
 ) -> Listing {
     let mut scratch = [0; EAGER_SCRATCH];
     overlap::overlap_eager(
@@ -79,6 +80,7 @@ pub fn eager(
         limit,
         &mut scratch,
         answers,
+        visits,
     )
 }
 

@@ -42,7 +42,16 @@ pub fn show_networks() {
 // 6, 7 and 9: N with a byte 16, node 6, and K = 2 with k = 2.
 pub fn show_arguments() {
     let mut answers = [0; 6];
-    let byte = network_n::eager(&WEIGHTS, &[0, 0, 16, 0, 1, 1], 0, 1, 65535, &mut answers);
+    let mut visits = [0; 6];
+    let byte = network_n::eager(
+        &WEIGHTS,
+        &[0, 0, 16, 0, 1, 1],
+        0,
+        1,
+        65535,
+        &mut answers,
+        &mut visits,
+    );
     show(b"  N, byte 16", byte.number);
     show(b"  N, node 6", network_n::distances(6, &mut answers));
     show_short_ids();
@@ -94,6 +103,7 @@ pub fn show_last() {
     let update = network_n::remove(&mut points, 0, &mut ids, &mut distances);
     show(b"  N, remove 0", update.number);
     let mut answers = [0; 6];
-    let listing = network_n::eager(&WEIGHTS, &POINTS, 0, 2, 3, &mut answers);
+    let mut visits = [0; 6];
+    let listing = network_n::eager(&WEIGHTS, &POINTS, 0, 2, 3, &mut answers, &mut visits);
     show(b"  N, q = 0, k = 2, limit 3", listing.number);
 }

@@ -98,7 +98,7 @@ moved-trans p q =
       others = λ v h l. q .others v h (p .others v h l);
     }
 
--- the least entry is taken
+-- an entry is taken
 module _ {n : ℕ} {xs ys : List ℕ} {b len key : ℕ} (q : NodeQueue n xs b (queueBase n b) len) (p : PoppedNode n xs ys b (queueBase n b) len key) where
   pub popped-moved : Moved n xs ys b
   popped-moved =

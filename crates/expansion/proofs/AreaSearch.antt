@@ -118,11 +118,14 @@ module _ {g : Network} (ok : Accepted g) {s : Origin} {Open Seen : ℕ → Type 
               (λ k. let q = held-same ok m l (h .inside) (h .from) (t .inside) (t .tagged) k in waits m (omega arith) (inr (q .1, q .0)))
               (t .popped .popped .kept (keyOf m (tagOf x (h .parent))) (h .holds))
 
+      -- each entry that waits comes at or after the one that is taken, by label and then by node
+      pub took-first : (x m : ℕ) → AndOne (nodeCount g) ys b left v l x m → (l < m) ⊎ ((l ≡ m) × (v ≤ x))
+      took-first x m (inl h) =
+          t .first x m (record { parent = h .parent; inside = h .inside; from = h .from; holds = left-holds (keyOf m (tagOf x (h .parent))) (h .holds) })
+      took-first x m (inr q) = inr (sym (q .1), omega (arith, q .0))
+
       pub took-least : (x m : ℕ) → AndOne (nodeCount g) ys b left v l x m → l ≤ m
-      took-least x m (inl h) =
-          key-distance l (tagOf v p) m (tagOf x (h .parent)) (tag-fits x (h .parent) (small ok (h .inside)) (small ok (h .from)))
-          (t .popped .popped .least (keyOf m (tagOf x (h .parent))) (left-holds (keyOf m (tagOf x (h .parent))) (h .holds)))
-      took-least x m (inr q) = omega arith
+      took-least x m h = ⊎-elim (λ a. omega arith) (λ a. omega arith) (took-first x m h)
 
       pub took-new : (m : ℕ) → LabelAt (nodeCount g) ys b v m → ⊥
       took-new m h = omega (arith, h .is, took-word)

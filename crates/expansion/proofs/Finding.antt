@@ -1,40 +1,32 @@
--- The lockers that an expansion has found: the first of all that are nearer to s than e, in order. An entry that leaves the queue comes after every
--- settled node, so the lockers of a node that it settles are the next of them; and where no entry nearer than e waits, none is left.
+-- The lockers that an expansion has found: the first of all that are nearer to s than e, in order. They come in turn (Turns.antt); and where no entry
+-- nearer than e waits, none is left.
 -- Assumes nothing.
 use Prim.Native.Nat.{ℕ, zero, suc, _+_, _≤_, _<_, min}
 use mathlib.Core.Path.{_≡_, refl, sym, ap, _∙_}
-use mathlib.Core.Bool.{true}
-use mathlib.Core.Logic.{_≢_, _⊎_, inl, inr, ⊎-elim}
-use mathlib.Core.List.{List, List·Memᴰ, List·Memᴰ·not-nil, Memᴰ·cast}
+use mathlib.Core.Logic.{_≢_, _⊎_, inl, ⊎-elim}
+use mathlib.Core.List.{List, List·Memᴰ}
 use native.Mathlib.Decide.{ℕ-discrete, decLt}
 use native.Mathlib.Numerals.{add-one}
 use native.Mathlib.Omega.{arith}
-use borrow.Author.Tests.{lt-ltb, ltb-true}
-use lib.ListN.{length, getD, set, take, length-set, length-take}
+use lib.ListN.{length, getD, set, length-set, length-take}
 use lib.Seq.{getD-take, getD-set-same, getD-set-other}
 use Rattle.network.specs.Network.{Network, nodeCount, neighboursOf}
 use Rattle.network.specs.Accepted.{Accepted}
 use Rattle.network.specs.Distance.{NONE, dist}
-use Rattle.network.specs.Points.{lockers, marked}
-use Rattle.network.specs.Nearest.{key, byDistance, nearest, before, Nearer}
+use Rattle.network.specs.Points.{lockers}
+use Rattle.network.specs.Nearest.{nearest, before}
 use Rattle.network.proofs.Counts.{member-at}
-use Rattle.network.proofs.Ordered.{below, below-most, key-pair}
-use Rattle.network.proofs.Rank.{key-order, passes-nearer, before-is, before-step}
-use Rattle.network.proofs.Rows.{by-below, by-only, all-ordered, all-small}
-use Rattle.expansion.specs.Queue.{keyOf}
-use Rattle.expansion.specs.Tags.{tagOf}
 use Rattle.expansion.specs.Area.{LabelAt, Kept, Blank, Wiped, Moved, Took, Followed}
 use Rattle.expansion.specs.Found.{tallied, Noted, FoundIn, FindLeft, NodesLeft}
 use Rattle.expansion.specs.declared.nearest.Near.{Near}
 use Rattle.expansion.specs.declared.nearest.Search.{Search}
 use Rattle.expansion.proofs.Origins.{one}
-use Rattle.expansion.proofs.Search.{settled-before}
-use Rattle.expansion.proofs.Steps.{Marks}
 use Rattle.expansion.proofs.AreaLaws.{settledAs}
-use Rattle.expansion.proofs.AreaSearch.{AndOne, small, label-on, label-back, took-area, took-word, took-moved, took-waited, took-exact, search-took, search-finished, settle-marks}
+use Rattle.expansion.proofs.AreaSearch.{label-on, label-back, took-moved, took-exact, search-finished}
 use Rattle.expansion.proofs.Progress.{All, all-leads, Progress, took-small, took-place, frame-settled}
-use Rattle.expansion.proofs.Beside.{Beside, label-at-beside, beside-label-at}
-use Rattle.expansion.proofs.FoundLaws.{at-above, at-below, place-own, first-in, in-first}
+use Rattle.expansion.proofs.Beside.{Beside}
+use Rattle.expansion.proofs.Places.{first-in}
+use Rattle.expansion.proofs.Turns.{inOrder, InTurn, turn-start, turn-beside, turn-all, turn-earlier, turn-other, turn-point, turn-next}
 
 -- ---- Tallies.
 
@@ -78,15 +70,9 @@ tallied-on P xs (suc found) j h =
       | no n ↦ record { index = found; low = omega arith; from = omega arith; to = h }
     ]
 
--- all lockers nearer to s than e, by distance and then by node
-abbrev pub inOrder : Network → List ℕ → ℕ → ℕ → List (ℕ × ℕ)
-inOrder g P s e = byDistance g P s e (nodeCount g)
-
--- The first words hold the found nodes, and 0 behind these. Their lockers, in order and cut at k, are the first `tally` of all; they are settled, and
--- a settled node has all its lockers among them, or k are found.
+-- The first words hold the found nodes, and 0 behind these. Their lockers, in order and cut at k, are the first `tally` of all, which come in turn.
 pub record Finding (g : Network) (P : List ℕ) (s e k : ℕ) (xs : List ℕ) (b found tally : ℕ) : Type 0 where
   pub low : tally ≤ k
-  pub full : tally ≤ length (inOrder g P s e)
   pub few : found ≤ tally
   pub sum : tally ≡ min k (tallied P xs found)
   pub early : (i : ℕ) → i < found → tallied P xs i < k
@@ -95,22 +81,19 @@ pub record Finding (g : Network) (P : List ℕ) (s e k : ℕ) (xs : List ℕ) (b
       (i j : ℕ) → i < found → tallied P xs i ≤ j → j < tallied P xs (suc i) → j < k
       → getD (inOrder g P s e) j (0, 0) ≡ (getD xs i 0, dist g s (getD xs i 0))
   pub rest : (j : ℕ) → found ≤ j → j < b → getD xs j 0 ≡ 0
-  pub settled : (v l : ℕ) → LabelAt (nodeCount g) xs b v l → marked P v ≡ true → min k (below (suc (key (v, dist g s v))) (inOrder g P s e)) ≤ tally
-  pub only : (v l : ℕ) → List·Memᴰ (v, l) (take tally (inOrder g P s e)) → LabelAt (nodeCount g) xs b v l
+  pub turn : InTurn g P s e k xs b tally
 
 pub finding-start : {g : Network} {P : List ℕ} {s e k b : ℕ} {xs ys : List ℕ} → Blank xs 0 → Moved (nodeCount g) xs ys b → Finding g P s e k ys b 0 0
 finding-start {g} {P} {b = b} {xs = xs} {ys = ys} blank t =
     record {
       low = omega arith;
-      full = omega arith;
       few = omega arith;
       sum = omega (arith, tallied-none P ys);
       early = λ i h. absurd (omega arith);
       some = λ i h. absurd (omega arith);
       run = λ i j h. absurd (omega arith);
       rest = λ j h l. t .before j l ∙ blank .zero j (omega arith);
-      settled = λ v l h m. absurd (omega (arith, label-back t v l h .is, blank .zero (b + v) (omega arith)));
-      only = λ v l m. absurd (List·Memᴰ·not-nil m);
+      turn = turn-start (λ v l h. omega (arith, label-back t v l h .is, blank .zero (b + v) (omega arith)));
     }
 
 -- the answer, once k are found, or all; and their labels
@@ -119,7 +102,7 @@ module _ {g : Network} {P : List ℕ} {s e k b found tally : ℕ} {xs : List ℕ
   unfolding nearest
   found-when many all =
       record {
-        count = rw (length-take k (inOrder g P s e)) (⊎-elim (λ a. omega (arith, w .low, w .full)) (λ a. omega (arith, w .low, w .full)) all);
+        count = rw (length-take k (inOrder g P s e)) (⊎-elim (λ a. omega (arith, w .low, w .turn .full)) (λ a. omega (arith, w .low, w .turn .full)) all);
         sum = w .sum;
         few = omega (arith, w .few, w .low);
         early = w .early;
@@ -134,7 +117,7 @@ module _ {g : Network} {P : List ℕ} {s e k b found tally : ℕ} {xs : List ℕ
       let c : j < tallied P xs (suc i) = omega (arith, tallied-next P xs i, w .some i h) in
       let l : j < tally = omega (arith, w .sum, w .early i h, c, tallied-mono P xs (suc i) found (omega arith)) in
       let z = w .run i j h (omega arith) c (w .early i h) in
-      w .only (getD xs i 0) (dist g s (getD xs i 0)) (rw z at (first-in tally (inOrder g P s e) j l (omega (arith, w .full))))
+      w .turn .only (getD xs i 0) (dist g s (getD xs i 0)) (rw z at (first-in tally (inOrder g P s e) j l (omega (arith, w .turn .full))))
 
 -- what is found, with its labels
 abbrev pub Answered : Network → List ℕ → ℕ → ℕ → ℕ → List ℕ → ℕ → ℕ → ℕ → Type 0
@@ -206,63 +189,27 @@ module _ {g : Network} (ok : Accepted g) {P : List ℕ} {s e k b found tally : �
   pub found-nodes : found ≤ nodeCount g
   found-nodes = omega (arith, many, p .area .counted)
 
-  -- every locker that is nearer than e is on a settled node: all are found
-  found-all : ((x : ℕ) → Nearer g P s e x → LabelAt (nodeCount g) xs b x (dist g s x)) → (k ≤ tally) ⊎ (length (inOrder g P s e) ≤ tally)
-  found-all h =
-      elim (decLt tally k) [
-        | no n ↦ inl (omega arith)
-        | yes a ↦
-            elim (decLt tally (length (inOrder g P s e))) [
-              | no n ↦ inr (omega arith)
-              | yes c ↦
-                  let y = getD (inOrder g P s e) tally (0, 0) in
-                  let r = by-only g P s e (nodeCount g) y (member-at (0, 0) (inOrder g P s e) tally c) in
-                  let q = passes-nearer (r .low) (r .passes) in
-                  absurd
-                  (omega (
-                    arith,
-                    place-own (inOrder g P s e) (all-ordered g P s e) tally c,
-                    w .settled (y .0) (dist g s (y .0)) (h (y .0) q) (q .point),
-                    ap (λ d. below (suc (key (y .0, d))) (inOrder g P s e)) (r .far),
-                  ))
-            ]
-      ]
-
-  -- so it is where no entry waits
+  -- all are found where no entry waits
   pub found-emptied : len ≡ 0 → e ≤ NONE → Answered g P s e k xs b found tally
   found-emptied z h =
-      let all = found-all (λ x q. search-finished ok (p .area) (p .searched) z (all-leads ok s) x tt (omega (arith, q .less))) in
+      let all = turn-all (w .turn) (λ x q. search-finished ok (p .area) (p .searched) z (all-leads ok s) x tt (omega (arith, q .less))) in
       (found-when w found-nodes all, labels-when w)
 
   module _ {ys : List ℕ} {left l v u : ℕ} (t : Took (nodeCount g) xs ys b len left l v u) where
-    moved : Moved (nodeCount g) xs ys b
-    moved = took-moved ok (p .area) (p .searched) t
-
     exact : l ≡ dist g s v
     exact = took-exact ok (p .area) (p .searched) t (all-leads ok s) tt
 
-    low-label : l + 65535 ≤ 4294836225
-    low-label = took-small ok p t
+    moved : Moved (nodeCount g) xs ys b
+    moved = took-moved ok (p .area) (p .searched) t
 
-    -- each entry that waits comes at or after the one that is taken
-    first : (x m : ℕ) → AndOne (nodeCount g) ys b left v l x m → (l < m) ⊎ ((l ≡ m) × (v ≤ x))
-    first x m (inl h) =
-        let c = t .popped .popped .least (keyOf m (tagOf x (h .parent))) (t .popped .popped .old (keyOf m (tagOf x (h .parent))) (rw (t .fewer) at (h .holds))) in
-        let d = small ok (h .inside) in
-        let f = small ok (h .from) in
-        elim (decLt l m) [ yes y ↦ inl y | no y ↦ inr (omega arith, omega arith) ]
-    first x m (inr q) = inr (sym (q .1), omega (arith, q .0))
-
-    -- a node that comes before it is settled
+    -- the laws of the turns, where every node is seen
     earlier : (x : ℕ) → dist g s x ≢ NONE → (dist g s x < l) ⊎ ((dist g s x ≡ l) × (x < v)) → LabelAt (nodeCount g) xs b x (dist g s x)
-    earlier x n h =
-        label-back moved x (dist g s x)
-        (settled-before ok (all-leads ok s) (search-took ok (p .area) (p .searched) t) l v first x tt n h)
+    earlier x n h = turn-earlier ok (all-leads ok s) (λ x q. tt) p (w .turn) t x tt n h
 
     -- so it is where the one that is taken is no nearer than e
     pub found-far : e ≤ l → Answered g P s e k ys b found tally
     found-far h =
-        let all = found-all (λ x q. earlier x (omega (arith, q .less, low-label)) (inl (omega (arith, q .less)))) in
+        let all = turn-all (w .turn) (λ x q. earlier x (omega (arith, q .less, took-small ok p t)) (inl (omega (arith, q .less)))) in
         let same : Kept xs ys b = record { size = moved .size; words = moved .before } in
         let a = found-when w found-nodes all in (
           found-kept few a same,
@@ -270,71 +217,6 @@ module _ {g : Network} (ok : Accepted g) {P : List ℕ} {s e k b found tally : �
               rw (same .words i (omega (arith, a .few, c)))
               (label-on moved (getD xs i 0) (dist g s (getD xs i 0)) (labels-when w i c)),
         )
-
-    -- its lockers are the next
-    module _ (mark : 0 < lockers P v) (near : l < e) (place : tally < k) where
-      marks-it : marked P v ≡ true
-      marks-it = lt-ltb 0 (lockers P v) mark
-
-      nearer : Nearer g P s e v
-      nearer = record { inside = t .inside; point = marks-it; less = omega (arith, exact) }
-
-      -- as many come before it, and as many at or before it
-      up-to : (m : ℕ) → below m (inOrder g P s e) ≡ before g P s e m
-      up-to m = by-below g P s e m (nodeCount g) ∙ sym (before-is g P s e m)
-
-      step : below (suc (key (v, l))) (inOrder g P s e) ≡ below (key (v, l)) (inOrder g P s e) + lockers P v
-      step =
-          let q = before-step ok P s e v nearer in
-          let z = ap (λ d. key (v, d)) exact in
-          omega (arith, up-to (suc (key (v, l))), up-to (key (v, l)), q, ap (λ n. before g P s e (suc n)) z, ap (λ n. before g P s e n) z)
-
-      stands-at : (j : ℕ) → below (key (v, l)) (inOrder g P s e) ≤ j → j < below (suc (key (v, l))) (inOrder g P s e) → getD (inOrder g P s e) j (0, 0) ≡ (v, l)
-      stands-at j a b =
-          let i : j < length (inOrder g P s e) = omega (arith, b, below-most (suc (key (v, l))) (inOrder g P s e)) in
-          let y = getD (inOrder g P s e) j (0, 0) in
-          key-pair y (v, l) (all-small ok P s e y (member-at (0, 0) (inOrder g P s e) j i)) (omega (arith, t .inside, ok .few))
-          (omega (
-            arith,
-            at-below (key (v, l)) (inOrder g P s e) (all-ordered g P s e) j i a,
-            at-above (suc (key (v, l))) (inOrder g P s e) (all-ordered g P s e) j b,
-          ))
-
-      -- what comes before it is settled, and found
-      no-fewer : below (key (v, l)) (inOrder g P s e) ≤ tally
-      no-fewer =
-          elim (decLt tally (below (key (v, l)) (inOrder g P s e))) [
-            | no n ↦ omega arith
-            | yes b ↦
-                let i : tally < length (inOrder g P s e) = omega (arith, b, below-most (key (v, l)) (inOrder g P s e)) in
-                let y = getD (inOrder g P s e) tally (0, 0) in
-                let r = by-only g P s e (nodeCount g) y (member-at (0, 0) (inOrder g P s e) tally i) in
-                let q = passes-nearer (r .low) (r .passes) in
-                let o = key-order (y .0) (y .1) v l (omega (arith, r .low, ok .few)) (omega (arith, ok .few, t .inside)) .0 (at-above (key (v, l)) (inOrder g P s e) (all-ordered g P s e) tally b) in
-                let n : dist g s (y .0) ≢ NONE = ⊎-elim (λ a. omega (arith, r .far, low-label)) (λ a. omega (arith, r .far, low-label)) o in
-                absurd
-                (omega (
-                  arith,
-                  place-own (inOrder g P s e) (all-ordered g P s e) tally i,
-                  w .settled (y .0) (dist g s (y .0)) (earlier (y .0) n (rw (r .far) at o)) (q .point),
-                  ap (λ d. below (suc (key (y .0, d))) (inOrder g P s e)) (r .far),
-                ))
-          ]
-
-      -- and nothing else is, as it is new
-      no-more : tally ≤ below (key (v, l)) (inOrder g P s e)
-      no-more =
-          elim (decLt (below (key (v, l)) (inOrder g P s e)) tally) [
-            | no n ↦ omega arith
-            | yes b ↦
-                let j = below (key (v, l)) (inOrder g P s e) in
-                let z = stands-at j (omega arith) (omega (arith, step, mark)) in
-                let m = first-in tally (inOrder g P s e) j b (omega (arith, b, w .full)) in
-                absurd (omega (arith, w .only v l (rw z at m) .is, took-waited ok (p .area) (p .searched) t))
-          ]
-
-      pub all-before : below (key (v, l)) (inOrder g P s e) ≡ tally
-      all-before = omega (arith, no-fewer, no-more)
 
     -- it is settled, and its arcs are followed: what is found then
     module _ {ws : List ℕ} {more : ℕ} (f : Followed g (settledAs (nodeCount g) ys b settled v l) ws b left more v l (length (neighboursOf g v)))
@@ -349,16 +231,6 @@ module _ {g : Network} (ok : Accepted g) {P : List ℕ} {s e k b found tally : �
       pub noted-place : found < b
       noted-place = omega (arith, w .few, place, many, took-place ok p t, few)
 
-      marks : Marks (LabelAt (nodeCount g) ys b) (LabelAt (nodeCount g) ws b) v l
-      marks = settle-marks ok (took-area ok (p .area) (p .searched) t) l (t .inside) (took-word ok (p .area) (p .searched) t) (f .frame)
-
-      -- the settled nodes are those before, and v
-      label-new : (x m : ℕ) → LabelAt (nodeCount g) xs b x m → LabelAt (nodeCount g) ws b x m
-      label-new x m h = marks .kept x m (label-on moved x m h)
-
-      label-old : (x m : ℕ) → LabelAt (nodeCount g) ws b x m → LabelAt (nodeCount g) xs b x m ⊎ (x ≡ v)
-      label-old x m h = ⊎-elim (λ a. inl (label-back moved x m a)) (λ a. inr (a .0)) (marks .old x m h)
-
       word : (i : ℕ) → i < found → getD ws i 0 ≡ getD xs i 0
       word i h = frame .words i (omega (arith, noted-place))
 
@@ -369,29 +241,16 @@ module _ {g : Network} (ok : Accepted g) {P : List ℕ} {s e k b found tally : �
       finding-other none =
           record {
             low = w .low;
-            full = w .full;
             few = w .few;
             sum = rw (total found (omega arith)) (w .sum);
             early = λ i h. rw (total i (omega arith)) (w .early i h);
             some = λ i h. rw (word i h) (w .some i h);
             run = λ i j h a c d. rw (word i h) (w .run i j h (rw (total i (omega arith)) at a) (rw (total (suc i) (omega arith)) at c) d);
             rest = λ j h a. frame .words j a ∙ w .rest j h a;
-            settled =
-                λ x m h y.
-                ⊎-elim
-                (λ a. w .settled x m a y)
-                (λ q. absurd (omega (arith, none, ltb-true 0 (lockers P x) y, ap (λ (z : ℕ). lockers P z) q)))
-                (label-old x m h);
-            only = λ x m h. label-new x m (w .only x m h);
+            turn = turn-other ok (all-leads ok s) (λ x q. tt) p (w .turn) t (f .frame) none;
           }
 
       module _ (mark : 0 < lockers P v) {r : ℕ} (count : r ≡ min k (tally + lockers P v)) where
-        here : below (key (v, l)) (inOrder g P s e) ≡ tally
-        here = all-before mark near place
-
-        last : below (suc (key (v, l))) (inOrder g P s e) ≡ tally + lockers P v
-        last = omega (arith, here, step mark near place)
-
         beside : Beside ws (set ws found v) b
         beside = point-beside ws b found v noted-place noted-size
 
@@ -417,7 +276,6 @@ module _ {g : Network} (ok : Accepted g) {P : List ℕ} {s e k b found tally : �
         finding-point =
             record {
               low = omega (arith, count);
-              full = omega (arith, count, last, below-most (suc (key (v, l))) (inOrder g P s e));
               few = omega (arith, count, w .few, place, mark);
               sum = omega (arith, count, total-new);
               early =
@@ -434,32 +292,7 @@ module _ {g : Network} (ok : Accepted g) {P : List ℕ} {s e k b found tally : �
                   ];
               run = run;
               rest = λ j h a. same j (omega arith) ∙ frame .words j a ∙ w .rest j (omega arith) a;
-              settled =
-                  λ x m h y.
-                  ⊎-elim
-                  (λ a. omega (arith, w .settled x m a y, count))
-                  (λ q.
-                  omega (
-                    arith,
-                    last,
-                    count,
-                    ap (λ i. below (suc (key (i, dist g s i))) (inOrder g P s e)) q,
-                    ap (λ d. below (suc (key (v, d))) (inOrder g P s e)) exact,
-                  ))
-                  (label-old x m (beside-label-at beside h));
-              only =
-                  λ x m h.
-                  let i = in-first r (inOrder g P s e) (x, m) h in
-                  label-at-beside beside
-                  (elim (decLt (i .index) tally) [
-                    | yes a ↦
-                        label-new x m (w .only x m (Memᴰ·cast (i .is) (first-in tally (inOrder g P s e) (i .index) a (i .inside))))
-                    | no a ↦
-                        let z = i .is ∙ stands-at mark near place (i .index) (omega (arith, here)) (omega (arith, last, count, i .low)) in
-                        let u : x ≡ v = ap (λ (z : ℕ × ℕ). z .0) z in
-                        let b : m ≡ l = ap (λ (z : ℕ × ℕ). z .1) z in
-                        rw (u, b) (marks .here)
-                  ]);
+              turn = turn-beside beside (turn-point ok (all-leads ok s) (λ x q. tt) p (w .turn) t (f .frame) exact mark near place count);
             }
           where
             run : (i j : ℕ) → i < suc found → tallied P (set ws found v) i ≤ j → j < tallied P (set ws found v) (suc i) → j < k
@@ -468,9 +301,9 @@ module _ {g : Network} (ok : Accepted g) {P : List ℕ} {s e k b found tally : �
                 elim (ℕ-discrete i found) [
                   | yes q ↦
                       rw (q, word-new)
-                      (stands-at mark near place j
-                      (omega (arith, here, total-here, ap (tallied P (set ws found v)) q))
-                      (omega (arith, last, total-new, ap (λ (z : ℕ). tallied P (set ws found v) (suc z)) q))
+                      (turn-next ok (all-leads ok s) (λ x q. tt) p (w .turn) t exact mark near place j
+                      (omega (arith, total-here, ap (tallied P (set ws found v)) q))
+                      (omega (arith, total-new, ap (λ (z : ℕ). tallied P (set ws found v) (suc z)) q))
                       ∙ ap (λ (z : ℕ). (v, z)) exact)
                   | no n ↦
                       rw (word-old i (omega arith))

@@ -1,10 +1,10 @@
--- The theorems of this crate, from the bottom up: the queue; the node queue; where a search comes from, its law and its steps (exported for the
--- searches); entries put in place by place (exported for the table); the area that holds a search, what keeps it, and stopping behind a node; the three
--- expansions.
+-- The theorems of this crate, from the bottom up: tags and keys; the queue; the node queue; where a search comes from, its law and its steps (exported
+-- for the searches); entries put in place by place (exported for the table); the area that holds a search, what keeps it, and stopping behind a node;
+-- the lockers that come in turn; the three expansions.
+pub mod TagLaws
 pub mod LentParts
 pub mod QueueLaws
 pub mod SinkLaws
-pub mod TagLaws
 pub mod SeatLaws
 pub mod NodeLaws
 pub mod Origins
@@ -18,7 +18,8 @@ pub mod Progress
 pub mod Settled
 pub mod Beside
 pub mod Stopping
-pub mod FoundLaws
+pub mod Places
+pub mod Turns
 pub mod Finding
 pub mod WriteLaws
 pub mod VisitLaws

@@ -9,8 +9,9 @@ use native.Mathlib.Decide.{ℕ-discrete, decLt}
 use lib.ListN.{length, getD, set, drop, length-set, length-drop}
 use lib.Seq.{getD-set-same, getD-set-other}
 use borrow.Rule.Slice.PartMut.{midOf, putMid}
-use Rattle.expansion.specs.Queue.{keyOf, keyAt, parentOf, Holds, HoldsBeside, Ordered, ZeroFrom, Put, Hole, AtLeastParent, AtMostChildren, CanSink, CanRise, Filled, LeastChild, Children, Chosen, Queue, Pushed, Popped, PushedAt, PoppedAt}
+use Rattle.expansion.specs.Queue.{keyOf, keyAt, parentOf, Holds, HoldsBeside, Ordered, ZeroFrom, Put, Hole, AtLeastParent, AtMostChildren, CanSink, CanRise, Filled, LeastChild, Children, Chosen, Queue, Pushed, Popped, PushedAt, PoppedAt, NoLater}
 use Rattle.expansion.proofs.LentParts.{lent-part, rejoined}
+use Rattle.expansion.proofs.TagLaws.{at-most-no-later}
 
 -- ---- An entry is stored.
 
@@ -373,8 +374,8 @@ module _ (xs ys : List ℕ) (len : ℕ) (q : Queue xs len) (some : 0 < len) (p :
         at-least = λ pos. omega arith;
       }
 
-  least : (k : ℕ) → Holds xs len k → keyAt xs 0 ≤ k
-  least k h = omega (arith, h .is, first-least xs len (q .ordered) (h .index) (h .index) (omega arith) (h .inside))
+  no-later : (k : ℕ) → Holds xs len k → NoLater (keyAt xs 0) k
+  no-later k h = at-most-no-later (keyAt xs 0) k (omega (arith, h .is, first-least xs len (q .ordered) (h .index) (h .index) (omega arith) (h .inside)))
 
   was : Holds xs len (keyAt xs 0)
   was = record { index = 0; inside = some; is = refl }
@@ -386,7 +387,7 @@ module _ (xs ys : List ℕ) (len : ℕ) (q : Queue xs len) (some : 0 < len) (p :
         queue = record { room = omega (arith, q .room, p .size); ordered = λ i pos lt. omega arith; zeros = pop-zeros };
         size = p .size;
         was = was;
-        least = least;
+        first = no-later;
         old = λ k h. absurd (omega (arith, h .inside));
         kept = λ k h. let e : h .index ≡ 0 = omega (arith, h .inside) in inr (sym (h .is) ∙ ap (keyAt xs) e);
       }
@@ -419,7 +420,7 @@ module _ (xs ys : List ℕ) (len : ℕ) (q : Queue xs len) (some : 0 < len) (p :
           queue = record { room = omega (arith, q .room, p .size, f .size); ordered = f .ordered; zeros = λ j h. f .behind j h ∙ pop-zeros j h };
           size = f .size ∙ p .size;
           was = was;
-          least = least;
+          first = no-later;
           old = pop-old;
           kept = pop-kept;
         }

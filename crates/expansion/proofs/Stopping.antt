@@ -1,6 +1,6 @@
 -- An expansion under way settles a node and does not follow its arcs; and words before its area change between two steps.
 -- Assumes nothing.
-use Prim.Native.Nat.{ℕ, _+_, _-_, _<_}
+use Prim.Native.Nat.{ℕ, _+_, _<_}
 use mathlib.Core.Path.{_≡_, refl, sym, _∙_}
 use mathlib.Core.Logic.{_⊎_, inl, inr, ⊎-elim}
 use mathlib.Core.List.{List}
@@ -79,4 +79,12 @@ module _ (n : ℕ) {xs xs′ ys ys′ : List ℕ} {b : ℕ} (old : Beside xs xs�
       }
 
   pub took-beside : {len left l v u : ℕ} → Took n xs ys b len left l v u → Took n xs′ ys′ b len left l v u
-  took-beside t = record { some = t .some; fewer = t .fewer; inside = t .inside; tagged = t .tagged; popped = popped-beside (t .popped) }
+  took-beside t =
+      record {
+        some = t .some;
+        fewer = t .fewer;
+        inside = t .inside;
+        tagged = t .tagged;
+        first = λ x m h. t .first x m (record { parent = h .parent; inside = h .inside; from = h .from; holds = rw queue-old at (h .holds) });
+        popped = popped-beside (t .popped);
+      }

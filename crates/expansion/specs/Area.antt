@@ -85,12 +85,14 @@ pub record Moved (n : ℕ) (xs ys : List ℕ) (b : ℕ) : Type 0 where
   pub settled : (v : ℕ) → v < n → n < getD xs (b + v) 0 → getD ys (b + v) 0 ≡ getD xs (b + v) 0
   pub others : (v : ℕ) → v < n → getD xs (b + v) 0 ≤ n → getD ys (b + v) 0 ≤ n
 
--- the least entry left the queue
+-- An entry left the queue: of those that waited, none has a lesser label, nor the same label and a smaller node. 'For that the queue must promise the
+-- smaller node among equal distances' (Ask 4), and nothing of the parent.
 pub record Took (n : ℕ) (xs ys : List ℕ) (b len left label node parent : ℕ) : Type 0 where
   pub some : 0 < len
   pub fewer : left ≡ len - 1
   pub inside : node < n
   pub tagged : parent < 65536
+  pub first : (x m : ℕ) → HeldAt n xs b len x m → (label < m) ⊎ ((label ≡ m) × (node ≤ x))
   pub popped : PoppedNode n xs ys b (queueBase n b) len (keyOf label (tagOf node parent))
 
 -- an entry of the same node waits whose key is no greater

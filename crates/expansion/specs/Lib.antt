@@ -1,6 +1,6 @@
 -- What the contracts of this crate cite. The theorems stand in proofs/.
-pub mod Queue
 pub mod Tags
+pub mod Queue
 pub mod NodeQueue
 pub mod Area
 pub mod Taken

@@ -60,7 +60,7 @@ pub record LoweredNode (n : ℕ) (xs ys : List ℕ) (b at len key : ℕ) : Type 
   pub old : (k : ℕ) → Holds (drop at ys) len k → Holds (drop at xs) len k ⊎ (k ≡ key)
   pub kept : (k : ℕ) → Holds (drop at xs) len k → Holds (drop at ys) len k ⊎ ((nodeOf k ≡ nodeOf key) × (key < k))
 
--- pop: ys is xs without its least entry, which has the key; its node does not wait any more, nor is it settled
+-- pop: ys is xs without its first entry, which has the key; its node does not wait any more, nor is it settled
 pub record PoppedNode (n : ℕ) (xs ys : List ℕ) (b at len key : ℕ) : Type 0 where
   pub queue : NodeQueue n ys b at (len - 1)
   pub frame : Unmoved n xs ys b at (nodeOf key)

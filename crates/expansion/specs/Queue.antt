@@ -1,16 +1,21 @@
 -- The queue: a binary heap in a list of words. Entry i is two words, its tag at 2 i and its distance at 2 i + 1: its key, as a machine has a 64-bit
 -- number. Entries are ordered by that one number; the entries 2 i + 1 and 2 i + 2 are the children of entry i, and no entry has a key less than its
--- parent's.
+-- parent's. What a pop promises of the order is less: by distance, and by the node that the tag names first (Ask 4).
 -- Assumes nothing.
 use mathlib.Core.Path.{_≡_}
 use mathlib.Core.Logic.{_⊎_, _≢_, _↔_}
 use mathlib.Core.List.{List}
 use Prim.Native.Nat.{ℕ, zero, suc, _+_, _-_, _*_, _/_, _≤_, _<_}
 use lib.ListN.{length, getD, drop}
+use Rattle.expansion.specs.Tags.{nodeOf}
 
 -- the key of a distance and a tag: a tag is below 2^32, so keys go by distance and then by tag
 abbrev pub keyOf : ℕ → ℕ → ℕ
 keyOf distance tag = distance * 4294967296 + tag
+
+-- the distance of the entry with the key
+abbrev pub distanceOf : ℕ → ℕ
+distanceOf key = key / 4294967296
 
 -- the key of entry i
 unfoldable pub keyAt : List ℕ → ℕ → ℕ
@@ -53,13 +58,18 @@ pub record Pushed (xs ys : List ℕ) (len key : ℕ) : Type 0 where
   pub size : length ys ≡ length xs
   pub holds : (k : ℕ) → Holds ys (len + 1) k ↔ (Holds xs len k ⊎ (k ≡ key))
 
--- pop: ys is the queue xs without an entry of the key, which is a least one. What is held in ys was held in xs, and what was held in xs is kept
--- or has that key.
+-- 'the queue must promise the smaller node among equal distances' (Ask 4): an entry of key a comes out no later than one of key b where its distance is
+-- less, or the same and its node no greater. Nothing is said of what else a tag holds (a search: the parent).
+abbrev pub NoLater : ℕ → ℕ → Type 0
+NoLater a b = (distanceOf a < distanceOf b) ⊎ ((distanceOf a ≡ distanceOf b) × (nodeOf a ≤ nodeOf b))
+
+-- pop: ys is the queue xs without an entry of the key, which none precedes. What is held in ys was held in xs, and what was held in xs is kept or has
+-- that key.
 pub record Popped (xs ys : List ℕ) (len key : ℕ) : Type 0 where
   pub queue : Queue ys (len - 1)
   pub size : length ys ≡ length xs
   pub was : Holds xs len key
-  pub least : (k : ℕ) → Holds xs len k → key ≤ k
+  pub first : (k : ℕ) → Holds xs len k → NoLater key k
   pub old : (k : ℕ) → Holds ys (len - 1) k → Holds xs len k
   pub kept : (k : ℕ) → Holds xs len k → Holds ys (len - 1) k ⊎ (k ≡ key)
 

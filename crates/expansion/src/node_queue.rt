@@ -144,7 +144,8 @@ fn vacate(s: &mut [u32], b: usize, at: usize, i: usize, node: u32)
     s[seat] = 0;
 }
 
-// Takes the entry with the least key out of a queue of `len` entries. Its node's seat is 0 then.
+// Takes an entry of the least distance, and of the smallest node among equal distances (Ask 4), out of a queue of `len` entries. Its node's seat is 0
+// then.
 pub fn pop(s: &mut [u32], b: usize, n: usize, len: usize) -> Entry
     requires { ⌜ NodeQueue n (now s) b (queueBase n b) len ⌝ }
     requires { ⌜ 0 < len ⌝ }

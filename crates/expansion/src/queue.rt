@@ -193,7 +193,7 @@ pub fn push(q: &mut [u32], len: usize, distance: u32, tag: u32)
     rise(q, len + 1, len, distance, tag);
 }
 
-// Takes an entry with the least key out of a queue of `len` entries.
+// Takes an entry of the least distance, and of the smallest node among equal distances (Ask 4), out of a queue of `len` entries.
 pub fn pop(q: &mut [u32], len: usize) -> Entry
     requires { ⌜ Queue (now q) len ⌝ }
     requires { ⌜ 0 < len ⌝ }
@@ -221,7 +221,7 @@ pub fn push_at(s: &mut [u32], at: usize, len: usize, distance: u32, tag: u32)
     push(&mut s[at..], len, distance, tag);
 }
 
-// Takes an entry with the least key out of a queue of `len` entries that starts at the word `at` of a longer slice.
+// The same of a queue that starts at the word `at` of a longer slice.
 pub fn pop_at(s: &mut [u32], at: usize, len: usize) -> Entry
     requires { ⌜ Queue (drop at (now s)) len ⌝ }
     requires { ⌜ 0 < len ⌝ }

@@ -13,7 +13,7 @@ use crate::tags;
 use network::arcs;
 use network::arcs::wide;
 
-// What leaves the queue: the least entry, with what is left; or nothing.
+// What leaves the queue: an entry that none precedes, by label and then by node, with what is left; or nothing.
 pub enum Taken {
     Nothing,
     Node {
@@ -34,7 +34,7 @@ pub fn start(s: &mut [u32], b: usize, n: usize, source: u32)
     node_queue::push(s, b, n, 0, 0, tag);
 }
 
-// Takes out the least entry.
+// Takes out an entry of the least label, and of the smallest node among equal labels (Ask 4).
 pub fn next(s: &mut [u32], b: usize, n: usize, len: usize) -> Taken
     requires { ⌜ NodeQueue n (now s) b (queueBase n b) len ⌝ }
     ensures { λ r. ⌜ TakenIs n (now (s .entry)) (now (s .exit)) b len r ⌝ }

@@ -28,6 +28,7 @@ use Rattle.expansion.specs.Tags.{tagOf, tagNode, tagParent}
 use Rattle.expansion.specs.Area.{Kept}
 use Rattle.lazy_searches.specs.Second.{rowDistance, pointOf, besideOf, farOf, wordsBase, secondBase, secondQueue, idAt, wordAt, Source, Second, Sound, spread, work, PlaceFor, CanSpread, Offered, Admitted, Advanced, isBelow, Closed}
 use Rattle.searches.proofs.Beaten.{Part, part-marked}
+use Rattle.expansion.proofs.TagLaws.{no-later-key}
 use Rattle.expansion.proofs.AreaLaws.{kept-same}
 use Rattle.network.proofs.Lends.{row-fits}
 use Rattle.lazy_searches.proofs.RowLaws.{same-place, word-suc, word-below, total-less}
@@ -323,7 +324,7 @@ module _ {g : Network} {xs ys zs : List ℕ} {k len left : ℕ} (far tag : ℕ) 
       let q = secondQueue (nodeCount g) k ys in
       omega (
         arith,
-        t .queue .least (keyAt q 0) (record { index = 0; inside = some; is = refl }),
+        no-later-key (keyOf far tag) (keyAt q 0) (t .queue .first (keyAt q 0) (record { index = 0; inside = some; is = refl })),
         word-at (2 * 0) (secondBase (nodeCount g) k) (omega arith),
         word-at (2 * 0 + 1) (secondBase (nodeCount g) k + 1) (omega arith),
       )

@@ -7,7 +7,7 @@ ghost use lib.Dec.{leb};
 ghost use lib.ListN.{length, getD};
 ghost use Rattle.network.specs.Network.{network};
 ghost use Rattle.expansion.specs.Area.{queueBase};
-ghost use Rattle.searches.specs.Eager.{CanSearch};
+ghost use Rattle.searches.specs.Eager.{CanSearch, HasPlaces};
 ghost use Rattle.lazy_searches.specs.Lazy.{visitBase, isLess, CanCount, CountedNode, CountedAll, CanDiscover, Discovered, CanExplore, ExploreLeft, SearchLeft};
 use expansion::step;
 use expansion::step::Taken;
@@ -167,7 +167,8 @@ pub fn lazy(
     q: u32,
     k: usize,
 ) -> usize
-    requires { ⌜ CanSearch (network (now starts) (now neighbours) (now weights)) (now points) (now s) (now answers) q k ⌝ }
+    requires { ⌜ CanSearch (network (now starts) (now neighbours) (now weights)) (now points) (now s) q k ⌝ }
+    requires { ⌜ HasPlaces (network (now starts) (now neighbours) (now weights)) (now answers) ⌝ }
     ensures { λ r. ⌜ SearchLeft (network (now (starts .entry)) (now (neighbours .entry)) (now (weights .entry))) (now (points .entry)) q k (now (s .entry)) (now (s .exit)) (now (answers .entry)) (now (answers .exit)) r ⌝ }
 {
     let n = starts.len() - 1;

@@ -1,36 +1,44 @@
 -- P1 to P10 of document 01, and the cases of document 02, by computation.
 -- Assumes nothing.
 use mathlib.Core.Path.{refl}
-use Rattle.network.specs.Count.{any, count, total, select}
+use Rattle.network.specs.Count.{any, count, total, select, tabulate}
 use Rattle.network.specs.Network.{arcsFrom, arcsOf, partOf}
 use Rattle.network.specs.Check.{badSize, fallsAt, badStarts, badNeighbourAt, badPart, badNeighboursOf, badNeighbours, badWeightAt, badWeights, isArcAt, hasArc, lacksReturnAt, lacksReturnOf, lacksReturn, networkNumber}
 use Rattle.network.specs.Distance.{plus, least, within, dist}
 use Rattle.network.specs.Points.{isNearer, countNearer, othersNearer, verified, isListed, listed, isExpanded, expanded, exceedsLimit}
 use Rattle.network.specs.Nearest.{insert, insertTimes, byDistance, nearest}
+use Rattle.network.specs.Visits.{visits}
 use Rattle.network.specs.Rows.{row, sameRow, rowsChanged}
 use Rattle.network.specs.Cases.{Cases, roads}
 use Rattle.network.proofs.NumberZero.{number-zero}
 
 pub cases : Cases
-unfolding any count total select arcsFrom arcsOf partOf badSize fallsAt badStarts badNeighbourAt badPart badNeighboursOf badNeighbours badWeightAt badWeights isArcAt hasArc lacksReturnAt lacksReturnOf lacksReturn networkNumber plus least within dist isNearer countNearer othersNearer verified isListed listed isExpanded expanded exceedsLimit insert insertTimes byDistance nearest row sameRow rowsChanged
+unfolding any count total select arcsFrom arcsOf partOf badSize fallsAt badStarts badNeighbourAt badPart badNeighboursOf badNeighbours badWeightAt badWeights isArcAt hasArc lacksReturnAt lacksReturnOf lacksReturn networkNumber plus least within dist isNearer countNearer othersNearer verified isListed listed isExpanded expanded exceedsLimit insert insertTimes byDistance nearest tabulate visits row sameRow rowsChanged
 cases =
     record {
       accepted-N = number-zero (roads 7) .0 refl;
       accepted-P7 = number-zero (roads 6) .0 refl;
       P1 = refl;
       P1-expanded = refl;
+      P1-visits = refl;
       P2 = refl;
       P2-expanded = refl;
+      P2-visits = refl;
       P2-limit-4 = refl;
       P2-limit-3 = refl;
       P3 = refl;
       P3-expanded = refl;
+      P3-visits = refl;
       P4 = refl;
       P4-expanded = refl;
+      P4-visits = refl;
       P5 = refl;
       P5-expanded = refl;
+      P5-visits = refl;
       P6 = refl;
       P6-expanded = refl;
+      P6-visits = refl;
+      tie-visits = refl;
       P7 = refl;
       P8 = refl;
       P9 = refl;

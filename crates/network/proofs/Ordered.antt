@@ -100,6 +100,43 @@ below-all k (x ∷ xs) h y m =
     (λ t. below-all k xs (omega arith) y t)
     (List·Memᴰ·cases-cons m)
 
+-- the places before `below k` hold what is below k, and those from there on what is not
+pub at-above : (k : ℕ) (xs : List (ℕ × ℕ)) → Ordered xs → (j : ℕ) → j < below k xs → key (getD xs j (0, 0)) < k
+at-above k [] r j h = absurd (omega arith)
+at-above k (x ∷ xs) r j h =
+    elim (decLt (key x) k) [
+      | yes l ↦ by j (λ i m. at-above k xs (r .1) i m) h (ap (λ n. below k xs + n) (bit-lt (key x) k l)) l
+      | no n ↦
+          absurd
+          (omega (arith, bit-ge (key x) k (omega arith), none-below k xs (λ y m. omega (arith, r .0 y m))))
+    ]
+  where
+    by : (j : ℕ) → ((i : ℕ) → i < below k xs → key (getD xs i (0, 0)) < k) → j < below k (x ∷ xs) → below k (x ∷ xs) ≡ below k xs + 1 → key x < k
+        → key (getD (x ∷ xs) j (0, 0)) < k
+    by zero ih h e l = l
+    by (suc j) ih h e l = ih j (omega arith)
+
+pub at-below : (k : ℕ) (xs : List (ℕ × ℕ)) → Ordered xs → (j : ℕ) → j < length xs → below k xs ≤ j → k ≤ key (getD xs j (0, 0))
+at-below k [] r j l h = absurd (omega arith)
+at-below k (x ∷ xs) r zero l h =
+    elim (decLt (key x) k) [
+      | yes m ↦ absurd (omega (arith, bit-lt (key x) k m))
+      | no n ↦ omega arith
+    ]
+at-below k (x ∷ xs) r (suc j) l h =
+    elim (decLt (key x) k) [
+      | yes m ↦ at-below k xs (r .1) j (omega arith) (omega (arith, bit-lt (key x) k m))
+      | no n ↦ omega (arith, r .0 (getD xs j (0, 0)) (member-at (0, 0) xs j (omega arith)))
+    ]
+
+-- a place is not behind its own key
+pub place-own : (xs : List (ℕ × ℕ)) → Ordered xs → (j : ℕ) → j < length xs → j < below (suc (key (getD xs j (0, 0)))) xs
+place-own xs r j l =
+    elim (decLt j (below (suc (key (getD xs j (0, 0)))) xs)) [
+      | yes h ↦ h
+      | no n ↦ absurd (omega (arith, at-below (suc (key (getD xs j (0, 0)))) xs r j l (omega arith)))
+    ]
+
 -- the first K
 pub take-all-in : (K : ℕ) (xs : List (ℕ × ℕ)) → AllIn (take K xs) xs
 take-all-in zero xs z m = absurd (List·Memᴰ·not-nil m)

@@ -23,7 +23,7 @@ use Rattle.network.proofs.Tests.{and-parts}
 use Rattle.network.proofs.Distances.{dist-self, dist-zero}
 use Rattle.network.proofs.Ordered.{Small, key-pair, Starts, starts, below, take-all-in, take-ordered, take-few, take-below, below-take, same-below, times-level, times-some}
 use Rattle.network.proofs.Insert.{times-cases, times-new, times-old, times-ordered, times-below, times-length}
-use Rattle.network.proofs.Rank.{Near, nearer-passes, passes-nearer, before-step}
+use Rattle.network.proofs.Rank.{Near, nearer-passes, passes-nearer, before-is, before-step}
 
 -- what stands among the first k
 pub record Entry (g : Network) (P : List ℕ) (i e k p d : ℕ) : Type 0 where
@@ -104,6 +104,9 @@ take-starts (suc k) z xs h s = record { rest = take k (s .rest); first = rw (s .
 
 pub all-ordered : (g : Network) (P : List ℕ) (i e : ℕ) → Ordered (byDistance g P i e (nodeCount g))
 all-ordered g P i e = by-ordered g P i e (nodeCount g)
+
+pub by-before : (g : Network) (P : List ℕ) (i e k : ℕ) → below k (byDistance g P i e (nodeCount g)) ≡ before g P i e k
+by-before g P i e k = by-below g P i e k (nodeCount g) ∙ sym (before-is g P i e k)
 
 pub all-small : {g : Network} → Accepted g → (P : List ℕ) (i e : ℕ) → Small (byDistance g P i e (nodeCount g))
 all-small {g} ok P i e y m = omega (arith, by-only g P i e (nodeCount g) y m .low, ok .few)

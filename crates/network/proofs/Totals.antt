@@ -8,7 +8,7 @@ use mathlib.Core.Logic.{_≢_, ⊎-elim}
 use native.Mathlib.Decide.{ℕ-discrete}
 use native.Mathlib.Numerals.{add-one}
 use native.Mathlib.Omega.{arith}
-use Rattle.network.specs.Count.{total, weighed, sumOver}
+use Rattle.network.specs.Count.{bit, count, total, weighed, sumOver}
 use Rattle.network.proofs.Tests.{bool-cases}
 use Rattle.network.proofs.Counts.{without, without-other, without-self}
 
@@ -26,6 +26,12 @@ pub total-none : (w : ℕ → ℕ) (n : ℕ) → ((x : ℕ) → x < n → w x �
 unfolding total
 total-none w zero h = refl
 total-none w (suc n) h = omega (arith, total-none w n (λ x l. h x (omega arith)), h n (omega arith))
+
+-- as many as pass, where each weighs 1
+pub total-bits : (t : ℕ → Bool) (n : ℕ) → total (λ x. bit (t x)) n ≡ count t n
+unfolding total count
+total-bits t zero = refl
+total-bits t (suc n) = omega (arith, total-bits t n)
 
 -- each weighs what two others do together
 pub total-split : (u v w : ℕ → ℕ) (n : ℕ) → ((x : ℕ) → x < n → u x ≡ v x + w x) → total u n ≡ total v n + total w n

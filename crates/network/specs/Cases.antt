@@ -1,5 +1,5 @@
--- Document 01, 'The network N': P1 to P10, and cases of document 02, as one statement about the definitions. Its proof, by computation, is `cases`
--- of proofs/Cases.antt.
+-- Document 01, 'The network N': P1 to P10, with Ask 4's visits, and cases of document 02, as one statement about the definitions. Its proof, by
+-- computation, is `cases` of proofs/Cases.antt.
 -- Assumes nothing.
 use Prim.Native.Nat.{ℕ}
 use mathlib.Core.Bool.{true, false}
@@ -11,6 +11,7 @@ use Rattle.network.specs.Accepted.{Accepted}
 use Rattle.network.specs.Distance.{NONE}
 use Rattle.network.specs.Points.{listed, expanded, exceedsLimit}
 use Rattle.network.specs.Nearest.{nearest}
+use Rattle.network.specs.Visits.{visits}
 use Rattle.network.specs.Rows.{row, rowsChanged}
 
 -- 'Six nodes, roads 0-1 of 4, 0-3 of 5, 1-2 of 3, 2-4 of 7, 3-4 of 3; node 5 alone': N is `roads 7`
@@ -48,23 +49,31 @@ pub record Cases : Type 0 where
   -- P1: q 0, k 1
   pub P1 : listed (roads 7) points 0 1 ≡ 2 ∷ []
   pub P1-expanded : expanded (roads 7) points 0 1 ≡ 1
+  pub P1-visits : visits (roads 7) points 0 1 ≡ 0 ∷ []
   -- P2: q 0, k 2; 'Limit 4 answers P2, limit 3 refuses.'
   pub P2 : listed (roads 7) points 0 2 ≡ 2 ∷ 4 ∷ []
   pub P2-expanded : expanded (roads 7) points 0 2 ≡ 4
+  pub P2-visits : visits (roads 7) points 0 2 ≡ 0 ∷ 1 ∷ 3 ∷ 2 ∷ []
   pub P2-limit-4 : exceedsLimit (roads 7) points 0 2 4 ≡ false
   pub P2-limit-3 : exceedsLimit (roads 7) points 0 2 3 ≡ true
   -- P3: q 1, k 1
   pub P3 : listed (roads 7) points 1 1 ≡ 2 ∷ []
   pub P3-expanded : expanded (roads 7) points 1 1 ≡ 2
+  pub P3-visits : visits (roads 7) points 1 1 ≡ 1 ∷ 0 ∷ []
   -- P4: q 2, k 1
   pub P4 : listed (roads 7) points 2 1 ≡ 2 ∷ 4 ∷ []
   pub P4-expanded : expanded (roads 7) points 2 1 ≡ 3
+  pub P4-visits : visits (roads 7) points 2 1 ≡ 2 ∷ 1 ∷ 0 ∷ []
   -- P5: q 5, k 1
   pub P5 : listed (roads 7) points 5 1 ≡ 5 ∷ []
   pub P5-expanded : expanded (roads 7) points 5 1 ≡ 1
+  pub P5-visits : visits (roads 7) points 5 1 ≡ 5 ∷ []
   -- P6: q 0, k 1, no points
   pub P6 : listed (roads 7) noPoints 0 1 ≡ []
   pub P6-expanded : expanded (roads 7) noPoints 0 1 ≡ 5
+  pub P6-visits : visits (roads 7) noPoints 0 1 ≡ 0 ∷ 1 ∷ 3 ∷ 2 ∷ 4 ∷ []
+  -- Ask 4, a tie: 0 and 4 are both 7 from 2
+  pub tie-visits : visits (roads 7) noPoints 2 1 ≡ 2 ∷ 1 ∷ 0 ∷ 4 ∷ 3 ∷ []
   -- P7: as P1, road 2-4 of 6
   pub P7 : listed (roads 6) points 0 1 ≡ []
   -- P8: row 0, K 2

@@ -1,26 +1,29 @@
 -- Demand 3, by induction on the list of calls: the marks are the book's, and both arrays are the table of those marks; so every call's number and
--- changed count are the book's, and the searches that are lent this give one list.
+-- changed count are the book's, and the searches that are lent this give one list. And eager's steps are the same for every caller.
 -- Assumes nothing.
 use Prim.Native.Nat.{ℕ, _+_, _-_, _*_, _≤_, _<_}
 use mathlib.Core.Path.{_≡_, refl, sym, ap, _∙_}
 use mathlib.Core.Bool.{false, not, _||_}
-use mathlib.Core.Logic.{_≢_, _⊎_, ⊎-elim}
+use mathlib.Core.Logic.{_≢_, ⊎-elim}
 use mathlib.Core.List.{List, [], _∷_, _++_}
 use native.Mathlib.Decide.{ℕ-discrete, decLt}
 use native.Mathlib.Nat.{mul-le-mul-left}
 use native.Mathlib.Omega.{arith}
 use lib.Dec.{eqb}
-use lib.ListN.{length, getD, set, length-set, replicate}
-use lib.Seq.{getD-set-same, getD-set-other}
+use lib.ListN.{length, getD, set, take, drop, length-set, replicate}
+use lib.Seq.{getD-set-same, getD-set-other, take-append-seam}
 use borrow.Author.Tests.{eq-eqb, ne-eqb, lt-leb, le-ltb, ltb-false}
 use Rattle.network.specs.Count.{any}
 use Rattle.network.specs.Network.{Network, nodeCount}
 use Rattle.network.specs.Accepted.{Accepted}
 use Rattle.network.specs.Check.{networkNumber}
-use Rattle.network.specs.Points.{lockers}
+use Rattle.network.specs.Points.{lockers, expanded}
+use Rattle.network.specs.Visits.{visits}
+use Rattle.network.specs.Answers.{answered}
 use Rattle.network.specs.Rows.{rowsChanged}
 use Rattle.network.proofs.Tests.{or-parts, any-none, none-any}
 use Rattle.network.proofs.NumberZero.{number-zero}
+use Rattle.network.proofs.Visits.{visits-count}
 use Rattle.rows.specs.Flat.{Sized, IsTable}
 use Rattle.rows.proofs.Laid.{table-sizes}
 use Rattle.searches.specs.Eager.{eagerWords}
@@ -31,13 +34,14 @@ use Rattle.overlap.specs.declared.updated.Kind.{Kind}
 use Rattle.overlap.specs.declared.updated.Kind.the-variants.{Insert, Remove}
 use Rattle.overlap.specs.Numbers.{firstNumber, badByteAt, pointsNumber, nodeNumber, kNumber, tableNumber, tableKNumber, scratchWords, shortNumber, networkPointsNumber, siteNumber, queryNumber, tableCheckNumber, tableNodeNumber, buildNumber, tableQueryNumber}
 use Rattle.overlap.specs.Listed.{searchNumber}
-use Rattle.overlap.specs.Eager.{eagerNumber}
+use Rattle.overlap.specs.Eager.{limitedNumber, eagerNumber, limitedOutcome, eagerOutcome, shortOutcome}
+use Rattle.overlap.specs.Exported.{SearchExported, EagerExported}
 use Rattle.overlap.specs.Build.{BuildOutcome, buildOutcome}
 use Rattle.overlap.specs.Updated.{kindMarks, kindNumber, changeNumber, Arrays, ChangeLeft}
 use Rattle.overlap.specs.Book.{Call, bookNumber, bookCall, bookAnswers, bookMarks}
-use Rattle.overlap.specs.Demand.{OursAfter, Run, ends, call, foreign, Agree, demand-3}
-use Rattle.overlap.proofs.Ready.{first-is, first-later, first-none, first-zero, number-none, points-ready, node-ready, table-ready, kind-ready}
-use Rattle.overlap.proofs.Outcomes.{eager-done, lazy-done, build-done}
+use Rattle.overlap.specs.Demand.{OursAfter, Run, ends, call, foreign, Quotes, Agree, EagerCall, SameSteps, demand-3}
+use Rattle.overlap.proofs.Ready.{first-is, first-later, first-none, first-zero, number-none, points-ready, node-ready, table-ready, kind-ready, eager-ready}
+use Rattle.overlap.proofs.Outcomes.{limited-refused, limited-beyond, limited-done, visits-done, eager-search, eager-visits, lazy-done, build-done}
 
 -- a number of 0 is passed over; the first number of several stands for them
 first-skip : (x : ℕ) (xs : List ℕ) → x ≡ 0 → firstNumber (x ∷ xs) ≡ firstNumber xs
@@ -248,26 +252,40 @@ module _ (g : Network) (net : networkNumber g ≡ 0) (K : ℕ) where
         ∙ first-skip (tableKNumber k K) _ (table-k-zero fewer) ∙ first-skip (shortNumber (length scratch) (scratchWords g k)) _ (scratch-zero (scratchWords g k) room)
         ∙ first-skip (shortNumber (length old) (nodeCount g)) [] answers-zero ∙ sym first-none
 
-    eager-zero : eagerWords g ≤ length scratch → eagerNumber g P q k scratch old ≡ 0
-    unfolding eagerNumber
-    eager-zero room =
+    limited-zero : eagerWords g ≤ length scratch → limitedNumber g P q k scratch old ≡ 0
+    unfolding limitedNumber
+    limited-zero room =
         first-skip (siteNumber g P q) _ site-zero ∙ first-skip (kNumber k) _ k-zero
         ∙ first-skip (shortNumber (length scratch) (eagerWords g)) _ (scratch-zero (eagerWords g) room)
         ∙ first-skip (shortNumber (length old) (nodeCount g)) [] answers-zero ∙ sym first-none
+
+    eager-zero : eagerWords g ≤ length scratch → (seen : List ℕ) → nodeCount g ≤ length seen → eagerNumber g P q k scratch old seen ≡ 0
+    unfolding eagerNumber shortNumber
+    eager-zero room seen h =
+        first-skip (limitedNumber g P q k scratch old) _ (limited-zero room)
+        ∙ first-skip (shortNumber (length seen) (nodeCount g)) [] (rw (le-ltb (length seen) (nodeCount g) h)) ∙ sym first-none
+
+    -- an accepted search with a limit
+    quoted : {number limit : ℕ} → number ≡ 0 → expanded g P q k ≤ limit → {scratch′ new : List ℕ} {r : Listing}
+        → SearchExported (limitedOutcome number g P q k limit scratch old) r scratch′ new → Quotes g P q k old new r × (r .count ≡ expanded g P q k)
+    quoted {limit = limit} zero within h =
+        let x = rw (← limited-done g P q k limit scratch old zero refl within refl refl refl) at h in (
+          record {
+            number = ap (λ (l : Listing). l .number) (x .answer);
+            sized = ap (λ (l : Listing). l .length) (x .answer);
+            answers = x .answers-left;
+          },
+          ap (λ (l : Listing). l .count) (x .answer),
+        )
 
     agreed : 2 ≤ K → (scratch′ new : List ℕ) (r : Listing) → Agree g P K ids distances q k scratch old scratch′ new r
     agreed least scratch′ new r =
         record {
           eager =
-              λ room limit within h.
-              let x = rw (← eager-done g P q k limit scratch old (eager-zero room) refl within refl refl refl) at h in (
-                record {
-                  number = ap (λ (l : Listing). l .number) (x .answer);
-                  sized = ap (λ (l : Listing). l .length) (x .answer);
-                  answers = x .answers-left;
-                },
-                ap (λ (l : Listing). l .count) (x .answer),
-              );
+              λ room limit within seen seen′ fits h.
+              let zero = eager-zero room seen fits in
+              let x = quoted zero within (eager-search g P q k limit scratch old seen h) in
+              (x .0, x .1, eager-visits g P q k limit scratch old seen h ∙ sym (visits-done g P q k limit seen zero within));
           lazy =
               λ room h.
               let x = rw (← lazy-done g P q k scratch old (search-zero room) refl refl refl) at h in
@@ -299,6 +317,40 @@ module _ (g : Network) (net : networkNumber g ≡ 0) (K : ℕ) where
       → _≡_ {A = BuildOutcome} (buildOutcome g P K scratch a b) (record { number = 0; scratch = replicate (length scratch) 0; ids = ids; distances = distances })
   rebuilt {P} s least most scratch a b room z = sym (build-done g P K scratch a b (built-zero s least most scratch a b room z) refl (s .table))
 
+-- Ask 4: what an accepted call of eager counts and lists is the definition's, so two of them take the same steps
+steps-are : (g : Network) (P : List ℕ) (q k : ℕ) (r : Listing) (left : List ℕ) → EagerCall g P q k r left
+    → (r .count ≡ expanded g P q k) × (take (r .count) left ≡ visits g P q k)
+unfolding answered
+steps-are g P q k r left h =
+    elim (ℕ-discrete (eagerNumber g P q k (h .scratch) (h .old) (h .seen)) 0) [
+      | no n ↦
+          let a = rw (← limited-refused g P q k (h .limit) (h .scratch) (h .old) (eagerNumber g P q k (h .scratch) (h .old) (h .seen)) refl n) at said in
+          absurd (n (sym (ap (λ (l : Listing). l .number) (a .answer)) ∙ h .accepted))
+      | yes z ↦
+          elim (decLt (h .limit) (expanded g P q k)) [
+            | yes l ↦
+                let a = rw (← limited-beyond g P q k (h .limit) (h .scratch) (h .old) z refl l refl) at said in
+                absurd (omega (arith, ap (λ (l : Listing). l .number) (a .answer), h .accepted))
+            | no l ↦
+                let a = rw (← limited-done g P q k (h .limit) (h .scratch) (h .old) z refl (omega arith) refl refl refl) at said in
+                let c : r .count ≡ expanded g P q k = ap (λ (l : Listing). l .count) (a .answer) in
+                let e = visits-count (eager-ready g P q k (h .scratch) (h .old) (h .seen) z .0 .accepted) P q k in
+                let v : left ≡ answered (visits g P q k) (h .seen) =
+                eager-visits g P q k (h .limit) (h .scratch) (h .old) (h .seen) (h .exported)
+                ∙ sym (visits-done g P q k (h .limit) (h .seen) z (omega arith)) in
+                (c, rw (v, c, ← e) (take-append-seam (visits g P q k) (drop (length (visits g P q k)) (h .seen))))
+          ]
+    ]
+  where
+    said : SearchExported (limitedOutcome (eagerNumber g P q k (h .scratch) (h .old) (h .seen)) g P q k (h .limit) (h .scratch) (h .old)) r (h .scratch-after) (h .answers-after)
+    said = eager-search g P q k (h .limit) (h .scratch) (h .old) (h .seen) (h .exported)
+
+pub same-steps : (g : Network) (P : List ℕ) → SameSteps g P
+same-steps g P q k a b visits-a visits-b x y =
+    let s = steps-are g P q k a visits-a x in
+    let t = steps-are g P q k b visits-b y in
+    (s .0 ∙ sym (t .0), s .1 ∙ sym (t .1))
+
 -- what an accepted build leaves
 built : (g : Network) (P : List ℕ) (K : ℕ) (scratch ids distances : List ℕ) → buildNumber g P K scratch ids distances ≡ 0
     → IsTable g P K (buildOutcome g P K scratch ids distances .ids) (buildOutcome g P K scratch ids distances .distances)
@@ -307,7 +359,7 @@ built g P K scratch ids distances e =
     rw (eq-eqb (buildNumber g P K scratch ids distances) 0 e) (record { same-ids = refl; same-dists = refl })
 
 pub demand : demand-3
-unfolding buildNumber tableCheckNumber networkPointsNumber
+unfolding buildNumber tableCheckNumber networkPointsNumber shortOutcome
 demand g P₀ K scratch ids distances e calls answers P ids′ distances′ run =
     let a = first-zero (tableCheckNumber g P₀ K ids distances) _ e .0 in
     let d = first-zero (networkPointsNumber g P₀) _ a in
@@ -324,6 +376,9 @@ demand g P₀ K scratch ids distances e calls answers P ids′ distances′ run 
       agree = λ q k site some few s old s′ new r places. agreed g (b .0) K (f .standing) (t .1) q k site some few s old places (t .0) s′ new r;
       short =
           λ q site s old s′ new r room places.
-          agreed g (b .0) K (f .standing) (t .1) q 1 site (omega arith) (omega arith) s old places (t .0) s′ new r .eager room 65535 (expanded-most (number-zero g .0 (b .0)) P q 1);
+          quoted g (b .0) K (f .standing) (t .1) q 1 site (omega arith) (omega arith) s old places
+          (limited-zero g (b .0) K (f .standing) (t .1) q 1 site (omega arith) (omega arith) s old places room)
+          (expanded-most (number-zero g .0 (b .0)) P q 1);
+      steps = same-steps g P;
       afresh = rebuilt g (b .0) K (f .standing) (t .0) (t .1);
     }

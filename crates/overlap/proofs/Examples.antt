@@ -7,6 +7,7 @@ use Rattle.network.specs.Check.{badSize, fallsAt, badStarts, badNeighbourAt, ba
 use Rattle.network.specs.Distance.{plus, least, within, dist, distancesFrom}
 use Rattle.network.specs.Points.{isNearer, countNearer, othersNearer, verified, isListed, listed, isExpanded, expanded, exceedsLimit}
 use Rattle.network.specs.Nearest.{insert, insertTimes, byDistance, nearest}
+use Rattle.network.specs.Visits.{visits}
 use Rattle.network.specs.Rows.{row, rowsBelow, tableIds, tableDistances}
 use Rattle.network.specs.Answers.{answered}
 use Rattle.rows.specs.Check.{sameList, isTable}
@@ -15,14 +16,14 @@ use Rattle.overlap.specs.Distances.{distancesNumber, distancesOutcome}
 use Rattle.overlap.specs.Nearest.{nearestNumber, nearestIds, nearestDistances, nearestOutcome}
 use Rattle.overlap.specs.Verify.{verifyNumber, verifyOutcome}
 use Rattle.overlap.specs.Listed.{searchNumber}
-use Rattle.overlap.specs.Eager.{eagerNumber, eagerOutcome}
+use Rattle.overlap.specs.Eager.{limitedNumber, eagerNumber, limitedOutcome, visitsOutcome, eagerOutcome, shortOutcome}
 use Rattle.overlap.specs.Lazy.{lazyOutcome}
 use Rattle.overlap.specs.Updated.{changeNumber}
 use Rattle.overlap.specs.TableCheck.{tableCheckAnswer}
 use Rattle.overlap.specs.Examples.{Examples}
 
 pub examples : Examples
-unfolding any count total select tabulate arcsFrom arcsOf partOf badSize fallsAt badStarts badNeighbourAt badPart badNeighboursOf badNeighbours badWeightAt badWeights isArcAt hasArc lacksReturnAt lacksReturnOf lacksReturn networkNumber plus least within dist distancesFrom isNearer countNearer othersNearer verified isListed listed isExpanded expanded exceedsLimit insert insertTimes byDistance nearest row rowsBelow tableIds tableDistances answered sameList isTable firstNumber badByteAt pointsNumber nodeNumber kNumber tableKNumber tableNumber shortNumber fullNumber unmarkedNumber queryNumber tableCheckNumber buildNumber tableNodeNumber networkPointsNumber siteNumber tableQueryNumber distancesNumber distancesOutcome nearestNumber nearestIds nearestDistances nearestOutcome verifyNumber verifyOutcome searchNumber eagerNumber eagerOutcome lazyOutcome changeNumber tableCheckAnswer
+unfolding any count total select tabulate arcsFrom arcsOf partOf badSize fallsAt badStarts badNeighbourAt badPart badNeighboursOf badNeighbours badWeightAt badWeights isArcAt hasArc lacksReturnAt lacksReturnOf lacksReturn networkNumber plus least within dist distancesFrom isNearer countNearer othersNearer verified isListed listed isExpanded expanded exceedsLimit insert insertTimes byDistance nearest row rowsBelow tableIds tableDistances answered sameList isTable firstNumber badByteAt pointsNumber nodeNumber kNumber tableKNumber tableNumber shortNumber fullNumber unmarkedNumber queryNumber tableCheckNumber buildNumber tableNodeNumber networkPointsNumber siteNumber tableQueryNumber distancesNumber distancesOutcome nearestNumber nearestIds nearestDistances nearestOutcome verifyNumber verifyOutcome searchNumber limitedNumber eagerNumber limitedOutcome visitsOutcome eagerOutcome shortOutcome visits lazyOutcome changeNumber tableCheckAnswer
 examples =
     record {
       no-1 = refl;
@@ -41,6 +42,8 @@ examples =
       second = refl;
       no-12 = refl;
       limit-4 = refl;
+      few-visits = refl;
+      short-P1 = refl;
       short = refl;
       in-72 = refl;
       in-71 = refl;

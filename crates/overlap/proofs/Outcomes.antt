@@ -11,6 +11,11 @@ use Rattle.network.specs.Network.{Network}
 use Rattle.network.specs.Distance.{distancesFrom}
 use Rattle.network.specs.Answers.{answered}
 use Rattle.network.specs.Points.{verified, listed, expanded, exceedsLimit}
+use Rattle.network.specs.Visits.{visits}
+use Rattle.expansion.specs.Area.{Wiped}
+use Rattle.searches.specs.declared.eager.Answer as search
+use Rattle.searches.specs.declared.eager.Answer.the-variants as found
+use Rattle.searches.specs.Eager.{LimitedLeft, VisitsLeft}
 use Rattle.rows.specs.Flat.{IsTable}
 use Rattle.rows.specs.Check.{isTable}
 use Rattle.overlap.specs.declared.Listing.{Listing}
@@ -27,9 +32,9 @@ use Rattle.overlap.specs.Numbers.{buildNumber, tableCheckNumber}
 use Rattle.overlap.specs.TableCheck.{tableCheckAnswer}
 use Rattle.overlap.specs.Build.{BuildOutcome, buildOutcome}
 use Rattle.overlap.specs.Listed.{SearchOutcome, searchNumber, listedListing}
-use Rattle.overlap.specs.Eager.{eagerNumber, eagerOutcome}
+use Rattle.overlap.specs.Eager.{EagerOutcome, limitedNumber, eagerNumber, limitedOutcome, visitsOutcome, eagerOutcome, shortOutcome, limitedListed}
 use Rattle.overlap.specs.Lazy.{lazyOutcome}
-use Rattle.overlap.specs.Exported.{NearestExported, SearchExported}
+use Rattle.overlap.specs.Exported.{NearestExported, SearchExported, EagerExported}
 
 module _ (g : Network) (node : ℕ) (scratch answers : List ℕ) where
   pub distances-refused : (number : ℕ) → number ≡ distancesNumber g node scratch answers → number ≢ 0
@@ -68,23 +73,62 @@ module _ (g : Network) (P : List ℕ) (p q k : ℕ) (scratch : List ℕ) where
   unfolding verifyOutcome
   verify-done e z h = rw (eq-eqb (verifyNumber g P p q k scratch) 0 e, z, h)
 
+-- the searches with a limit
 module _ (g : Network) (P : List ℕ) (q k limit : ℕ) (scratch answers : List ℕ) where
-  pub eager-refused : (number : ℕ) → number ≡ eagerNumber g P q k scratch answers → number ≢ 0
-      → _≡_ {A = SearchOutcome} (record { answer = is.Refused number; scratch = scratch; answers = answers }) (eagerOutcome g P q k limit scratch answers)
-  unfolding eagerOutcome
-  eager-refused number e n = rw (← e, ne-eqb number 0 n)
+  pub limited-refused : {number : ℕ} (r : ℕ) → r ≡ number → r ≢ 0
+      → _≡_ {A = SearchOutcome} (record { answer = is.Refused r; scratch = scratch; answers = answers }) (limitedOutcome number g P q k limit scratch answers)
+  unfolding limitedOutcome
+  limited-refused r e n = rw (← e, ne-eqb r 0 n)
 
-  pub eager-beyond : {s a : List ℕ} → eagerNumber g P q k scratch answers ≡ 0 → s ≡ replicate (length scratch) 0 → limit < expanded g P q k
-      → a ≡ answers
-      → _≡_ {A = SearchOutcome} (record { answer = is.Refused 12; scratch = s; answers = a }) (eagerOutcome g P q k limit scratch answers)
-  unfolding eagerOutcome exceedsLimit
-  eager-beyond e z l h = rw (eq-eqb (eagerNumber g P q k scratch answers) 0 e, lt-ltb limit (expanded g P q k) l, z, h)
-
-  pub eager-done : {s a : List ℕ} {size count : ℕ} → eagerNumber g P q k scratch answers ≡ 0 → s ≡ replicate (length scratch) 0
+  pub limited-done : {number : ℕ} {s a : List ℕ} {size count : ℕ} → number ≡ 0 → s ≡ replicate (length scratch) 0
       → expanded g P q k ≤ limit → size ≡ length (listed g P q k) → count ≡ expanded g P q k → a ≡ answered (listed g P q k) answers
-      → _≡_ {A = SearchOutcome} (record { answer = is.Points size count; scratch = s; answers = a }) (eagerOutcome g P q k limit scratch answers)
-  unfolding eagerOutcome exceedsLimit
-  eager-done e z l m n h = rw (eq-eqb (eagerNumber g P q k scratch answers) 0 e, le-ltb limit (expanded g P q k) l, z, m, n, h)
+      → _≡_ {A = SearchOutcome} (record { answer = is.Points size count; scratch = s; answers = a }) (limitedOutcome number g P q k limit scratch answers)
+  unfolding limitedOutcome exceedsLimit
+  limited-done {number} e z l m n h = rw (eq-eqb number 0 e, le-ltb limit (expanded g P q k) l, z, m, n, h)
+
+  pub limited-beyond : {number : ℕ} {s a : List ℕ} → number ≡ 0 → s ≡ replicate (length scratch) 0 → limit < expanded g P q k → a ≡ answers
+      → _≡_ {A = SearchOutcome} (record { answer = is.Refused 12; scratch = s; answers = a }) (limitedOutcome number g P q k limit scratch answers)
+  unfolding limitedOutcome exceedsLimit
+  limited-beyond {number} e z l h = rw (eq-eqb number 0 e, lt-ltb limit (expanded g P q k) l, z, h)
+
+  -- what the search leaves is the outcome of number 0, whatever its answer
+  pub limited-outcome : {number : ℕ} {xs s new : List ℕ} (a : search.Answer) → number ≡ 0 → LimitedLeft g P q k limit xs s answers new a
+      → (Wiped xs s 0 → s ≡ replicate (length scratch) 0)
+      → _≡_ {A = SearchOutcome} (record { answer = limitedListed a; scratch = s; answers = new }) (limitedOutcome number g P q k limit scratch answers)
+  limited-outcome found.Refused e h z = limited-beyond e (z (h .area)) (h .beyond) (h .answers)
+  limited-outcome (found.Listed size count) e h z = limited-done e (z (h .area)) (h .within) (h .sized) (h .counted) (h .answers)
+
+-- the visits of eager
+module _ (g : Network) (P : List ℕ) (q k limit : ℕ) (seen : List ℕ) where
+  pub visits-refused : {number : ℕ} (r : ℕ) → r ≡ number → r ≢ 0 → seen ≡ visitsOutcome number g P q k limit seen
+  unfolding visitsOutcome
+  visits-refused r e n = rw (← e, ne-eqb r 0 n)
+
+  pub visits-done : {number : ℕ} → number ≡ 0 → expanded g P q k ≤ limit → answered (visits g P q k) seen ≡ visitsOutcome number g P q k limit seen
+  unfolding visitsOutcome exceedsLimit
+  visits-done {number} e l = rw (eq-eqb number 0 e, le-ltb limit (expanded g P q k) l)
+
+  visits-beyond : {number : ℕ} → number ≡ 0 → limit < expanded g P q k → seen ≡ visitsOutcome number g P q k limit seen
+  unfolding visitsOutcome exceedsLimit
+  visits-beyond {number} e l = rw (eq-eqb number 0 e, lt-ltb limit (expanded g P q k) l)
+
+  pub visits-outcome : {number : ℕ} (xs s old new left : List ℕ) (a : search.Answer) → number ≡ 0 → LimitedLeft g P q k limit xs s old new a
+      → VisitsLeft g P q k seen left a → left ≡ visitsOutcome number g P q k limit seen
+  visits-outcome xs s old new left found.Refused e h v = v ∙ visits-beyond e (h .beyond)
+  visits-outcome xs s old new left (found.Listed size count) e h v = v ∙ visits-done e (h .within)
+
+-- both are eager's
+pub eager-is : (g : Network) (P : List ℕ) (q k limit : ℕ) (scratch answers seen : List ℕ) {search : SearchOutcome} {left : List ℕ}
+    → search ≡ limitedOutcome (eagerNumber g P q k scratch answers seen) g P q k limit scratch answers
+    → left ≡ visitsOutcome (eagerNumber g P q k scratch answers seen) g P q k limit seen
+    → _≡_ {A = EagerOutcome} (record { search = search; visits = left }) (eagerOutcome g P q k limit scratch answers seen)
+unfolding eagerOutcome
+eager-is g P q k limit scratch answers seen a b = λ i. record { search = a i; visits = b i }
+
+pub short-is : (g : Network) (P : List ℕ) (q : ℕ) (scratch answers : List ℕ) {o : SearchOutcome}
+    → o ≡ limitedOutcome (limitedNumber g P q 1 scratch answers) g P q 1 65535 scratch answers → o ≡ shortOutcome g P q scratch answers
+unfolding shortOutcome
+short-is g P q scratch answers e = e
 
 module _ (g : Network) (P : List ℕ) (q k : ℕ) (scratch answers : List ℕ) where
   pub lazy-refused : (number : ℕ) → number ≡ searchNumber g P q k scratch answers → number ≢ 0
@@ -139,3 +183,19 @@ search-exported h e =
       scratch-left = ap (λ (x : SearchOutcome). x .scratch) e;
       answers-left = ap (λ (x : SearchOutcome). x .answers) e;
     }
+
+pub eager-exported : {o : EagerOutcome} {a : call.Listed} {s l v : List ℕ} {r : Listing} → r ≡ listedListing a
+    → _≡_ {A = EagerOutcome} (record { search = record { answer = a; scratch = s; answers = l }; visits = v }) o → EagerExported o r s l v
+eager-exported h e =
+    record { search = search-exported h (ap (λ (x : EagerOutcome). x .search) e); visits-left = ap (λ (x : EagerOutcome). x .visits) e }
+
+-- what an exported call of eager says of the search, and of the visits
+module _ (g : Network) (P : List ℕ) (q k limit : ℕ) (scratch answers seen : List ℕ) {r : Listing} {s l v : List ℕ}
+    (h : EagerExported (eagerOutcome g P q k limit scratch answers seen) r s l v) where
+  pub eager-search : SearchExported (limitedOutcome (eagerNumber g P q k scratch answers seen) g P q k limit scratch answers) r s l
+  unfolding eagerOutcome
+  eager-search = h .search
+
+  pub eager-visits : v ≡ visitsOutcome (eagerNumber g P q k scratch answers seen) g P q k limit seen
+  unfolding eagerOutcome
+  eager-visits = h .visits-left

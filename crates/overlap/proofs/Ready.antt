@@ -8,7 +8,7 @@ use mathlib.Core.Logic.{_≢_}
 use native.Mathlib.Decide.{ℕ-discrete}
 use native.Mathlib.Omega.{arith}
 use lib.Dec.{eqb, leb, ltb}
-use lib.ListN.{length}
+use lib.ListN.{length, replicate}
 use borrow.Author.Tests.{eq-eqb, ne-eqb, eqb-true, eqb-false, leb-false, ltb-false, not-false}
 use Rattle.network.specs.Count.{any}
 use Rattle.network.specs.Network.{Network, nodeCount}
@@ -17,18 +17,20 @@ use Rattle.network.specs.Check.{networkNumber}
 use Rattle.network.specs.Points.{lockers, marked}
 use Rattle.network.proofs.Tests.{or-parts}
 use Rattle.network.proofs.NumberZero.{number-zero}
-use Rattle.searches.specs.Eager.{eagerWords}
+use Rattle.expansion.proofs.Settled.{zero-blank}
+use Rattle.searches.specs.Eager.{eagerWords, CanSearch}
 use Rattle.overlap.specs.declared.updated.Kind.{Kind}
 use Rattle.overlap.specs.declared.updated.Kind.the-variants.{Insert, Remove}
 use Rattle.overlap.specs.Numbers.{firstNumber, badByteAt, pointsNumber, nodeNumber, tableNumber, kNumber, scratchWords, shortNumber, fullNumber, unmarkedNumber, networkPointsNumber, siteNumber, queryNumber, tableCheckNumber, tableNodeNumber, tableKNumber, tableQueryNumber, buildNumber, QueryReady}
 use Rattle.overlap.specs.Distances.{distancesNumber}
 use Rattle.overlap.specs.Nearest.{nearestNumber, NearestReady}
 use Rattle.overlap.specs.Verify.{verifyNumber}
-use Rattle.overlap.specs.Eager.{eagerNumber}
+use Rattle.overlap.specs.Eager.{limitedNumber, eagerNumber}
 use Rattle.overlap.specs.Build.{TableReady, BuildReady}
 use Rattle.overlap.specs.Updated.{kindNumber, KindReady, changeNumber, ChangeReady}
 use Rattle.overlap.specs.TableQuery.{TableQueryReady}
 use Rattle.overlap.specs.Listed.{searchNumber, SearchReady}
+use Rattle.overlap.proofs.Scratch.{zero-length}
 
 -- the clauses of `firstNumber`: the first number is not 0; it is
 pub first-is : (x : ℕ) (xs : List ℕ) (r : ℕ) → r ≡ x → r ≢ 0 → r ≡ firstNumber (x ∷ xs)
@@ -180,7 +182,7 @@ search-ready g P q k scratch answers e =
     let b = first-zero (shortNumber (length answers) (nodeCount g)) [] (a .1) in
     record { query = query-ready g P q k scratch (a .0); places = short-ready (length answers) (nodeCount g) (b .0) }
 
-pub record EagerReady (g : Network) (P : List ℕ) (q k : ℕ) (scratch answers : List ℕ) : Type 0 where
+pub record LimitedReady (g : Network) (P : List ℕ) (q k : ℕ) (scratch answers : List ℕ) : Type 0 where
   pub accepted : Accepted g
   pub points : length P ≡ nodeCount g
   pub inside : q < nodeCount g
@@ -188,10 +190,10 @@ pub record EagerReady (g : Network) (P : List ℕ) (q k : ℕ) (scratch answers 
   pub room : eagerWords g ≤ length scratch
   pub places : nodeCount g ≤ length answers
 
-pub eager-ready : (g : Network) (P : List ℕ) (q k : ℕ) (scratch answers : List ℕ) → eagerNumber g P q k scratch answers ≡ 0
-    → EagerReady g P q k scratch answers
-unfolding eagerNumber
-eager-ready g P q k scratch answers e =
+pub limited-ready : (g : Network) (P : List ℕ) (q k : ℕ) (scratch answers : List ℕ) → limitedNumber g P q k scratch answers ≡ 0
+    → LimitedReady g P q k scratch answers
+unfolding limitedNumber
+limited-ready g P q k scratch answers e =
     let a = first-zero (siteNumber g P q) _ e in
     let b = first-zero (kNumber k) _ (a .1) in
     let c = first-zero (shortNumber (length scratch) (eagerWords g)) _ (b .1) in
@@ -205,6 +207,27 @@ eager-ready g P q k scratch answers e =
       room = short-ready (length scratch) (eagerWords g) (c .0);
       places = short-ready (length answers) (nodeCount g) (d .0);
     }
+
+-- the cleared scratch can be searched over
+pub limited-search : {g : Network} {P : List ℕ} {q k : ℕ} {scratch answers s : List ℕ} → LimitedReady g P q k scratch answers
+    → s ≡ replicate (length scratch) 0 → CanSearch g P s q k
+limited-search {scratch = scratch} r e =
+    record {
+      accepted = r .accepted;
+      points = r .points;
+      site = r .inside;
+      some = r .some;
+      blank = zero-blank (length scratch) 0 e;
+      size = omega (arith, r .room, zero-length (length scratch) e);
+    }
+
+pub eager-ready : (g : Network) (P : List ℕ) (q k : ℕ) (scratch answers seen : List ℕ) → eagerNumber g P q k scratch answers seen ≡ 0
+    → LimitedReady g P q k scratch answers × (nodeCount g ≤ length seen)
+unfolding eagerNumber
+eager-ready g P q k scratch answers seen e =
+    let a = first-zero (limitedNumber g P q k scratch answers) _ e in
+    let b = first-zero (shortNumber (length seen) (nodeCount g)) [] (a .1) in
+    (limited-ready g P q k scratch answers (a .0), short-ready (length seen) (nodeCount g) (b .0))
 
 pub record VerifyReady (g : Network) (P : List ℕ) (p q k : ℕ) (scratch : List ℕ) : Type 0 where
   pub accepted : Accepted g

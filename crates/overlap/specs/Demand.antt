@@ -5,10 +5,11 @@ use Prim.Native.Nat.{ℕ, _≤_, _<_}
 use mathlib.Core.Path.{_≡_}
 use mathlib.Core.Logic.{_≢_, _⊎_}
 use mathlib.Core.List.{List, [], _∷_}
-use lib.ListN.{length, replicate}
+use lib.ListN.{length, take, replicate}
 use Rattle.network.specs.Network.{Network, nodeCount}
 use Rattle.network.specs.Rows.{tableIds, tableDistances}
 use Rattle.network.specs.Points.{listed, expanded}
+use Rattle.network.specs.Visits.{visits}
 use Rattle.network.specs.Answers.{answered}
 use Rattle.rows.specs.Flat.{Sized}
 use Rattle.searches.specs.Eager.{eagerWords}
@@ -18,10 +19,10 @@ use Rattle.overlap.specs.declared.updated.Kind.{Kind}
 use Rattle.overlap.specs.Numbers.{scratchWords, buildNumber, tableQueryNumber}
 use Rattle.overlap.specs.Build.{buildOutcome}
 use Rattle.overlap.specs.Updated.{Arrays, ChangeLeft}
-use Rattle.overlap.specs.Eager.{eagerOutcome}
+use Rattle.overlap.specs.Eager.{eagerOutcome, shortOutcome}
 use Rattle.overlap.specs.Lazy.{lazyOutcome}
 use Rattle.overlap.specs.TableQuery.{QueryLeft}
-use Rattle.overlap.specs.Exported.{SearchExported}
+use Rattle.overlap.specs.Exported.{SearchExported, EagerExported}
 use Rattle.overlap.specs.Book.{Call, bookAnswers, bookMarks}
 
 -- an array of ours after a call that was lent `lent` and left `left`: it was that array, or another
@@ -56,12 +57,32 @@ pub record Quotes (g : Network) (P : List ℕ) (q k : ℕ) (old new : List ℕ) 
 
 -- 'The searches are then lent this network, these marks and arrays that 10 lets pass; the table query also the table with the build's K, eager a limit
 -- of at least its expanded count.' What 10 lets pass is 12 × n entries of scratch for eager (Ask 5), S for the others. Whatever they leave by their
--- contracts is the one list, and eager's count is the definition's. Each clause is read alone, over any arrays.
+-- contracts is the one list, and eager's count and visits are the definitions'. Each clause is read alone, over any arrays.
 pub record Agree (g : Network) (P : List ℕ) (K : ℕ) (ids distances : List ℕ) (q k : ℕ) (scratch old scratch′ new : List ℕ) (r : Listing) : Type 0 where
-  pub eager : eagerWords g ≤ length scratch → (limit : ℕ) → expanded g P q k ≤ limit → SearchExported (eagerOutcome g P q k limit scratch old) r scratch′ new
-      → Quotes g P q k old new r × (r .count ≡ expanded g P q k)
+  pub eager :
+      eagerWords g ≤ length scratch → (limit : ℕ) → expanded g P q k ≤ limit → (seen seen′ : List ℕ) → nodeCount g ≤ length seen
+      → EagerExported (eagerOutcome g P q k limit scratch old seen) r scratch′ new seen′
+      → Quotes g P q k old new r × (r .count ≡ expanded g P q k) × (seen′ ≡ answered (visits g P q k) seen)
   pub lazy : scratchWords g k ≤ length scratch → SearchExported (lazyOutcome g P q k scratch old) r scratch′ new → Quotes g P q k old new r
   pub by-table : scratchWords g k ≤ length scratch → k < K → QueryLeft (tableQueryNumber g P q k K ids distances scratch old) g P q k K ids distances scratch scratch′ old new r → Quotes g P q k old new r
+
+-- an accepted call of eager, whatever limit, scratch and arrays it was lent: it returned r and left `left` in the array for the visits
+pub record EagerCall (g : Network) (P : List ℕ) (q k : ℕ) (r : Listing) (left : List ℕ) : Type 0 where
+  pub limit : ℕ
+  pub scratch : List ℕ
+  pub old : List ℕ
+  pub seen : List ℕ
+  pub scratch-after : List ℕ
+  pub answers-after : List ℕ
+  pub exported : EagerExported (eagerOutcome g P q k limit scratch old seen) r scratch-after answers-after left
+  pub accepted : r .number ≡ 0
+
+-- Ask 4, 'the same steps on both machines': two such calls for one site and k count alike and write the same visits. The steps of a call are the first
+-- `count` entries of its array for the visits.
+abbrev pub SameSteps : Network → List ℕ → Type 0
+SameSteps g P =
+    (q k : ℕ) (a b : Listing) (visits-a visits-b : List ℕ) → EagerCall g P q k a visits-a → EagerCall g P q k b visits-b
+    → (a .count ≡ b .count) × (take (a .count) visits-a ≡ take (b .count) visits-b)
 
 -- Each call's number and changed count equal the book's. 'After the list the lent marks equal the book's, [..] and both table arrays hold the rows of
 -- those marks', and the searches agree, those without a table for every k. Lazy and lazy-EP have one contract.
@@ -74,7 +95,9 @@ pub record Demand3 (g : Network) (P₀ : List ℕ) (K : ℕ) (calls : List Call)
       → nodeCount g ≤ length old → Agree g P K ids distances q k scratch old scratch′ new r
   -- the short query is eager with k = 1 and limit 65,535, which no count exceeds
   pub short : (q : ℕ) → q < nodeCount g → (scratch old scratch′ new : List ℕ) (r : Listing) → eagerWords g ≤ length scratch → nodeCount g ≤ length old
-      → SearchExported (eagerOutcome g P q 1 65535 scratch old) r scratch′ new → Quotes g P q 1 old new r × (r .count ≡ expanded g P q 1)
+      → SearchExported (shortOutcome g P q scratch old) r scratch′ new → Quotes g P q 1 old new r × (r .count ≡ expanded g P q 1)
+  -- both machines take the same steps
+  pub steps : SameSteps g P
   -- the table is as built afresh: build, lent these marks, is accepted and writes the same arrays
   pub afresh : (scratch a b : List ℕ) → scratchWords g K ≤ length scratch → Sized g K a b
       → buildOutcome g P K scratch a b ≡ record { number = 0; scratch = replicate (length scratch) 0; ids = ids; distances = distances }

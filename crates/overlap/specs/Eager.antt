@@ -1,4 +1,6 @@
--- The eager call: 1 to 5, 6, 7, 9, 10, 12. Document 01, 'What a site receives': eager 'returns the list and the count of nodes expanded'.
+-- The eager call and the short query, the searches with a limit (the short query's is 65,535): 1 to 5, 6, 7, 9, 10, 12. Document 01, 'What a site
+-- receives': eager 'returns the list and the count of nodes expanded'; document 02, Ask 4: it 'also lists the nodes that its count counts [..]; the
+-- short query doesn't'.
 -- Assumes nothing.
 use Prim.Native.Nat.{ℕ}
 use mathlib.Core.Bool.{cond}
@@ -6,15 +8,19 @@ use mathlib.Core.List.{List, [], _∷_}
 use lib.ListN.{length, replicate}
 use Rattle.network.specs.Network.{Network, nodeCount}
 use Rattle.network.specs.Points.{listed, expanded, exceedsLimit}
+use Rattle.network.specs.Visits.{visits}
 use Rattle.network.specs.Answers.{answered}
-use Rattle.overlap.specs.declared.listed.Listed.the-variants as is
 use Rattle.searches.specs.Eager.{eagerWords}
+use Rattle.searches.specs.declared.eager.Answer.{Answer}
+use Rattle.searches.specs.declared.eager.Answer.the-variants as found
+use Rattle.overlap.specs.declared.listed.Listed as call
+use Rattle.overlap.specs.declared.listed.Listed.the-variants as is
 use Rattle.overlap.specs.Numbers.{firstNumber, byNumber, siteNumber, kNumber, shortNumber}
 use Rattle.overlap.specs.Listed.{SearchOutcome}
 
--- 10 compares with 12 × n (Ask 5), for every k
-unfoldable pub eagerNumber : Network → List ℕ → ℕ → ℕ → List ℕ → List ℕ → ℕ
-eagerNumber g P q k scratch answers =
+-- what both test: 10 compares with 12 × n (Ask 5), for every k
+unfoldable pub limitedNumber : Network → List ℕ → ℕ → ℕ → List ℕ → List ℕ → ℕ
+limitedNumber g P q k scratch answers =
     firstNumber
     (siteNumber g P q
     ∷ kNumber k
@@ -22,11 +28,19 @@ eagerNumber g P q k scratch answers =
     ∷ shortNumber (length answers) (nodeCount g)
     ∷ [])
 
--- 'A refusal .. changes no buffer; 12 alone leaves the scratch all zero.'
-unfoldable pub eagerOutcome : Network → List ℕ → ℕ → ℕ → ℕ → List ℕ → List ℕ → SearchOutcome
-eagerOutcome g P q k limit scratch answers =
-    byNumber (eagerNumber g P q k scratch answers)
-    (record { answer = is.Refused (eagerNumber g P q k scratch answers); scratch = scratch; answers = answers })
+-- what eager tests: '10 if the new list's array is shorter than n' too (Ask 4)
+unfoldable pub eagerNumber : Network → List ℕ → ℕ → ℕ → List ℕ → List ℕ → List ℕ → ℕ
+eagerNumber g P q k scratch answers seen =
+    firstNumber
+    (limitedNumber g P q k scratch answers
+    ∷ shortNumber (length seen) (nodeCount g)
+    ∷ [])
+
+-- what a search with a limit leaves, by its number: 'A refusal .. changes no buffer; 12 alone leaves the scratch all zero.'
+unfoldable pub limitedOutcome : ℕ → Network → List ℕ → ℕ → ℕ → ℕ → List ℕ → List ℕ → SearchOutcome
+limitedOutcome number g P q k limit scratch answers =
+    byNumber number
+    (record { answer = is.Refused number; scratch = scratch; answers = answers })
     (cond (exceedsLimit g P q k limit)
     (record { answer = is.Refused 12; scratch = replicate (length scratch) 0; answers = answers })
     (record {
@@ -34,3 +48,29 @@ eagerOutcome g P q k limit scratch answers =
       scratch = replicate (length scratch) 0;
       answers = answered (listed g P q k) answers;
     }))
+
+-- what it leaves in the array for the visits: they and then the old entries; every refusal, 12 included, leaves it as it was
+unfoldable pub visitsOutcome : ℕ → Network → List ℕ → ℕ → ℕ → ℕ → List ℕ → List ℕ
+visitsOutcome number g P q k limit seen = byNumber number seen (cond (exceedsLimit g P q k limit) seen (answered (visits g P q k) seen))
+
+-- eager: the answer and the final contents of the lent arrays
+pub record EagerOutcome : Type 0 where
+  pub search : SearchOutcome
+  pub visits : List ℕ
+
+unfoldable pub eagerOutcome : Network → List ℕ → ℕ → ℕ → ℕ → List ℕ → List ℕ → List ℕ → EagerOutcome
+eagerOutcome g P q k limit scratch answers seen =
+    let number = eagerNumber g P q k scratch answers seen in
+    record {
+      search = limitedOutcome number g P q k limit scratch answers;
+      visits = visitsOutcome number g P q k limit seen;
+    }
+
+-- 'The short query: no k and no limit; eager with k = 1 and limit 65,535', without the visits
+unfoldable pub shortOutcome : Network → List ℕ → ℕ → List ℕ → List ℕ → SearchOutcome
+shortOutcome g P q scratch answers = limitedOutcome (limitedNumber g P q 1 scratch answers) g P q 1 65535 scratch answers
+
+-- the answer of either, from that of the search
+abbrev pub limitedListed : Answer → call.Listed
+limitedListed found.Refused = is.Refused 12
+limitedListed (found.Listed size count) = is.Points size count

@@ -18,12 +18,12 @@ use Rattle.overlap.specs.Numbers.{buildNumber, tableQueryNumber}
 use Rattle.overlap.specs.Distances.{distancesOutcome}
 use Rattle.overlap.specs.Nearest.{nearestOutcome}
 use Rattle.overlap.specs.Verify.{verifyOutcome}
-use Rattle.overlap.specs.Eager.{eagerOutcome}
+use Rattle.overlap.specs.Eager.{eagerOutcome, shortOutcome}
 use Rattle.overlap.specs.Lazy.{lazyOutcome}
 use Rattle.overlap.specs.Updated.{changeNumber}
 use Rattle.overlap.specs.TableCheck.{tableCheckAnswer}
 
--- N; a scratch of S entries for m = 2, of any contents; six old answers; and the table of N with K = 2
+-- N; a scratch of S entries for m = 2, of any contents; six old answers; seven old visits; and the table of N with K = 2
 abbrev pub N : Network
 N = roads 7
 
@@ -32,6 +32,9 @@ scratch = replicate 352 9
 
 abbrev pub old : List ℕ
 old = replicate 6 9
+
+abbrev pub seen : List ℕ
+seen = replicate 7 8
 
 abbrev pub ids : List ℕ
 ids = 2 ∷ 4 ∷ 2 ∷ 4 ∷ 2 ∷ 4 ∷ 4 ∷ 2 ∷ 4 ∷ 2 ∷ 5 ∷ NONE ∷ []
@@ -74,22 +77,35 @@ pub record Examples : Type 0 where
   pub at-15 : changeNumber Insert N (0 ∷ 0 ∷ 15 ∷ 0 ∷ 1 ∷ 1 ∷ []) 2 2 scratch ids distances ≡ 11
   pub at-0 : verifyOutcome N points 0 2 1 scratch ≡ record { answer = rule.Refused 11; scratch = scratch }
   pub second : changeNumber Insert N points 2 2 scratch ids distances ≡ 0
-  -- 12: 'N, q = 0, k = 2, limit 3': '12 alone leaves the scratch all zero'
-  pub no-12 : eagerOutcome N points 0 2 3 scratch old ≡ record { answer = is.Refused 12; scratch = replicate 352 0; answers = old }
-  -- 'Limit 4 answers P2'; 'Answer arrays hold the answer, then their old entries.'
-  pub limit-4 : eagerOutcome N points 0 2 4 scratch old
-      ≡ record { answer = is.Points 2 4; scratch = replicate 352 0; answers = 2 ∷ 4 ∷ 9 ∷ 9 ∷ 9 ∷ 9 ∷ [] }
+  -- 12: 'N, q = 0, k = 2, limit 3': '12 alone leaves the scratch all zero'; it changes no visit
+  pub no-12 : eagerOutcome N points 0 2 3 scratch old seen
+      ≡ record { search = record { answer = is.Refused 12; scratch = replicate 352 0; answers = old }; visits = seen }
+  -- 'Limit 4 answers P2'; 'Answer arrays hold the answer, then their old entries'; so does the array for the visits (Ask 4)
+  pub limit-4 : eagerOutcome N points 0 2 4 scratch old seen
+      ≡ record {
+        search = record { answer = is.Points 2 4; scratch = replicate 352 0; answers = 2 ∷ 4 ∷ 9 ∷ 9 ∷ 9 ∷ 9 ∷ [] };
+        visits = 0 ∷ 1 ∷ 3 ∷ 2 ∷ 8 ∷ 8 ∷ 8 ∷ [];
+      }
+  -- Ask 4: '10 if the new list's array is shorter than n'; 'the short query doesn't' list them, and has no such array
+  pub few-visits : eagerOutcome N points 0 2 4 scratch old (replicate 5 8)
+      ≡ record { search = record { answer = is.Refused 10; scratch = scratch; answers = old }; visits = replicate 5 8 }
+  pub short-P1 : shortOutcome N points 0 (replicate 72 9) old
+      ≡ record { answer = is.Points 1 1; scratch = replicate 72 0; answers = 2 ∷ 9 ∷ 9 ∷ 9 ∷ 9 ∷ 9 ∷ [] }
   -- one word of scratch less than S
   pub short : lazyOutcome N points 0 2 (replicate 351 9) old ≡ record { answer = is.Refused 10; scratch = replicate 351 9; answers = old }
   -- Ask 5: '12 × n entries for every k', and one word less; lazy asks S; two nodes of which one has 15 lockers: the other alone is expanded
-  pub in-72 : eagerOutcome N points 0 16 65535 (replicate 72 9) old
-      ≡ record { answer = is.Points 2 5; scratch = replicate 72 0; answers = 2 ∷ 4 ∷ 9 ∷ 9 ∷ 9 ∷ 9 ∷ [] }
-  pub in-71 : eagerOutcome N points 0 1 65535 (replicate 71 9) old ≡ record { answer = is.Refused 10; scratch = replicate 71 9; answers = old }
+  pub in-72 : eagerOutcome N points 0 16 65535 (replicate 72 9) old seen
+      ≡ record {
+        search = record { answer = is.Points 2 5; scratch = replicate 72 0; answers = 2 ∷ 4 ∷ 9 ∷ 9 ∷ 9 ∷ 9 ∷ [] };
+        visits = 0 ∷ 1 ∷ 3 ∷ 2 ∷ 4 ∷ 8 ∷ 8 ∷ [];
+      }
+  pub in-71 : eagerOutcome N points 0 1 65535 (replicate 71 9) old seen
+      ≡ record { search = record { answer = is.Refused 10; scratch = replicate 71 9; answers = old }; visits = seen }
   pub verify-in-72 : verifyOutcome N points 2 0 16 (replicate 72 9) ≡ record { answer = rule.Answer true; scratch = replicate 72 0 }
   pub verify-in-71 : verifyOutcome N points 2 0 1 (replicate 71 9) ≡ record { answer = rule.Refused 10; scratch = replicate 71 9 }
   pub lazy-in-72 : lazyOutcome N points 0 2 (replicate 72 9) old ≡ record { answer = is.Refused 10; scratch = replicate 72 9; answers = old }
-  pub in-24 : eagerOutcome two (0 ∷ 15 ∷ []) 0 3 65535 (replicate 24 9) (9 ∷ 9 ∷ [])
-      ≡ record { answer = is.Points 0 1; scratch = replicate 24 0; answers = 9 ∷ 9 ∷ [] }
+  pub in-24 : eagerOutcome two (0 ∷ 15 ∷ []) 0 3 65535 (replicate 24 9) (9 ∷ 9 ∷ []) (8 ∷ 8 ∷ [])
+      ≡ record { search = record { answer = is.Points 0 1; scratch = replicate 24 0; answers = 9 ∷ 9 ∷ [] }; visits = 0 ∷ 8 ∷ [] }
   -- the first condition met: 6 before 7, 9 and 10
   pub first : lazyOutcome N (replicate 5 0) 6 0 [] [] ≡ record { answer = is.Refused 6; scratch = []; answers = [] }
   -- 'Distances from a node: n entries, NONE where none.'

@@ -8,6 +8,7 @@ use Rattle.overlap.specs.declared.Verdict.{Verdict}
 use Rattle.overlap.specs.Nearest.{NearestOutcome, foundListing}
 use Rattle.overlap.specs.Verify.{VerifyOutcome, ruleVerdict}
 use Rattle.overlap.specs.Listed.{SearchOutcome, listedListing}
+use Rattle.overlap.specs.Eager.{EagerOutcome}
 
 pub record NearestExported (outcome : NearestOutcome) (r : Listing) (scratch ids distances : List ℕ) : Type 0 where
   pub answer : r ≡ foundListing (outcome .answer)
@@ -23,3 +24,7 @@ pub record SearchExported (outcome : SearchOutcome) (r : Listing) (scratch answe
   pub answer : r ≡ listedListing (outcome .answer)
   pub scratch-left : scratch ≡ outcome .scratch
   pub answers-left : answers ≡ outcome .answers
+
+pub record EagerExported (outcome : EagerOutcome) (r : Listing) (scratch answers visits : List ℕ) : Type 0 where
+  pub search : SearchExported (outcome .search) r scratch answers
+  pub visits-left : visits ≡ outcome .visits

@@ -1,13 +1,26 @@
 // The eager call: its work once no condition of 1 to 10 is met. Document 01, 'What a site receives': 'It takes a 32-bit limit and returns the list
-// and the count of nodes expanded.'
+// and the count of nodes expanded.' Document 02, Ask 4: 'Eager also lists the nodes that its count counts'.
 ghost use mathlib.Core.Path.{_≡_};
 ghost use Rattle.network.specs.Network.{network};
-ghost use Rattle.overlap.specs.Eager.{eagerOutcome};
+ghost use Rattle.overlap.specs.Eager.{eagerOutcome, limitedListed};
 use crate::listed::Listed;
 use crate::numbers;
 use expansion::words;
 use network::arcs::wide;
 use searches::eager::Answer;
+
+// The answer of a search with a limit, with the number of its refusal.
+pub fn listed_of(answer: Answer) -> Listed
+    ensures { λ r. ⌜ r ≡ limitedListed answer ⌝ }
+{
+    match answer {
+        Answer::Refused => Listed::Refused(12),
+        Answer::Listed { size, count } => Listed::Points {
+            length: size,
+            count,
+        },
+    }
+}
 
 // The whole call.
 pub fn answer(
@@ -20,8 +33,9 @@ pub fn answer(
     limit: u32,
     scratch: &mut [u32],
     answers: &mut [u32],
+    visits: &mut [u32],
 ) -> Listed
-    ensures { λ r. ⌜ record { answer = r; scratch = now (scratch .exit); answers = now (answers .exit) } ≡ eagerOutcome (network (now (starts .entry)) (now (neighbours .entry)) (now (weights .entry))) (now (points .entry)) q k limit (now (scratch .entry)) (now (answers .entry)) ⌝ }
+    ensures { λ r. ⌜ record { search = record { answer = r; scratch = now (scratch .exit); answers = now (answers .exit) }; visits = now (visits .exit) } ≡ eagerOutcome (network (now (starts .entry)) (now (neighbours .entry)) (now (weights .entry))) (now (points .entry)) q k limit (now (scratch .entry)) (now (answers .entry)) (now (visits .entry)) ⌝ }
 {
     let refusal = numbers::eager_number(
         starts,
@@ -32,26 +46,22 @@ pub fn answer(
         k,
         scratch,
         answers,
+        visits,
     );
     if refusal != 0 {
         return Listed::Refused(refusal);
     }
     words::zero(scratch);
-    match searches::eager::eager(
+    listed_of(searches::eager::eager(
         starts,
         neighbours,
         weights,
         points,
         scratch,
         answers,
+        visits,
         q,
         wide(k),
         limit,
-    ) {
-        Answer::Refused => Listed::Refused(12),
-        Answer::Listed { size, count } => Listed::Points {
-            length: size,
-            count,
-        },
-    }
+    ))
 }

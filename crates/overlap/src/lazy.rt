@@ -2,7 +2,7 @@
 // the list.'
 ghost use mathlib.Core.Path.{_≡_};
 ghost use Rattle.network.specs.Network.{network};
-ghost use Rattle.searches.specs.Eager.{CanSearch};
+ghost use Rattle.searches.specs.Eager.{CanSearch, HasPlaces};
 ghost use Rattle.lazy_searches.specs.Lazy.{SearchLeft};
 ghost use Rattle.lazy_searches.specs.LazyEp.{CanExtend};
 ghost use Rattle.overlap.specs.Listed.{SearchReady};
@@ -30,7 +30,8 @@ fn search(
     q: u32,
     k: usize,
 ) -> usize
-    requires { ⌜ CanSearch (network (now starts) (now neighbours) (now weights)) (now points) (now area) (now answers) q k ⌝ }
+    requires { ⌜ CanSearch (network (now starts) (now neighbours) (now weights)) (now points) (now area) q k ⌝ }
+    requires { ⌜ HasPlaces (network (now starts) (now neighbours) (now weights)) (now answers) ⌝ }
     requires { ⌜ CanExtend (network (now starts) (now neighbours) (now weights)) (now points) (now area) (now answers) q k ⌝ }
     ensures { λ r. ⌜ SearchLeft (network (now (starts .entry)) (now (neighbours .entry)) (now (weights .entry))) (now (points .entry)) q k (now (area .entry)) (now (area .exit)) (now (answers .entry)) (now (answers .exit)) r ⌝ }
 {

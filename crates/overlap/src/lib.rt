@@ -5,7 +5,7 @@ ghost use Rattle.network.specs.Check.{networkNumber};
 ghost use Rattle.overlap.specs.Distances.{distancesOutcome};
 ghost use Rattle.overlap.specs.Nearest.{nearestOutcome};
 ghost use Rattle.overlap.specs.Verify.{verifyOutcome, ruleVerdict};
-ghost use Rattle.overlap.specs.Eager.{eagerOutcome};
+ghost use Rattle.overlap.specs.Eager.{eagerOutcome, shortOutcome};
 ghost use Rattle.overlap.specs.Lazy.{lazyOutcome};
 ghost use Rattle.overlap.specs.Listed.{listedListing};
 ghost use Rattle.overlap.specs.Numbers.{tableQueryNumber};
@@ -14,7 +14,7 @@ ghost use Rattle.overlap.specs.declared.updated.Kind.the-variants.{Inser
 ghost use Rattle.overlap.specs.TableQuery.{QueryLeft};
 ghost use Rattle.overlap.specs.Build.{buildOutcome};
 ghost use Rattle.overlap.specs.Updated.{ChangeLeft, updatedUpdate};
-ghost use Rattle.overlap.specs.Exported.{NearestExported, VerifyExported, SearchExported};
+ghost use Rattle.overlap.specs.Exported.{NearestExported, VerifyExported, SearchExported, EagerExported};
 use lazy::Method;
 use listed::Listed;
 use nearest::Found;
@@ -29,6 +29,7 @@ mod lazy;
 mod listed;
 mod nearest;
 mod numbers;
+mod short_query;
 mod table_check;
 mod table_query;
 mod updated;
@@ -179,10 +180,12 @@ fn listing_of(answer: Listed) -> Listing
     }
 }
 
-// Eager. Lent: the network, the points, scratch of 12 × n entries (Ask 5), and an array for n answers. Returned: number 0, the length of the list and
-// the nodes expanded, or 1 to 5, 6, 7, 9, 10, 12. Accepted: the answers are the listed points, ascending, then the old entries, and the whole
-// scratch is zero. Refused: nothing is written, but 12 leaves the whole scratch zero. Document 01: 'Eager (000, Fig. 4): expands outward from q,
-// stops behind a node with k points strictly nearer than q. It takes a 32-bit limit and returns the list and the count of nodes expanded.'
+// Eager. Lent: the network, the points, scratch of 12 × n entries (Ask 5), an array for n answers, and one for n visits (Ask 4). Returned: number 0, the
+// length of the list and the nodes expanded, or 1 to 5, 6, 7, 9, 10, 12. Accepted: the answers are the listed points, ascending, then the old entries; the
+// visits are the nodes expanded, by distance from q and then by node, then the old entries; and the whole scratch is zero. Refused: nothing is written, but
+// 12 leaves the whole scratch zero. Document 01: 'Eager (000, Fig. 4): expands outward from q, stops behind a node with k points strictly nearer than
+// q. It takes a 32-bit limit and returns the list and the count of nodes expanded.' Document 02: 'Eager also lists the nodes that its count counts, by
+// distance from the site and then by node'.
 #[no_mangle]
 pub extern "C" fn overlap_eager(
     starts: &[u32],
@@ -194,8 +197,9 @@ pub extern "C" fn overlap_eager(
     limit: u32,
     scratch: &mut [u32],
     answers: &mut [u32],
+    visits: &mut [u32],
 ) -> Listing
-    ensures { λ r. ⌜ SearchExported (eagerOutcome (network (now (starts .entry)) (now (neighbours .entry)) (now (weights .entry))) (now (points .entry)) q k limit (now (scratch .entry)) (now (answers .entry))) r (now (scratch .exit)) (now (answers .exit)) ⌝ }
+    ensures { λ r. ⌜ EagerExported (eagerOutcome (network (now (starts .entry)) (now (neighbours .entry)) (now (weights .entry))) (now (points .entry)) q k limit (now (scratch .entry)) (now (answers .entry)) (now (visits .entry))) r (now (scratch .exit)) (now (answers .exit)) (now (visits .exit)) ⌝ }
 {
     listing_of(eager::answer(
         starts,
@@ -207,11 +211,13 @@ pub extern "C" fn overlap_eager(
         limit,
         scratch,
         answers,
+        visits,
     ))
 }
 
 // The short query. Lent: the network, the points, scratch of 12 × n entries (Ask 5), and an array for n answers. Returned and left: as eager with k =
-// 1 and limit 65,535, which no count exceeds. Document 01: 'The short query: no k and no limit; eager with k = 1 and limit 65,535.'
+// 1 and limit 65,535, which no count exceeds, but for the visits: it lists none (Ask 4). Document 01: 'The short query: no k and no limit; eager with
+// k = 1 and limit 65,535.'
 #[no_mangle]
 pub extern "C" fn overlap_short_query(
     starts: &[u32],
@@ -222,19 +228,9 @@ pub extern "C" fn overlap_short_query(
     scratch: &mut [u32],
     answers: &mut [u32],
 ) -> Listing
-    ensures { λ r. ⌜ SearchExported (eagerOutcome (network (now (starts .entry)) (now (neighbours .entry)) (now (weights .entry))) (now (points .entry)) q 1 65535 (now (scratch .entry)) (now (answers .entry))) r (now (scratch .exit)) (now (answers .exit)) ⌝ }
+    ensures { λ r. ⌜ SearchExported (shortOutcome (network (now (starts .entry)) (now (neighbours .entry)) (now (weights .entry))) (now (points .entry)) q (now (scratch .entry)) (now (answers .entry))) r (now (scratch .exit)) (now (answers .exit)) ⌝ }
 {
-    overlap_eager(
-        starts,
-        neighbours,
-        weights,
-        points,
-        q,
-        1,
-        65535,
-        scratch,
-        answers,
-    )
+    listing_of(short_query::answer(starts, neighbours, weights, points, q, scratch, answers))
 }
 
 // Lazy. Lent: the network, the points, scratch of S entries with m = k, and an array for n answers. Returned: number 0 and the length of the list,

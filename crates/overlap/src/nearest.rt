@@ -1,11 +1,8 @@
 // The nearest call: its work once no condition is met. Document 01, 'What a site receives': 'Nearest: the points p with d(node, p) < e, e any 32-bit
 // number, by distance then node, cut after the first k; ids and distances in two arrays.'
 ghost use mathlib.Core.Path.{_≡_};
-ghost use Prim.Native.Nat.{_+_, _≤_};
-ghost use lib.ListN.{length, getD, replicate};
-ghost use Rattle.network.specs.Count.{tabulate};
+ghost use lib.ListN.{length, replicate};
 ghost use Rattle.network.specs.Network.{network};
-ghost use Rattle.network.specs.Answers.{answered};
 ghost use Rattle.overlap.specs.Nearest.{nearestOutcome, NearestReady, NearestDone};
 use crate::numbers;
 use expansion::words;
@@ -15,18 +12,6 @@ use network::arcs::wide;
 pub enum Found {
     Refused(u32),
     Points(usize),
-}
-
-// Copies `count` words from word `at` on to the front of an answer array.
-fn copy(from: &[u32], at: usize, count: usize, answers: &mut [u32])
-    requires { ⌜ (at + count ≤ length (now from)) × (count ≤ length (now answers)) ⌝ }
-    ensures { λ _. ⌜ now (answers .exit) ≡ answered (tabulate (λ i. getD (now (from .entry)) (at + i) 0) count) (now (answers .entry)) ⌝ }
-{
-    let mut i = 0;
-    while i < count {
-        answers[i] = from[at + i];
-        i += 1;
-    }
 }
 
 // Clears the scratch, searches over it, copies what was found, and clears that.
@@ -57,9 +42,9 @@ fn run(
         e,
         places,
     );
-    copy(scratch, places, found, ids);
+    words::copy(scratch, places, found, ids);
     let behind = 2 * places;
-    copy(scratch, behind, found, distances);
+    words::copy(scratch, behind, found, distances);
     let end = 3 * places;
     words::zero(&mut scratch[..end]);
     found

@@ -10,7 +10,7 @@ ghost use Rattle.overlap.specs.Distances.{distancesNumber};
 ghost use Rattle.overlap.specs.Nearest.{nearestNumber};
 ghost use Rattle.overlap.specs.Verify.{verifyNumber};
 ghost use Rattle.overlap.specs.Listed.{searchNumber};
-ghost use Rattle.overlap.specs.Eager.{eagerNumber};
+ghost use Rattle.overlap.specs.Eager.{limitedNumber, eagerNumber};
 ghost use Rattle.overlap.specs.Updated.{changeNumber};
 use crate::updated::Kind;
 use network::arcs::wide;
@@ -285,8 +285,8 @@ pub fn verify_number(
     unmarked_number(points, p)
 }
 
-// Eager and the short query but for 12: 1 to 5, 6, 7, 9, 10.
-pub fn eager_number(
+// The short query, and eager but for its visits and 12: 1 to 5, 6, 7, 9, 10.
+pub fn limited_number(
     starts: &[u32],
     neighbours: &[u32],
     weights: &[u32],
@@ -296,7 +296,7 @@ pub fn eager_number(
     scratch: &[u32],
     answers: &[u32],
 ) -> u32
-    ensures { λ r. ⌜ r ≡ eagerNumber (network (now (starts .entry)) (now (neighbours .entry)) (now (weights .entry))) (now (points .entry)) q k (now (scratch .entry)) (now (answers .entry)) ⌝ }
+    ensures { λ r. ⌜ r ≡ limitedNumber (network (now (starts .entry)) (now (neighbours .entry)) (now (weights .entry))) (now (points .entry)) q k (now (scratch .entry)) (now (answers .entry)) ⌝ }
 {
     let number = site_number(starts, neighbours, weights, points, q);
     if number != 0 {
@@ -312,6 +312,27 @@ pub fn eager_number(
         return number;
     }
     short_number(answers.len(), n)
+}
+
+// Eager but for 12: 10 of its visits too (Ask 4).
+pub fn eager_number(
+    starts: &[u32],
+    neighbours: &[u32],
+    weights: &[u32],
+    points: &[u8],
+    q: u32,
+    k: u32,
+    scratch: &[u32],
+    answers: &[u32],
+    visits: &[u32],
+) -> u32
+    ensures { λ r. ⌜ r ≡ eagerNumber (network (now (starts .entry)) (now (neighbours .entry)) (now (weights .entry))) (now (points .entry)) q k (now (scratch .entry)) (now (answers .entry)) (now (visits .entry)) ⌝ }
+{
+    let number = limited_number(starts, neighbours, weights, points, q, k, scratch, answers);
+    if number != 0 {
+        return number;
+    }
+    short_number(visits.len(), starts.len() - 1)
 }
 
 // Lazy and lazy-EP: 1 to 5, 6, 7, 9, 10.

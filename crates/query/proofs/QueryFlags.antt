@@ -256,6 +256,7 @@ module _ {g : Network} {P ids dists : List ℕ} {q k K : ℕ} {xs : List ℕ} {v
     looked t walk f =
         record {
           size = w .grown .size;
+          stays = λ i h m. w .grown .words i h;
           blank = record { zero = λ j h. w .grown .words j (omega arith) ∙ c .verify .front .blank .zero j (omega arith) };
           flags = all .flags;
           grows = w .grown .grows;

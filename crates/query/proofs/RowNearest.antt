@@ -18,10 +18,9 @@ use Rattle.network.specs.Nearest.{key, byDistance, nearest, Ordered, before, Ne
 use Rattle.network.specs.Rows.{tableIds, tableDistances}
 use Rattle.network.proofs.Counts.{member-at}
 use Rattle.network.proofs.Distances.{dist-at-most, dist-walk, dist-self, dist-symmetric, dist-triangle}
-use Rattle.network.proofs.Ordered.{AllIn, below, below-most, same-below, take-all-in, take-ordered, take-few}
+use Rattle.network.proofs.Ordered.{AllIn, below, below-most, same-below, take-all-in, take-ordered, take-few, at-above, at-below}
 use Rattle.network.proofs.Rank.{before-mono, before-up, count-before, others-less}
 use Rattle.network.proofs.Rows.{nearest-ordered, nearest-small, nearest-below, nearest-length, listed-near}
-use Rattle.expansion.proofs.FoundLaws.{at-above, at-below}
 use Rattle.expansion.proofs.VisitLaws.{nearer-mono, nearer-none}
 use Rattle.searches.proofs.Listed.{verified-parts}
 use Rattle.searches.proofs.LookLaws.{place-of}

@@ -3,7 +3,7 @@
 use Prim.Native.Nat.{ℕ, suc, _<_}
 use mathlib.Core.Path.{_≡_}
 use mathlib.Core.Bool.{true, false}
-use mathlib.Core.Logic.{_≢_, inl}
+use mathlib.Core.Logic.{_≢_}
 use mathlib.Core.List.{List}
 use native.Mathlib.Omega.{arith}
 use native.Mathlib.Decide.{ℕ-discrete}
@@ -61,13 +61,7 @@ module _ {g : Network} (ok : Accepted g) (P : List ℕ) (q k : ℕ) (Settled : �
         | no n ↦ let f = eager-finished p low h n in told (f .node) (dist g q (f .node)) p (f .settled) (f .near) h
       ]
 
-  -- the nodes that the search goes through are settled
-  pub expanded-settled : (m : ℕ) → isExpanded g P q k m ≡ true → Settled m (dist g q m)
-  expanded-settled m h =
-      let r = expanded-unbeaten g P q k m .0 h in
-      all m (inl (r .1)) (omega (arith, r .0, dist-symmetric ok q m))
-
--- and those of the nodes come to that are unbeaten are they
+-- the nodes come to that are unbeaten are those that the search goes through
 pub come-expanded : {g : Network} → Accepted g → (P : List ℕ) (q k m : ℕ) {l : ℕ} → Walk g q m l → Unbeaten g P q k m → isExpanded g P q k m ≡ true
 come-expanded {g} ok P q k m walk n =
     expanded-unbeaten g P q k m .1 (omega (arith, dist-walk ok walk .some, dist-symmetric ok q m), n)

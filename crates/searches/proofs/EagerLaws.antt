@@ -1,7 +1,8 @@
--- Where eager begins: all words 0 but the site's own flag. And where it ends: the list of the found flags is the list of the site.
+-- Where eager begins: all words 0 but the site's own flag. And where it ends: the list of the found flags is the list of the site, and the words
+-- behind the flags are the visits.
 -- Assumes nothing.
 use Prim.Native.Nat.{ℕ, _+_, _*_, _<_, _≤_}
-use mathlib.Core.Path.{_≡_, refl, ap, _∙_}
+use mathlib.Core.Path.{_≡_, refl, sym, ap, _∙_}
 use mathlib.Core.Bool.{Bool, true, false}
 use mathlib.Core.Logic.{_≢_}
 use mathlib.Core.List.{List}
@@ -10,14 +11,19 @@ use native.Mathlib.Omega.{arith}
 use lib.ListN.{length, getD, set, length-set}
 use lib.Seq.{getD-set-same, getD-set-other}
 use Rattle.network.specs.Network.{Network, nodeCount}
-use Rattle.network.specs.Count.{bit, select}
+use Rattle.network.specs.Count.{bit, select, tabulate}
 use Rattle.network.specs.Points.{marked, isListed, listed}
 use Rattle.network.specs.Accepted.{Accepted}
+use Rattle.network.specs.Visits.{visits}
+use Rattle.network.specs.Answers.{answered}
+use Rattle.network.proofs.Tabulate.{tabulate-list}
+use Rattle.network.proofs.Visits.{visits-count}
 use Rattle.expansion.specs.Area.{Wiped, Blank}
 use Rattle.expansion.proofs.Settled.{wiped-after}
 use Rattle.searches.specs.declared.eager.End.{End}
-use Rattle.searches.specs.Eager.{CanSearch, CanExplore, isFound, Complete}
-use Rattle.searches.specs.Flags.{Flags}
+use Rattle.searches.specs.declared.eager.Answer.{Answer}
+use Rattle.searches.specs.Eager.{HasPlaces, CanSearch, CanExplore, isFound, Complete, ExploreLeft, CanFinish, FinishLeft, LimitedLeft, VisitsLeft}
+use Rattle.searches.specs.Flags.{flagsEnd, Flags}
 use Rattle.searches.proofs.Listed.{own-listed}
 use Rattle.searches.proofs.Selected.{select-same}
 
@@ -51,7 +57,7 @@ module _ {g : Network} (ok : Accepted g) (P : List ℕ) (q : ℕ) {xs : List ℕ
     pub first-own : isListed g P q k q ≡ true → getD (set xs (nodeCount g + q) (bit (marked P q))) (nodeCount g + q) 0 ≢ 0
     first-own a z = omega (arith, first-here, ap bit (own-listed ok P q k some .0 a))
 
-pub begun : {g : Network} {P xs old : List ℕ} {q k : ℕ} → CanSearch g P xs old q k
+pub begun : {g : Network} {P xs : List ℕ} {q k : ℕ} → CanSearch g P xs q k
     → CanExplore g P (set xs (nodeCount g + q) (bit (marked P q))) (8 * nodeCount g) q k
 begun {g} {P} {xs} {q} {k} c =
     let fits : nodeCount g + q < length xs = omega (arith, c .size, c .site) in
@@ -75,3 +81,44 @@ found-listed {g} {P} {q} {k} {ys} d = select-same (isFound (nodeCount g) ys) (is
 -- all words are 0 at the end
 pub wiped-size : {xs ys zs : List ℕ} → length ys ≡ length xs → Wiped ys zs 0 → Wiped xs zs 0
 wiped-size e w = wiped-after (record { size = e; words = λ i h. absurd (omega arith) }) w
+
+-- the words of the visits, where it ends
+pub kept-visits : {g : Network} → Accepted g → {P : List ℕ} {q k limit : ℕ} {ys : List ℕ} {r : End} → Complete g P q k limit ys r
+    → tabulate (λ i. getD ys (flagsEnd g + i) 0) (r .count) ≡ visits g P q k
+kept-visits {g} ok {P} {q} {k} {ys = ys} {r = r} d =
+    let e : r .count ≡ length (visits g P q k) = d .count ∙ sym (visits-count ok P q k) in
+    ap (tabulate (λ i. getD ys (flagsEnd g + i) 0)) e
+    ∙ tabulate-list (λ i. getD ys (flagsEnd g + i) 0) (visits g P q k) (λ i h. d .visited i (omega (arith, e)))
+
+-- ---- The whole call, from what the expansion leaves.
+module _ {g : Network} (ok : Accepted g) {P : List ℕ} {q k limit : ℕ} {xs ys : List ℕ} {r : End} (e : ExploreLeft g P q k limit xs ys (8 * nodeCount g) r) where
+  pub can-finish : {old : List ℕ} → HasPlaces g old → CanFinish (nodeCount g) ys old r
+  can-finish h = record { wipe = record { area = e .area; low = omega arith; blank = e .blank }; few = ok .few; places = h }
+
+  pub limited-left : {zs old new : List ℕ} {a : Answer} → FinishLeft (nodeCount g) ys zs old new r a → LimitedLeft g P q k limit xs zs old new a
+  limited-left {zs} {old} {new} {a} f = by (r .refused) refl
+    where
+      by : (b : Bool) → r .refused ≡ b → LimitedLeft g P q k limit xs zs old new a
+      by true h =
+          rw (f .refused h .0)
+          (record { beyond = e .beyond h; answers = f .refused h .1; area = wiped-size (e .size) (f .area) })
+      by false h =
+          let d = e .complete h in
+          let l = found-listed d in
+          rw (f .listed h .0)
+          (record {
+            within = d .within;
+            counted = d .count;
+            sized = ap length l;
+            answers = rw (← l) (f .listed h .1);
+            area = wiped-size (e .size) (f .area);
+          })
+
+  pub visits-left : {zs old new seen seen′ : List ℕ} {a : Answer} → FinishLeft (nodeCount g) ys zs old new r a
+      → (r .refused ≡ true → seen′ ≡ seen) → (r .refused ≡ false → seen′ ≡ answered (tabulate (λ i. getD ys (flagsEnd g + i) 0) (r .count)) seen)
+      → VisitsLeft g P q k seen seen′ a
+  visits-left {seen = seen} {seen′ = seen′} {a = a} f same copied = by (r .refused) refl
+    where
+      by : (b : Bool) → r .refused ≡ b → VisitsLeft g P q k seen seen′ a
+      by true h = rw (f .refused h .0) (same h)
+      by false h = rw (f .listed h .0) (copied h ∙ ap (λ l. answered l seen) (kept-visits ok (e .complete h)))

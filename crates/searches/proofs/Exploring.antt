@@ -1,54 +1,55 @@
 -- Eager under way. The search follows the arcs of the unbeaten nodes, and answers for the nodes that it comes to. Each settled node was looked at:
--- the listed ones of the at most k points that are nearer to it than its label have their found flags. The count is that of the settled nodes
--- that are expanded.
+-- the listed ones of the at most k points that are nearer to it than its label have their found flags. The nodes that are counted come in turn: those that
+-- are settled are the first of the visits.
 -- Assumes nothing.
 use Prim.Native.Nat.{ℕ, suc, _+_, _≤_, _<_}
-use mathlib.Core.Path.{_≡_, refl, sym, ap, _∙_}
-use mathlib.Core.Bool.{Bool, true, false, not, _&&_, false≢true}
+use mathlib.Core.Path.{_≡_, sym, ap, _∙_}
+use mathlib.Core.Bool.{true, false}
 use mathlib.Core.Logic.{_≢_, inl, ⊎-elim}
 use mathlib.Core.List.{List, _++_}
-use native.Mathlib.Decide.{ℕ-discrete, decLt, decLe}
+use native.Mathlib.Decide.{ℕ-discrete, decLt}
 use native.Mathlib.Omega.{arith}
-use lib.Dec.{leb}
-use lib.ListN.{length, getD, take, drop, List·getD-eq-default}
-use lib.Seq.{getD-take, length-take-le}
-use borrow.Author.Tests.{le-leb, lt-leb, leb-false, not-true}
+use lib.ListN.{length, getD, set, take, drop, length-set, List·getD-eq-default}
+use lib.Seq.{getD-take, length-take-le, getD-set-same, getD-set-other}
 use Rattle.network.specs.Network.{Network, nodeCount, neighboursOf}
 use Rattle.network.specs.Accepted.{Accepted}
 use Rattle.network.specs.Distance.{NONE, dist}
-use Rattle.network.specs.Count.{count}
-use Rattle.network.specs.Points.{isListed, isExpanded, expanded}
-use Rattle.network.specs.Nearest.{nearest}
-use Rattle.network.proofs.Tests.{bool-cases, and-parts, and-left, and-right}
-use Rattle.network.proofs.Counts.{count-mono, count-same, count-none, without, without-self, without-other, count-without}
+use Rattle.network.specs.Count.{bit}
+use Rattle.network.specs.Points.{lockers, isListed, isExpanded, expanded}
+use Rattle.network.specs.Nearest.{nearest, Nearer}
+use Rattle.network.specs.Visits.{counted, visits}
+use Rattle.network.proofs.Tests.{bool-cases}
+use Rattle.network.proofs.Counts.{count-few}
+use Rattle.network.proofs.Lends.{first-part}
 use Rattle.network.proofs.Rank.{Near}
 use Rattle.network.proofs.Rows.{nearest-length, near-listed}
+use Rattle.network.proofs.Visits.{visitPairs, visits-size, visits-at, visits-count, counted-lockers, nearer-counted}
 use Rattle.expansion.specs.Queue.{keyOf}
 use Rattle.expansion.specs.Tags.{tagOf}
-use Rattle.expansion.specs.Area.{queueBase, unsettled, LabelAt, Area, Moved, Took, Followed}
-use Rattle.expansion.proofs.Beside.{Beside, beside-first, label-beside, beside-label-at, progress-beside}
+use Rattle.expansion.specs.Area.{queueBase, LabelAt, Area, Moved, Took, Followed}
+use Rattle.expansion.specs.NodeQueue.{PushedNode}
 use Rattle.expansion.specs.Expand.{CanExpand}
 use Rattle.expansion.proofs.Origins.{one}
 use Rattle.expansion.proofs.Search.{Leads}
-use Rattle.expansion.proofs.AreaLaws.{moved-same, settledAs, others-settle, frame-settle}
-use Rattle.expansion.proofs.AreaSearch.{label-back, took-area, took-word, took-waited, took-moved, took-exact, took-held, search-finished, settle-marks}
-use Rattle.expansion.proofs.Progress.{Progress, progress-begun, progress-start, progress-settled}
+use Rattle.expansion.proofs.AreaLaws.{moved-same, settledAs, frame-settle}
+use Rattle.expansion.proofs.AreaSearch.{label-back, took-area, took-word, took-moved, took-exact, took-held, search-finished, settle-marks}
+use Rattle.expansion.proofs.Progress.{Progress, progress-begun, progress-start, progress-settled, took-small}
+use Rattle.expansion.proofs.Beside.{Beside, beside-first, beside-label-at, progress-beside}
 use Rattle.expansion.proofs.Stopping.{progress-stopped, took-beside}
-use Rattle.expansion.specs.NodeQueue.{PushedNode}
-use Rattle.searches.specs.Flags.{idsBase, Flags, CanLook, Looked}
-use Rattle.searches.specs.Eager.{CanExplore, isFound}
+use Rattle.expansion.proofs.Turns.{InTurn, turn-start, turn-beside, turn-all, turn-fits, turn-next, turn-other, turn-point}
+use Rattle.searches.specs.Flags.{flagsEnd, idsBase, Flags, CanLook, Looked}
+use Rattle.searches.specs.Eager.{CanExplore, isFound, Visited}
 use Rattle.searches.proofs.Beaten.{Beaten, Unbeaten, stops, goes-on, expanded-unbeaten}
 use Rattle.searches.proofs.Finds.{Met, met-leads}
-use Rattle.searches.proofs.Answers.{listed-flagged, expanded-settled, come-expanded}
-use Rattle.network.proofs.Lends.{first-part}
+use Rattle.searches.proofs.Answers.{listed-flagged, come-expanded}
 use Rattle.searches.proofs.FlagLaws.{flag-right}
 use Rattle.searches.proofs.LookLaws.{flags-same}
 
--- a settled node that is expanded
-abbrev pub isDone : Network → List ℕ → ℕ → ℕ → List ℕ → ℕ → ℕ → Bool
-isDone g P q k xs b v = not (unsettled (nodeCount g) xs b v) && isExpanded g P q k v
+-- the counted nodes as points, all of them wanted
+abbrev pub CountedInTurn : Network → List ℕ → ℕ → ℕ → List ℕ → ℕ → ℕ → Type 0
+CountedInTurn g P q k xs b count = InTurn g (counted g P q k) q NONE (suc (length (visitPairs g P q k))) xs b count
 
-pub record Exploring (g : Network) (P : List ℕ) (q k limit : ℕ) (xs : List ℕ) (b settled len counted : ℕ) : Type 0 where
+pub record Exploring (g : Network) (P : List ℕ) (q k limit : ℕ) (xs : List ℕ) (b settled len count : ℕ) : Type 0 where
   pub progress : Progress g (one g q) (Unbeaten g P q k) (Met g P q k) xs b settled len
   pub flags : Flags g P q k xs
   pub own : isListed g P q k q ≡ true → getD xs (nodeCount g + q) 0 ≢ 0
@@ -56,15 +57,8 @@ pub record Exploring (g : Network) (P : List ℕ) (q k limit : ℕ) (xs : List �
   pub told :
       (v l p : ℕ) → LabelAt (nodeCount g) xs b v l → Near g P v l k p → isListed g P q k p ≡ true
       → getD xs (nodeCount g + p) 0 ≢ 0
-  pub done : counted ≡ count (isDone g P q k xs b) (nodeCount g)
-  pub within : counted ≤ limit
-
-unsettled-moved : {n : ℕ} {xs ys : List ℕ} {b : ℕ} → Moved n xs ys b → (v : ℕ) → v < n → unsettled n ys b v ≡ unsettled n xs b v
-unsettled-moved {n} {xs} {ys} {b} m v h =
-    elim (decLe (getD xs (b + v) 0) n) [
-      | yes l ↦ le-leb (getD ys (b + v) 0) n (m .others v h l) ∙ sym (le-leb (getD xs (b + v) 0) n l)
-      | no l ↦ ap (λ (w : ℕ). leb w n) (m .settled v h (omega arith))
-    ]
+  pub turn : CountedInTurn g P q k xs b count
+  pub within : count ≤ limit
 
 module _ {g : Network} {P : List ℕ} {q k b : ℕ} {s₀ : List ℕ} (c : CanExplore g P s₀ b q k) where
   ok : Accepted g
@@ -76,6 +70,10 @@ module _ {g : Network} {P : List ℕ} {q k b : ℕ} {s₀ : List ℕ} (c : CanEx
   leads : Leads g (one g q) (Unbeaten g P q k) (Met g P q k)
   leads = met-leads ok P q k (c .some)
 
+  -- the search answers for the counted nodes
+  sees : (x : ℕ) → Nearer g (counted g P q k) q NONE x → Met g P q k x
+  sees x r = inl (expanded-unbeaten g P q k x .0 (nearer-counted ok P q k x r) .1)
+
   pub can-expand : CanExpand g s₀ b q
   can-expand =
       record {
@@ -84,6 +82,15 @@ module _ {g : Network} {P : List ℕ} {q k b : ℕ} {s₀ : List ℕ} (c : CanEx
         blank = record { zero = λ j h. c .blank .zero j (omega (arith, low)) };
         size = omega (arith, c .size, c .base);
       }
+
+  -- no more are counted than there are nodes
+  pub few-visits : {count : ℕ} → count < expanded g P q k → count < nodeCount g
+  unfolding expanded
+  few-visits h = omega (arith, count-few (isExpanded g P q k) (nodeCount g))
+
+  pub few-counted : {limit : ℕ} {xs : List ℕ} {settled len count : ℕ} → Exploring g P q k limit xs b settled len count → count ≤ nodeCount g
+  unfolding expanded
+  few-counted e = omega (arith, e .turn .full, visits-size g P q k, visits-count ok P q k, count-few (isExpanded g P q k) (nodeCount g))
 
   -- the search begins
   pub exploring-start : {xs : List ℕ} (limit : ℕ) → PushedNode (nodeCount g) s₀ xs b (queueBase (nodeCount g) b) 0 (keyOf 0 (tagOf q q)) → Exploring g P q k limit xs b 0 1 0
@@ -94,17 +101,14 @@ module _ {g : Network} {P : List ℕ} {q k b : ℕ} {s₀ : List ℕ} (c : CanEx
         own = λ a. rw (t .frame .before (nodeCount g + q) (omega (arith, low, c .site))) (c .own a);
         blank = λ j h m. t .frame .before j m ∙ c .blank .zero j h;
         told = λ v l p h near a. absurd (omega (arith, h .is, word v (h .inside)));
-        done =
-            sym
-            (count-none (isDone g P q k xs b) (nodeCount g)
-            (λ x h a. absurd (omega (arith, leb-false (getD xs (b + x) 0) (nodeCount g) (not-true (unsettled (nodeCount g) xs b x) (and-parts (not (unsettled (nodeCount g) xs b x)) _ a .0)), word x h))));
+        turn = turn-start (λ v l h. omega (arith, h .is, word v (h .inside)));
         within = omega arith;
       }
     where
       word : (v : ℕ) → v < nodeCount g → getD xs (b + v) 0 ≤ nodeCount g
       word v h = progress-begun ok can-expand t .others v h (omega (arith, c .blank .zero (b + v) (omega (arith, low))))
 
-  module _ {limit : ℕ} {xs : List ℕ} {settled len counted : ℕ} (e : Exploring g P q k limit xs b settled len counted)
+  module _ {limit : ℕ} {xs : List ℕ} {settled len count : ℕ} (e : Exploring g P q k limit xs b settled len count)
       {ys : List ℕ} {left l v u : ℕ} (t : Took (nodeCount g) xs ys b len left l v u) where
     fits : b ≤ length ys
     fits = omega (arith, e .progress .area .queue .room, t .popped .frame .size)
@@ -160,7 +164,7 @@ module _ {g : Network} {P : List ℕ} {q k b : ℕ} {s₀ : List ℕ} (c : CanEx
           rw (flag p h)
           (seen .grows p h (rw (getD-take b ys (nodeCount g + p) 0 (omega (arith, low)), t .popped .frame .before (nodeCount g + p) (omega (arith, low))) n))
 
-      pub looked-exploring : Exploring g P q k limit (zs ++ drop b xs) b settled len counted
+      pub looked-exploring : Exploring g P q k limit (zs ++ drop b xs) b settled len count
       looked-exploring =
           record {
             progress = progress-beside beside-old ok (e .progress);
@@ -168,13 +172,19 @@ module _ {g : Network} {P : List ℕ} {q k b : ℕ} {s₀ : List ℕ} (c : CanEx
             own = λ a. grows q (c .site) (e .own a);
             blank = λ j h m. first-part b xs zs fits-old same-old j m ∙ seen .blank .zero j h;
             told = λ x m p h near a. grows p (near .nearer .inside) (e .told x m p (beside-label-at beside-old h) near a);
-            done =
-                e .done
-                ∙ sym
-                (count-same (isDone g P q k xs b) (isDone g P q k (zs ++ drop b xs) b) (nodeCount g)
-                (λ x h. ap (λ (w : ℕ). not (leb w (nodeCount g)) && isExpanded g P q k x) (label-beside beside-old x)));
+            turn = turn-beside beside-old (e .turn);
             within = e .within;
           }
+
+      pub looked-visited : Visited g P q k xs count → Visited g P q k (zs ++ drop b xs) count
+      looked-visited w i h =
+          let j = flagsEnd g + i in
+          let c = few-counted e in
+          first-part b xs zs fits-old same-old j (omega (arith, low))
+          ∙ seen .stays j (omega arith) (omega arith)
+          ∙ getD-take b ys j 0 (omega (arith, low))
+          ∙ t .popped .frame .before j (omega (arith, low))
+          ∙ w i h
 
       pub looked-told : (p : ℕ) → Near g P v l k p → isListed g P q k p ≡ true → getD (zs ++ drop b xs) (nodeCount g + p) 0 ≢ 0
       looked-told p near a = rw (flag p (near .nearer .inside)) (seen .told p (dist g v p) (near-listed ok P v l k p near) a)
@@ -192,22 +202,37 @@ module _ {g : Network} {P : List ℕ} {q k b : ℕ} {s₀ : List ℕ} (c : CanEx
         (λ o. took-exact ok (e .progress .area) (e .progress .searched) t leads (inl o))
         (omega (arith, nearest-length g P v l k))
 
-    not-done : isDone g P q k xs b v ≡ false
-    not-done = and-left (not (unsettled (nodeCount g) xs b v)) _ (ap not (le-leb (getD xs (b + v) 0) (nodeCount g) (took-waited ok (e .progress .area) (e .progress .searched) t)))
+    -- a counted node is the next of the visits
+    module _ (h : isExpanded g P q k v ≡ true) where
+      exact : l ≡ dist g q v
+      exact = took-exact ok (e .progress .area) (e .progress .searched) t leads (inl (expanded-unbeaten g P q k v .0 h .1))
 
-    -- the count would exceed the limit
-    pub beyond : isExpanded g P q k v ≡ true → counted < expanded g P q k
-    unfolding expanded
-    beyond h =
-        omega (
-          arith,
-          e .done,
-          count-mono (isDone g P q k xs b) (without (isExpanded g P q k) v) (nodeCount g)
-              (λ x i a.
-              without-other (isExpanded g P q k) v x (λ s. false≢true (sym not-done ∙ ap (isDone g P q k xs b) (sym s) ∙ a))
-              ∙ and-parts (not (unsettled (nodeCount g) xs b x)) _ a .1),
-          count-without (isExpanded g P q k) v (nodeCount g) (t .inside) h,
-        )
+      one-locker : lockers (counted g P q k) v ≡ 1
+      one-locker = counted-lockers g P q k v (t .inside) ∙ ap bit h
+
+      near : l < NONE
+      near = omega (arith, took-small ok (e .progress) t)
+
+      place : count < suc (length (visitPairs g P q k))
+      place = omega (arith, e .turn .full)
+
+      fits-one : count + 1 ≤ length (visitPairs g P q k)
+      fits-one = rw one-locker at (turn-fits ok leads sees (e .progress) (e .turn) t exact (omega (arith, one-locker)) near place)
+
+      -- the count would exceed the limit
+      pub beyond : count < expanded g P q k
+      beyond = omega (arith, fits-one, visits-size g P q k, visits-count ok P q k)
+
+      pub next-visit : getD (visits g P q k) count 0 ≡ v
+      next-visit =
+          visits-at g P q k count
+          ∙ ap (λ (x : ℕ × ℕ). x .0) (turn-next ok leads sees (e .progress) (e .turn) t exact (omega (arith, one-locker)) near place count (omega arith) (omega (arith, one-locker)))
+
+      turn-counted : {ws : List ℕ} → Moved (nodeCount g) (settledAs (nodeCount g) ys b settled v l) ws b → CountedInTurn g P q k ws b (count + 1)
+      turn-counted same = turn-point ok leads sees (e .progress) (e .turn) t same exact (omega (arith, one-locker)) near place (omega (arith, one-locker, fits-one))
+
+    turn-stopped : {ws : List ℕ} → isExpanded g P q k v ≡ false → Moved (nodeCount g) (settledAs (nodeCount g) ys b settled v l) ws b → CountedInTurn g P q k ws b count
+    turn-stopped n same = turn-other ok leads sees (e .progress) (e .turn) t same (counted-lockers g P q k v (t .inside) ∙ ap bit n)
 
     -- ws is the area in which the node is settled, and perhaps its arcs are followed
     module _ {ws : List ℕ} (same : Moved (nodeCount g) (settledAs (nodeCount g) ys b settled v l) ws b) where
@@ -220,36 +245,8 @@ module _ {g : Network} {P : List ℕ} {q k b : ℕ} {s₀ : List ℕ} (c : CanEx
       front : (i : ℕ) → i < b → getD ws i 0 ≡ getD xs i 0
       front i h = same .before i h ∙ frame-settle area v l (t .inside) new .words i h ∙ t .popped .frame .before i h
 
-      word-here : getD ws (b + v) 0 ≡ suc (nodeCount g + l)
-      word-here = settle-marks ok area l (t .inside) new same .here .is
-
-      done-other : (x : ℕ) → x < nodeCount g → x ≢ v → isDone g P q k ws b x ≡ isDone g P q k xs b x
-      done-other x h n =
-          ap (λ (w : Bool). not w && isExpanded g P q k x)
-          (unsettled-moved same x h ∙ ap (λ (w : ℕ). leb w (nodeCount g)) (others-settle area v l (t .inside) new x h n) ∙ unsettled-moved (took-moved ok (e .progress .area) (e .progress .searched) t) x h)
-
-      done-here : isDone g P q k ws b v ≡ isExpanded g P q k v
-      done-here = rw (lt-leb (getD ws (b + v) 0) (nodeCount g) (omega (arith, word-here)))
-
-      count-stopped : isExpanded g P q k v ≡ false → count (isDone g P q k ws b) (nodeCount g) ≡ count (isDone g P q k xs b) (nodeCount g)
-      count-stopped n =
-          count-same (isDone g P q k xs b) (isDone g P q k ws b) (nodeCount g)
-          (λ x h.
-          elim (ℕ-discrete x v) [
-            | yes s ↦ rw s (done-here ∙ n ∙ sym not-done)
-            | no m ↦ done-other x h m
-          ])
-
-      count-opened : isExpanded g P q k v ≡ true → count (isDone g P q k ws b) (nodeCount g) ≡ suc (count (isDone g P q k xs b) (nodeCount g))
-      count-opened y =
-          sym (count-without (isDone g P q k ws b) v (nodeCount g) (t .inside) (done-here ∙ y))
-          ∙ ap suc
-          (count-same (isDone g P q k xs b) (without (isDone g P q k ws b) v) (nodeCount g)
-          (λ x h.
-          elim (ℕ-discrete x v) [
-            | yes s ↦ rw s (without-self (isDone g P q k ws b) v ∙ sym not-done)
-            | no m ↦ without-other (isDone g P q k ws b) v x m ∙ done-other x h m
-          ]))
+      pub visited-kept : Visited g P q k xs count → Visited g P q k ws count
+      visited-kept w i h = let c = few-counted e in front (flagsEnd g + i) (omega (arith, low)) ∙ w i h
 
       -- the flags, when the node was looked at
       module _ (told : (p : ℕ) → Near g P v l k p → isListed g P q k p ≡ true → getD xs (nodeCount g + p) 0 ≢ 0) where
@@ -262,49 +259,77 @@ module _ {g : Network} {P : List ℕ} {q k b : ℕ} {s₀ : List ℕ} (c : CanEx
             (settle-marks ok area l (t .inside) new same .old x m h))
 
         next : {more now : ℕ} → Progress g (one g q) (Unbeaten g P q k) (Met g P q k) ws b (settled + 1) more
-            → now ≡ count (isDone g P q k ws b) (nodeCount g) → now ≤ limit → Exploring g P q k limit ws b (settled + 1) more now
-        next progress done within =
+            → CountedInTurn g P q k ws b now → now ≤ limit → Exploring g P q k limit ws b (settled + 1) more now
+        next progress turn within =
             record {
               progress = progress;
               flags = flags-same (λ i h. front i (omega (arith, low))) (e .flags);
               own = λ a. rw (front (nodeCount g + q) (omega (arith, low, c .site))) (e .own a);
               blank = λ j h m. front j m ∙ e .blank j h m;
               told = told-next;
-              done = done;
+              turn = turn;
               within = within;
             }
 
     module _ (told : (p : ℕ) → Near g P v l k p → isListed g P q k p ≡ true → getD xs (nodeCount g + p) 0 ≢ 0) where
       -- the search stops behind the node
-      pub exploring-stopped : Beaten g P q k v → Exploring g P q k limit (settledAs (nodeCount g) ys b settled v l) b (settled + 1) left counted
+      pub exploring-stopped : Beaten g P q k v → Exploring g P q k limit (settledAs (nodeCount g) ys b settled v l) b (settled + 1) left count
       exploring-stopped h =
           let n : isExpanded g P q k v ≡ false = ⊎-elim (λ a. absurd (expanded-unbeaten g P q k v .0 a .1 h)) (λ a. a) (bool-cases (isExpanded g P q k v)) in
           next moved-same told (progress-stopped ok (e .progress) t leads (λ o. o h))
-          (e .done ∙ sym (count-stopped moved-same n)) (e .within)
+          (turn-stopped n moved-same) (e .within)
 
       -- or counts it, and follows its arcs
-      pub exploring-opened : {ws : List ℕ} {more : ℕ} → isExpanded g P q k v ≡ true → counted < limit
+      pub exploring-opened : {ws : List ℕ} {more : ℕ} → isExpanded g P q k v ≡ true → count < limit
           → Followed g (settledAs (nodeCount g) ys b settled v l) ws b left more v l (length (neighboursOf g v))
-          → Exploring g P q k limit ws b (settled + 1) more (counted + 1)
+          → Exploring g P q k limit ws b (settled + 1) more (count + 1)
       exploring-opened y h f =
           next (f .frame) told (progress-settled ok (e .progress) t leads f)
-          (omega (arith, e .done, count-opened (f .frame) y)) (omega arith)
+          (turn-counted y (f .frame)) (omega arith)
+
+  -- ---- A visit is kept in its word, between the flags and the found nodes.
+  module _ {limit : ℕ} {xs : List ℕ} {settled len count : ℕ} (e : Exploring g P q k limit xs b settled len count) (i v : ℕ) (h : i < nodeCount g) where
+    word-fits : flagsEnd g + i < length xs
+    word-fits = omega (arith, e .progress .area .queue .room, low)
+
+    kept : (j : ℕ) → j ≢ flagsEnd g + i → getD (set xs (flagsEnd g + i) v) j 0 ≡ getD xs j 0
+    kept j n = getD-set-other xs (flagsEnd g + i) j v 0 n
+
+    kept-beside : Beside xs (set xs (flagsEnd g + i) v) b
+    kept-beside = record { size = length-set xs (flagsEnd g + i) v; words = λ j l. kept j (omega (arith, low)) }
+
+    pub exploring-kept : Exploring g P q k limit (set xs (flagsEnd g + i) v) b settled len count
+    exploring-kept =
+        record {
+          progress = progress-beside kept-beside ok (e .progress);
+          flags = flags-same (λ j l. kept j (omega arith)) (e .flags);
+          own = λ a. rw (kept (nodeCount g + q) (omega (arith, c .site))) (e .own a);
+          blank = λ j l m. kept j (omega arith) ∙ e .blank j l m;
+          told = λ x m p l near a. rw (kept (nodeCount g + p) (omega (arith, near .nearer .inside))) (e .told x m p (beside-label-at kept-beside l) near a);
+          turn = turn-beside kept-beside (e .turn);
+          within = e .within;
+        }
+
+    pub visited-more : Visited g P q k xs i → getD (visits g P q k) i 0 ≡ v → Visited g P q k (set xs (flagsEnd g + i) v) (i + 1)
+    visited-more w is j l =
+        elim (ℕ-discrete j i) [
+          | yes y ↦ rw y (getD-set-same xs (flagsEnd g + i) v 0 word-fits ∙ sym is)
+          | no n ↦ kept (flagsEnd g + j) (omega arith) ∙ w j (omega arith)
+        ]
 
   -- ---- No entry waits.
-  module _ {limit : ℕ} {xs : List ℕ} {settled len counted : ℕ} (e : Exploring g P q k limit xs b settled len counted)
+  module _ {limit : ℕ} {xs : List ℕ} {settled len count : ℕ} (e : Exploring g P q k limit xs b settled len count)
       (t : len ≡ 0) where
     all : (v : ℕ) → Met g P q k v → dist g q v ≢ NONE → LabelAt (nodeCount g) xs b v (dist g q v)
     all = search-finished ok (e .progress .area) (e .progress .searched) t leads
 
-    pub count-all : counted ≡ expanded g P q k
-    unfolding expanded
-    count-all = e .done ∙ count-same (isExpanded g P q k) (isDone g P q k xs b) (nodeCount g) (λ x h. by x (isExpanded g P q k x) refl)
-      where
-        by : (x : ℕ) (d : Bool) → isExpanded g P q k x ≡ d → isDone g P q k xs b x ≡ isExpanded g P q k x
-        by x true a =
-            let w = expanded-settled ok P q k (LabelAt (nodeCount g) xs b) all x a in
-            rw (lt-leb (getD xs (b + x) 0) (nodeCount g) (omega (arith, w .is)))
-        by x false a = and-right (not (unsettled (nodeCount g) xs b x)) (isExpanded g P q k x) a ∙ sym a
+    pub count-all : count ≡ expanded g P q k
+    count-all =
+        let full = e .turn .full in
+        ⊎-elim
+        (λ a. absurd (omega arith))
+        (λ a. omega (arith, visits-size g P q k, visits-count ok P q k))
+        (turn-all (e .turn) (λ x r. all x (sees x r) (λ z. omega (arith, r .less))))
 
     listed-flag : (p : ℕ) → p < nodeCount g → isListed g P q k p ≡ true → getD xs (nodeCount g + p) 0 ≢ 0
     listed-flag = listed-flagged ok P q k (LabelAt (nodeCount g) xs b) all (λ p. getD xs (nodeCount g + p) 0 ≢ 0) (e .own) (e .told)

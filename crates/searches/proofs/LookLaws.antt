@@ -20,7 +20,7 @@ use Rattle.expansion.specs.Found.{CanFind, NodesLeft}
 use Rattle.expansion.specs.declared.nearest.Near.{Near}
 use Rattle.expansion.proofs.Finding.{found-member, member-found}
 use Rattle.expansion.proofs.LentParts.{lent-part, lent-length}
-use Rattle.expansion.proofs.FoundLaws.{Next}
+use Rattle.expansion.proofs.Places.{Next}
 use Rattle.expansion.proofs.Settled.{zero-blank}
 use Rattle.searches.specs.Flags.{flagsEnd, idsBase, Flags, CanVerifyAll, VerifiedAll, CanLook, Looked}
 use Rattle.network.proofs.Lends.{Returned, returned}
@@ -136,6 +136,7 @@ module _ {g : Network} {P : List ℕ} {q k : ℕ} {xs : List ℕ} {v : ℕ} (c :
       looked =
           record {
             size = clear .size ∙ a .flagged .size ∙ back .size;
+            stays = λ i h m. clear .before i m ∙ a .flagged .words i h ∙ back .before i m;
             blank = record { zero = zeros };
             flags = flags-same (λ i h. clear .before i (omega arith)) (a .flagged .flags);
             grows =

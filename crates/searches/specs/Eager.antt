@@ -1,5 +1,5 @@
--- What eager requires and leaves. Document 01, 'What a site receives', and number 12. The lent words are: verified flags n | found flags n |
--- n words that are kept free (Ask 4 needs them) | found nodes n | the area of the inner expansions, 4 n | the area of the outer expansion, 4 n.
+-- What eager requires and leaves. Document 01, 'What a site receives', and number 12; document 02, Ask 4. The lent words are: verified flags n |
+-- found flags n | visits n | found nodes n | the area of the inner expansions, 4 n | the area of the outer expansion, 4 n.
 -- Assumes nothing.
 use Prim.Native.Nat.{ℕ, _+_, _*_, _≤_, _<_}
 use mathlib.Core.Path.{_≡_}
@@ -11,12 +11,14 @@ use lib.ListN.{length, getD}
 use Rattle.network.specs.Network.{Network, nodeCount}
 use Rattle.network.specs.Accepted.{Accepted}
 use Rattle.network.specs.Points.{isListed, listed, expanded}
+use Rattle.network.specs.Visits.{visits}
+use Rattle.network.specs.Count.{select}
 use Rattle.network.specs.Answers.{answered}
 use Rattle.expansion.specs.Area.{queueBase, Blank, Wiped, Area}
 use Rattle.searches.specs.declared.eager.Answer.{Answer}
 use Rattle.searches.specs.declared.eager.Answer.the-variants.{Refused, Listed}
 use Rattle.searches.specs.declared.eager.End.{End}
-use Rattle.searches.specs.Flags.{idsBase, innerBase, Flags}
+use Rattle.searches.specs.Flags.{flagsEnd, idsBase, innerBase, Flags}
 
 -- how many words eager works with, for every k and every number of arcs
 abbrev pub eagerWords : Network → ℕ
@@ -26,18 +28,20 @@ eagerWords g = 12 * nodeCount g
 abbrev pub outerBase : Network → ℕ
 outerBase g = queueBase (nodeCount g) (innerBase g) + 2 * nodeCount g
 
--- an accepted network with a byte for each node, a site that is a node, at least one nearest, words that are all 0 with room for the areas, and
--- room for the answers
-pub record CanSearch (g : Network) (P xs old : List ℕ) (q k : ℕ) : Type 0 where
+-- an accepted network with a byte for each node, a site that is a node, at least one nearest, and words that are all 0 with room for the areas
+pub record CanSearch (g : Network) (P xs : List ℕ) (q k : ℕ) : Type 0 where
   pub accepted : Accepted g
   pub points : length P ≡ nodeCount g
   pub site : q < nodeCount g
   pub some : 1 ≤ k
   pub blank : Blank xs 0
   pub size : eagerWords g ≤ length xs
-  pub answers : nodeCount g ≤ length old
 
--- the same, with the flags: the site has its found flag where it is listed
+-- an array has a place for each node
+abbrev pub HasPlaces : Network → List ℕ → Type 0
+HasPlaces g old = nodeCount g ≤ length old
+
+-- the same as CanSearch, with the flags: the site has its found flag where it is listed
 pub record CanExplore (g : Network) (P xs : List ℕ) (b q k : ℕ) : Type 0 where
   pub accepted : Accepted g
   pub points : length P ≡ nodeCount g
@@ -53,16 +57,23 @@ pub record CanExplore (g : Network) (P xs : List ℕ) (b q k : ℕ) : Type 0 whe
 abbrev pub isFound : ℕ → List ℕ → ℕ → Bool
 isFound n xs p = not (eqb (getD xs (n + p) 0) 0)
 
--- the expansion ends: all is expanded, and the found flags are those of the listed points; or the count would exceed the limit
+-- the first `count` words behind the flags are the first of the visits
+abbrev pub Visited : Network → List ℕ → ℕ → ℕ → List ℕ → ℕ → Type 0
+Visited g P q k xs count = (i : ℕ) → i < count → getD xs (flagsEnd g + i) 0 ≡ getD (visits g P q k) i 0
+
+-- the expansion ends: all is expanded, the found flags are those of the listed points, and the visits stand in their words; or the count would exceed
+-- the limit
 pub record Complete (g : Network) (P : List ℕ) (q k limit : ℕ) (ys : List ℕ) (r : End) : Type 0 where
   pub count : r .count ≡ expanded g P q k
   pub within : expanded g P q k ≤ limit
   pub found : (p : ℕ) → p < nodeCount g → isFound (nodeCount g) ys p ≡ isListed g P q k p
+  pub visited : Visited g P q k ys (r .count)
 
 pub record ExploreLeft (g : Network) (P : List ℕ) (q k limit : ℕ) (xs ys : List ℕ) (b : ℕ) (r : End) : Type 0 where
   pub size : length ys ≡ length xs
   pub area : Area (nodeCount g) ys b (r .settled) (r .len)
   pub blank : (j : ℕ) → idsBase g ≤ j → j < b → getD ys j 0 ≡ 0
+  pub few : r .count ≤ nodeCount g
   pub complete : r .refused ≡ false → Complete g P q k limit ys r
   pub beyond : r .refused ≡ true → limit < expanded g P q k
 
@@ -71,6 +82,20 @@ pub record CanWipe (n : ℕ) (xs : List ℕ) (b settled len : ℕ) : Type 0 wher
   pub area : Area n xs b settled len
   pub low : 3 * n ≤ b
   pub blank : (j : ℕ) → 3 * n ≤ j → j < b → getD xs j 0 ≡ 0
+
+-- a search that has ended can be finished: its words can be cleared, and the answers have a place for each node
+pub record CanFinish (n : ℕ) (xs old : List ℕ) (end : End) : Type 0 where
+  pub wipe : CanWipe n xs (8 * n) (end .settled) (end .len)
+  pub few : n ≤ 65535
+  pub places : n ≤ length old
+
+-- the list of the found flags is written, or nothing where the search was refused; all words are 0
+pub record FinishLeft (n : ℕ) (xs ys old new : List ℕ) (end : End) (r : Answer) : Type 0 where
+  pub area : Wiped xs ys 0
+  pub refused : end .refused ≡ true → (r ≡ Refused) × (new ≡ old)
+  pub listed :
+      end .refused ≡ false
+      → (r ≡ Listed (length (select (isFound n xs) n)) (end .count)) × (new ≡ answered (select (isFound n xs) n) old)
 
 -- Eager 'returns the list and the count of nodes expanded'; or 12: 'eager: the expanded count would exceed the limit', and the answers are as they
 -- were. All words are 0 again.
@@ -86,6 +111,11 @@ pub record RefusedLeft (g : Network) (P : List ℕ) (q k limit : ℕ) (xs ys old
   pub answers : new ≡ old
   pub area : Wiped xs ys 0
 
-abbrev pub EagerLeft : Network → List ℕ → ℕ → ℕ → ℕ → List ℕ → List ℕ → List ℕ → List ℕ → Answer → Type 0
-EagerLeft g P q k limit xs ys old new Refused = RefusedLeft g P q k limit xs ys old new
-EagerLeft g P q k limit xs ys old new (Listed size count) = ListedLeft g P q k limit xs ys old new size count
+abbrev pub LimitedLeft : Network → List ℕ → ℕ → ℕ → ℕ → List ℕ → List ℕ → List ℕ → List ℕ → Answer → Type 0
+LimitedLeft g P q k limit xs ys old new Refused = RefusedLeft g P q k limit xs ys old new
+LimitedLeft g P q k limit xs ys old new (Listed size count) = ListedLeft g P q k limit xs ys old new size count
+
+-- 'Eager also lists the nodes that its count counts' (Ask 4); 12 comes in the middle of the expansion, and leaves the array as it was
+abbrev pub VisitsLeft : Network → List ℕ → ℕ → ℕ → List ℕ → List ℕ → Answer → Type 0
+VisitsLeft g P q k old new Refused = new ≡ old
+VisitsLeft g P q k old new (Listed size count) = new ≡ answered (visits g P q k) old

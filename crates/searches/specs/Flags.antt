@@ -1,5 +1,5 @@
--- The words in front of eager's outer area: verified flags n | found flags n | n words that are kept free | found nodes n
--- | the area of the inner expansions, 4 n. What the functions over them require and leave. The flags of node p are the words p and n + p.
+-- The words in front of eager's outer area: verified flags n | found flags n | visits n | found nodes n | the area of the inner expansions, 4 n. What
+-- the functions over them require and leave. The flags of node p are the words p and n + p.
 -- (No sentence of document 01: the answers of the searches are network's definitions.)
 -- Assumes nothing.
 use Prim.Native.Nat.{ℕ, _+_, _*_, _≤_, _<_}
@@ -14,7 +14,7 @@ use Rattle.network.specs.Points.{marked, isListed}
 use Rattle.network.specs.Nearest.{nearest}
 use Rattle.expansion.specs.Area.{queueBase, Blank}
 
--- where the flags end, where the found nodes start, and where the inner expansions' area does
+-- where the flags end and the visits start, where the found nodes do, and where the inner expansions' area does
 abbrev pub flagsEnd : Network → ℕ
 flagsEnd g = 2 * nodeCount g
 
@@ -78,9 +78,10 @@ pub record CanLook (g : Network) (P : List ℕ) (q k : ℕ) (xs : List ℕ) (v :
   pub blank : Blank xs (idsBase g)
   pub inside : v < nodeCount g
 
--- then each listed point among the first k lockers that are nearer to v than l has its found flag. r is how many there are, cut at k
+-- then each listed point among the first k lockers that are nearer to v than l has its found flag. r is how many there are, cut at k. The visits stay.
 pub record Looked (g : Network) (P : List ℕ) (q k : ℕ) (xs ys : List ℕ) (v l r : ℕ) : Type 0 where
   pub size : length ys ≡ length xs
+  pub stays : (i : ℕ) → flagsEnd g ≤ i → i < idsBase g → getD ys i 0 ≡ getD xs i 0
   pub blank : Blank ys (idsBase g)
   pub flags : Flags g P q k ys
   pub grows : Grows g xs ys

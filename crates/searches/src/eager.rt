@@ -1,15 +1,15 @@
 // Eager: source 000, Fig. 4. An expansion from the site that stops behind a node with k points strictly nearer to it than the site, and verifies
-// each point that it finds once. Document 01, 'What a site receives'.
+// each point that it finds once. Document 01, 'What a site receives'. It lists the nodes that it counts, by distance and then by node (Ask 4).
 ghost use mathlib.Core.Path.{_≡_};
 ghost use mathlib.Core.Bool.{true, false};
-ghost use Prim.Native.Nat.{_<_};
+ghost use Prim.Native.Nat.{_<_, _*_};
 ghost use lib.ListN.{length};
-ghost use Rattle.network.specs.Network.{network};
+ghost use Rattle.network.specs.Network.{network, nodeCount};
 ghost use Rattle.network.specs.Count.{bit};
 ghost use Rattle.network.specs.Points.{marked};
 ghost use Rattle.expansion.specs.Area.{Wiped};
 ghost use Rattle.searches.specs.Flags.{CanVerify, Verified, CanVerifyAll, VerifiedAll, CanLook, Looked};
-ghost use Rattle.searches.specs.Eager.{CanSearch, CanExplore, ExploreLeft, CanWipe, EagerLeft};
+ghost use Rattle.searches.specs.Eager.{CanSearch, HasPlaces, CanExplore, ExploreLeft, CanWipe, CanFinish, FinishLeft, LimitedLeft, VisitsLeft};
 use crate::flags;
 use expansion::nearest;
 use expansion::step;
@@ -157,8 +157,8 @@ fn look(
     near.tally
 }
 
-// Settles nodes by rising distance from the site, and looks at each. Where fewer than k lockers are found, it counts the node against the limit and
-// follows its arcs.
+// Settles nodes by rising distance from the site, and looks at each. Where fewer than k lockers are found, it counts the node against the limit,
+// follows its arcs, and keeps it as the next of the visits.
 fn explore(
     starts: &[u32],
     neighbours: &[u32],
@@ -174,6 +174,7 @@ fn explore(
     ensures { λ r. ⌜ ExploreLeft (network (now (starts .entry)) (now (neighbours .entry)) (now (weights .entry))) (now (points .entry)) q k limit (now (s .entry)) (now (s .exit)) b r ⌝ }
 {
     let n = starts.len() - 1;
+    let visits = 2 * n;
     step::start(s, b, n, q);
     let mut settled = 0;
     let mut len = 1;
@@ -200,8 +201,10 @@ fn explore(
         if k <= tally {
             continue;
         }
-        count += 1;
         len = step::open(starts, neighbours, weights, s, b, left, node, label);
+        let at = visits + wide(count);
+        s[at] = node;
+        count += 1;
     }
 }
 
@@ -215,26 +218,33 @@ fn wipe(s: &mut [u32], n: usize, b: usize, settled: usize, len: usize)
     words::zero(&mut s[..e]);
 }
 
-// The points that list a site, and how many nodes were expanded; refused where that is more than the limit. All words are 0 before and after.
-pub fn eager(
+// The expansion from a site with its own flag. All words are 0 before.
+fn search(
     starts: &[u32],
     neighbours: &[u32],
     weights: &[u32],
     points: &[u8],
     s: &mut [u32],
-    answers: &mut [u32],
     q: u32,
     k: usize,
     limit: u32,
-) -> Answer
-    requires { ⌜ CanSearch (network (now starts) (now neighbours) (now weights)) (now points) (now s) (now answers) q k ⌝ }
-    ensures { λ r. ⌜ EagerLeft (network (now (starts .entry)) (now (neighbours .entry)) (now (weights .entry))) (now (points .entry)) q k limit (now (s .entry)) (now (s .exit)) (now (answers .entry)) (now (answers .exit)) r ⌝ }
+) -> End
+    requires { ⌜ CanSearch (network (now starts) (now neighbours) (now weights)) (now points) (now s) q k ⌝ }
+    ensures { λ r. ⌜ ExploreLeft (network (now (starts .entry)) (now (neighbours .entry)) (now (weights .entry))) (now (points .entry)) q k limit (now (s .entry)) (now (s .exit)) (8 * nodeCount (network (now (starts .entry)) (now (neighbours .entry)) (now (weights .entry)))) r ⌝ }
 {
     let n = starts.len() - 1;
-    let b = 8 * n;
     let own = n + wide(q);
     s[own] = own_flag(points, q);
-    let end = explore(starts, neighbours, weights, points, s, b, q, k, limit);
+    let b = 8 * n;
+    explore(starts, neighbours, weights, points, s, b, q, k, limit)
+}
+
+// Writes the list, unless the search is refused, and clears the words.
+fn finish(s: &mut [u32], answers: &mut [u32], n: usize, end: End) -> Answer
+    requires { ⌜ CanFinish n (now s) (now answers) end ⌝ }
+    ensures { λ r. ⌜ FinishLeft n (now (s .entry)) (now (s .exit)) (now (answers .entry)) (now (answers .exit)) end r ⌝ }
+{
+    let b = 8 * n;
     let settled = end.settled;
     let len = end.len;
     let count = end.count;
@@ -245,4 +255,56 @@ pub fn eager(
     let size = flags::write_found(s, answers, n, n);
     wipe(s, n, b, settled, len);
     Answer::Listed { size, count }
+}
+
+// The points that list a site, how many nodes were expanded, and these nodes, by distance and then by node; refused where they are more than the limit.
+// The visits are kept in words until no refusal can come any more. All words are 0 before and after.
+pub fn eager(
+    starts: &[u32],
+    neighbours: &[u32],
+    weights: &[u32],
+    points: &[u8],
+    s: &mut [u32],
+    answers: &mut [u32],
+    visits: &mut [u32],
+    q: u32,
+    k: usize,
+    limit: u32,
+) -> Answer
+    requires { ⌜ CanSearch (network (now starts) (now neighbours) (now weights)) (now points) (now s) q k ⌝ }
+    requires { ⌜ HasPlaces (network (now starts) (now neighbours) (now weights)) (now answers) ⌝ }
+    requires { ⌜ HasPlaces (network (now starts) (now neighbours) (now weights)) (now visits) ⌝ }
+    ensures { λ r. ⌜ LimitedLeft (network (now (starts .entry)) (now (neighbours .entry)) (now (weights .entry))) (now (points .entry)) q k limit (now (s .entry)) (now (s .exit)) (now (answers .entry)) (now (answers .exit)) r ⌝ }
+    ensures { λ r. ⌜ VisitsLeft (network (now (starts .entry)) (now (neighbours .entry)) (now (weights .entry))) (now (points .entry)) q k (now (visits .entry)) (now (visits .exit)) r ⌝ }
+{
+    let n = starts.len() - 1;
+    let end = search(starts, neighbours, weights, points, s, q, k, limit);
+    let refused = end.refused;
+    let at = 2 * n;
+    let count = wide(end.count);
+    if !refused {
+        words::copy(s, at, count, visits);
+    }
+    finish(s, answers, n, end)
+}
+
+// The same without the visits, for a caller that wants none.
+pub fn without_visits(
+    starts: &[u32],
+    neighbours: &[u32],
+    weights: &[u32],
+    points: &[u8],
+    s: &mut [u32],
+    answers: &mut [u32],
+    q: u32,
+    k: usize,
+    limit: u32,
+) -> Answer
+    requires { ⌜ CanSearch (network (now starts) (now neighbours) (now weights)) (now points) (now s) q k ⌝ }
+    requires { ⌜ HasPlaces (network (now starts) (now neighbours) (now weights)) (now answers) ⌝ }
+    ensures { λ r. ⌜ LimitedLeft (network (now (starts .entry)) (now (neighbours .entry)) (now (weights .entry))) (now (points .entry)) q k limit (now (s .entry)) (now (s .exit)) (now (answers .entry)) (now (answers .exit)) r ⌝ }
+{
+    let n = starts.len() - 1;
+    let end = search(starts, neighbours, weights, points, s, q, k, limit);
+    finish(s, answers, n, end)
 }

@@ -7,7 +7,7 @@ use mathlib.Core.Path.{_≡_, sym, ap, _∙_}
 use mathlib.Core.Logic.{_≢_, _⊎_, inl, inr, ⊎-elim}
 use mathlib.Core.Bool.{true}
 use mathlib.Core.List.{List, [], _++_, List·Memᴰ, List·Memᴰ·not-nil, Memᴰ·cast}
-use native.Mathlib.Decide.{ℕ-discrete, decLt}
+use native.Mathlib.Decide.{ℕ-discrete}
 use native.Mathlib.Omega.{arith}
 use lib.ListN.{length, getD, drop, replicate, length-set, getD-replicate}
 use borrow.Author.Tests.{ltb-true}
@@ -23,10 +23,10 @@ use Rattle.network.proofs.Ranges.{arc-at, arc-place, neighbours-length}
 use Rattle.network.proofs.NumberZero.{accepted-ranges}
 use Rattle.network.proofs.Least.{distance}
 use Rattle.network.proofs.Distances.{dist-walk}
-use Rattle.expansion.specs.Queue.{Holds, Queue, PoppedAt}
+use Rattle.expansion.specs.Queue.{Holds, Queue, PoppedAt, NoLater}
 use Rattle.expansion.specs.Area.{PutIn, Entered}
 use Rattle.table.specs.Room.{degree}
-use Rattle.expansion.proofs.TagLaws.{entry-same}
+use Rattle.expansion.proofs.TagLaws.{entry-same, no-later-parts}
 use Rattle.expansion.proofs.EnteredLaws.{entered-held}
 use Rattle.rows.specs.Exact.{Placed}
 use Rattle.rows.specs.Flat.{place, places, rowAt, Sized, IsTable}
@@ -65,9 +65,9 @@ pub record Filling (g : Network) (P : List ℕ) (K : ℕ) (xs ids dists : List �
 stands-in : (ids dists : List ℕ) (at size p : ℕ) (s : Stands ids at size p) → List·Memᴰ (p, getD dists (at + s .index) 0) (places ids dists at size)
 stands-in ids dists at size p s = Memᴰ·cast (λ k. (sym (s .is) k, getD dists (at + s .index) 0)) (place-in ids dists at size (s .index) (s .low))
 
--- offers go by distance and point, then by node
-rows-order : (i p d j q e : ℕ) → i < 65536 → p < 65536 → j < 65536 → q < 65536 → offerOf i p d ≤ offerOf j q e → key (p, d) ≤ key (q, e)
-rows-order i p d j q e a b a′ b′ l = elim (decLt d e) [ yes h ↦ omega arith | no h ↦ omega arith ]
+-- offers come out by distance and point
+rows-order : (i p d j q e : ℕ) → i < 65536 → p < 65536 → j < 65536 → q < 65536 → NoLater (offerOf i p d) (offerOf j q e) → key (p, d) ≤ key (q, e)
+rows-order i p d j q e a b a′ b′ l = ⊎-elim (λ h. omega arith) (λ h. omega arith) (no-later-parts d p i e q j b a b′ a′ l)
 
 -- ---- The start: all places are empty, and every point is offered to its own row.
 module _ {g : Network} {P xs ys ids dists : List ℕ} {K len : ℕ} (c : CanSpread g P xs ids dists K) (s : Seeded P xs ys (length P) len) where
@@ -174,7 +174,7 @@ module _ {g : Network} {P xs ys ids dists : List ℕ} {K len : ℕ} (ok : Accept
         was = record { node = node-fits; point = point-fits; holds = pop .queue .was };
         least =
             λ j q e x.
-            rows-order i p d j q e node-fits point-fits (x .node) (x .point) (pop .queue .least (offerOf j q e) (x .holds));
+            rows-order i p d j q e node-fits point-fits (x .node) (x .point) (pop .queue .first (offerOf j q e) (x .holds));
         old = λ j q e x. record { node = x .node; point = x .point; holds = pop .queue .old (offerOf j q e) (x .holds) };
         kept =
             λ j q e x.

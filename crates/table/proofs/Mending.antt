@@ -1,5 +1,5 @@
 -- A table on its way to the table of the points that are left. Freed rows are the nearest without their last; what a short row wants waits in the
--- queue, or the next node on the way to it is short and wants it too. So the least offer, where its row is short and lacks its point, is what the
+-- queue, or the next node on the way to it is short and wants it too. So the first offer, where its row is short and lacks its point, is what the
 -- row wants.
 -- Assumes nothing.
 use Prim.Native.Nat.{ℕ, zero, suc, _+_, _-_, _≤_, _<_}
@@ -31,7 +31,7 @@ use Rattle.network.proofs.Ranges.{arc-at, arc-place}
 use Rattle.network.proofs.NumberZero.{accepted-ranges}
 use Rattle.expansion.specs.Queue.{Holds, PoppedAt}
 use Rattle.expansion.specs.Area.{PutIn}
-use Rattle.expansion.proofs.TagLaws.{entry-same}
+use Rattle.expansion.proofs.TagLaws.{entry-same, no-later-key}
 use Rattle.expansion.proofs.EnteredLaws.{entered-held}
 use Rattle.rows.specs.Flat.{rowAt, IsTable}
 use Rattle.rows.specs.Update.{Added, Gains}
@@ -93,7 +93,7 @@ module _ {g : Network} (ok : Accepted g) {Q : List ℕ} {K : ℕ} {ids dists xs 
       (bool-cases (isShort xs i))
 
   module _ {ys : List ℕ} (i p d : ℕ) (low-i : i < nodeCount g) (low-p : p < nodeCount g) (o : PoppedAt xs ys (nodeCount g) len (offerOf i p d)) where
-    -- the least entry, as its lead
+    -- the entry that is taken, as its lead
     popped-walk : Walk g i p d × (marked Q p ≡ true)
     popped-walk =
         let f = ok .few in
@@ -108,7 +108,7 @@ module _ {g : Network} (ok : Accepted g) {Q : List ℕ} {K : ℕ} {ids dists xs 
         let far = dist-walk ok (popped-walk .0) .most in
         let v = wanted ok Q K i popped-near (lacks-rank ok Q K i popped-near (rw (m .lacking i low-i s) at n)) in
         let r = frontier-held (suc (dist g i (v .point))) i (v .point) (omega arith) low-i s (v .wants) in
-        let l = o .queue .least (r .entry) (r .held) in
+        let l = no-later-key (offerOf i p d) (r .entry) (o .queue .first (r .entry) (r .held)) in
         let f = ok .few in
         let lo = v .wants .nearer .inside in
         let above : d ≤ dist g i (v .point) = omega (arith, l, r .first) in

@@ -20,11 +20,10 @@ use Rattle.network.specs.Points.{lockers}
 use Rattle.network.specs.Nearest.{key, insert, byDistance, nearest, before, Nearer, times}
 use Rattle.network.specs.Rows.{pad, row}
 use Rattle.network.proofs.Counts.{member-at}
-use Rattle.network.proofs.Ordered.{below, below-most}
+use Rattle.network.proofs.Ordered.{below, below-most, at-above, place-own}
 use Rattle.network.proofs.Insert.{insert-nil, insert-behind, insert-before}
 use Rattle.network.proofs.Rank.{key-other, passes-nearer, before-up, before-step}
 use Rattle.network.proofs.Rows.{by-below, by-only, all-ordered, nearest-ordered, nearest-small, nearest-below, nearest-times, nearest-unique, padding}
-use Rattle.expansion.proofs.FoundLaws.{at-above, place-own}
 use Rattle.table.specs.Mend.{Wants}
 
 -- ---- How often a node stands in a padded list.

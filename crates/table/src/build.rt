@@ -1,4 +1,4 @@
-// Build: source 000, Fig. 8. Every point is offered to its own node's row; the least offer by distance, point and node is taken out, and where the
+// Build: source 000, Fig. 8. Every point is offered to its own node's row; the first offer, by distance and point, is taken out, and where the
 // row has a free place and lacks the point it takes it, once for each of its lockers or as often as there is room for, and those neighbours whose
 // rows have a place for it are offered it in turn. Document 01, 'The table': 'Build fills it.'
 ghost use mathlib.Core.Path.{_≡_};
@@ -180,7 +180,7 @@ fn seed(points: &[u8], s: &mut [u32]) -> usize
     len
 }
 
-// Offers every point to its own node's row, and takes the offers out, least first: a row that has a place for the point takes it, and the node's
+// Offers every point to its own node's row, and takes the offers out, by distance and point: a row that has a place for the point takes it, and the node's
 // neighbours are offered it. The queue is empty at the end.
 fn spread(
     starts: &[u32],

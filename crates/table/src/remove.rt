@@ -1,5 +1,5 @@
 // Remove: document 01, 'The table'. One locker of the node is taken out of every row that shows all of them before the first is filled. Such a row is
-// short: it wants one entry, the best that its neighbours' rows hold and it lacks. The least offer by distance, point and node is taken out; a short
+// short: it wants one entry, the best that its neighbours' rows hold and it lacks. The first offer, by distance and point, is taken out; a short
 // row that lacks a locker of its point takes it, is short no more, and offers it to its short neighbours. Words of scratch: short flags n | queue.
 ghost use Prim.Native.Nat.{_≤_, _<_};
 ghost use mathlib.Core.Path.{_≡_};
@@ -266,7 +266,7 @@ fn offer(
     more
 }
 
-// Takes the least offer out until none waits.
+// Takes the first offer out until none waits.
 fn fill(
     starts: &[u32],
     neighbours: &[u32],

@@ -1,6 +1,6 @@
 -- `overlap::overlap_eager` meets its contract: the struct of the answer, and the arrays as the answer leaves them.
 -- Assumes nothing.
-use Rattle.overlap.proofs.Outcomes.{search-exported}
+use Rattle.overlap.proofs.Outcomes.{eager-exported}
 use borrow.Author.Needs.{needs}
 use Rattle.overlap.proofs.overlap_eager.Statement.{statement}
 use Rattle.overlap.proofs.overlap_eager.Tie as tie
@@ -17,9 +17,12 @@ same-length c = search needs
 same-length-2 : tie.Need-same-length-2
 same-length-2 c = search needs
 
+same-length-3 : tie.Need-same-length-3
+same-length-3 c = search needs
+
 returns : tie.Need-returns
-returns c = search-exported (c .listing-of .ensures) (c .before .before .before .before .before .answer .ensures)
+returns c = eager-exported (c .listing-of .ensures) (c .before .before .before .before .before .before .before .answer .ensures)
 
 pub overlap-eager-spec : {M : Type 1} → statement M
 overlap-eager-spec =
-    tie.close (tie.spec answer-requires listing-of-requires same-length same-length-2 returns)
+    tie.close (tie.spec answer-requires listing-of-requires same-length same-length-2 same-length-3 returns)

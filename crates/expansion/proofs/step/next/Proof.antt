@@ -5,6 +5,7 @@ use mathlib.Core.Path.{_≡_, refl}
 use Rattle.expansion.specs.Queue.{keyOf}
 use Rattle.expansion.specs.Tags.{tagOf, nodeOf}
 use Rattle.expansion.proofs.NodeLaws.{held-inside}
+use Rattle.expansion.proofs.TagLaws.{no-later-parts}
 use borrow.Author.Needs.{needs}
 use Rattle.expansion.proofs.step.next.Statement.{statement}
 use Rattle.expansion.proofs.step.next.Tie as tie
@@ -40,6 +41,14 @@ returns-2 c =
       fewer = refl;
       inside = omega (arith, held-inside (start .pre) (keyOf (r .distance) (r .tag)) (p .popped .was), f);
       tagged = omega (arith, c .tag-parent .ensures);
+      first =
+          λ x m h.
+          let k = keyOf m (tagOf x (h .parent)) in
+          let few = start .pre .few in
+          no-later-parts (r .distance) (c .before .tag-node .result) (c .tag-parent .result) m x (h .parent)
+          (omega (arith, few, held-inside (start .pre) (keyOf (r .distance) (r .tag)) (p .popped .was), f)) (omega (arith, c .tag-parent .ensures))
+          (omega (arith, few, h .inside)) (omega (arith, few, h .from))
+          (rw e at (p .popped .first k (h .holds)));
       popped = rw e at p;
     }
 

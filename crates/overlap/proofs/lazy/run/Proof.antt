@@ -89,16 +89,18 @@ search-requires c κs =
         some = omega (arith, p .some, w .wide .ensures);
         blank = blank;
         size = simp length-take (omega (arith, fits w, long z, mul-le-mul-left (w .wide .result) (p .accepted .some)));
-        answers = s .pre .places;
       },
-      record {
-        accepted = p .accepted;
-        points = p .points;
-        site = p .inside;
-        blank = blank;
-        size = simp length-take (omega (arith, fits w, long z));
-        answers = s .pre .places;
-      },
+      (
+        s .pre .places,
+        record {
+          accepted = p .accepted;
+          points = p .points;
+          site = p .inside;
+          blank = blank;
+          size = simp length-take (omega (arith, fits w, long z));
+          answers = s .pre .places;
+        },
+      ),
     )
 
 same-length : tie.Need-same-length

@@ -3,9 +3,8 @@
 use mathlib.Core.Path.{sym, _∙_}
 use native.Mathlib.Omega.{arith}
 use Rattle.network.specs.Network.{Network, network}
-use Rattle.network.specs.Accepted.{Accepted}
 use Rattle.overlap.specs.Eager.{eagerNumber}
-use Rattle.overlap.proofs.Ready.{first-is, first-later, first-last, site-ready}
+use Rattle.overlap.proofs.Ready.{first-is, first-later, first-last, limited-ready}
 use borrow.Author.Needs.{needs}
 use Rattle.overlap.proofs.numbers.eager_number.Statement.{statement}
 use Rattle.overlap.proofs.numbers.eager_number.Tie as tie
@@ -13,63 +12,29 @@ use Rattle.overlap.proofs.numbers.eager_number.Tie as tie
 abbrev G : tie.Start → Network
 G s = network (s .args .starts .now) (s .args .neighbours .now) (s .args .weights .now)
 
-abbrev start : tie.After-site-number → tie.Start
-start c = c .before .before .before .before .before .before .before
-
--- behind the first test the network is accepted
-accepted : (c : tie.Else1) → Accepted (G (start (c .before)))
-accepted c = let n = c .before in let s = start n in site-ready (G s) (s .args .points .now) (s .args .q) (sym (n .site-number .ensures) ∙ c .if1 .left) .0
-
-site-number-requires : tie.Need-site-number-requires
-site-number-requires c κs = search needs
+limited-number-requires : tie.Need-limited-number-requires
+limited-number-requires c κs = search needs
 
 returns : tie.Need-returns
 unfolding eagerNumber
-returns c = first-is _ _ _ (c .before .site-number .ensures) (c .if1 .taken)
+returns c =
+    first-is _ _ _ (c .before .limited-number .ensures) (c .if1 .taken)
 
-k-number-requires : tie.Need-k-number-requires
-k-number-requires c κs = search needs
-
-returns-2 : tie.Need-returns-2
-unfolding eagerNumber
-returns-2 c =
-    first-later _ _ _ _ (c .before .before .before .site-number .ensures) (c .before .before .if1 .left)
-    (first-is _ _ _ (c .before .k-number .ensures) (c .if2 .taken))
-
-sub-n : tie.Need-sub-n
-sub-n c = omega (arith, accepted (c .before .before) .some)
-
-eager-scratch-number-requires : tie.Need-eager-scratch-number-requires
-eager-scratch-number-requires c κs = accepted (c .before .before) .few
-
-returns-3 : tie.Need-returns-3
-unfolding eagerNumber
-returns-3 c =
-    first-later _ _ _ _ (c .before .before .before .before .before .site-number .ensures) (c .before .before .before .before .if1 .left)
-    (first-later _ _ _ _ (c .before .before .before .k-number .ensures) (c .before .before .if2 .left)
-    (first-is _ _ _ (c .before .eager-scratch-number .ensures) (c .if3 .taken)))
+sub-short-number : tie.Need-sub-short-number
+sub-short-number c =
+    let n = c .before in
+    let s = n .before .before .before .before .before .before .before .before in
+    omega (arith, limited-ready (G s) (s .args .points .now) (s .args .q) (s .args .k) (s .args .scratch .now) (s .args .answers .now) (sym (n .limited-number .ensures) ∙ c .if1 .left) .accepted .some)
 
 short-number-requires : tie.Need-short-number-requires
 short-number-requires c κs = search needs
 
-returns-4 : tie.Need-returns-4
+returns-2 : tie.Need-returns-2
 unfolding eagerNumber
-returns-4 c =
-    first-later _ _ _ _ (c .before .before .before .before .before .before .site-number .ensures) (c .before .before .before .before .before .if1 .left)
-    (first-later _ _ _ _ (c .before .before .before .before .k-number .ensures) (c .before .before .before .if2 .left)
-    (first-later _ _ _ _ (c .before .before .eager-scratch-number .ensures) (c .before .if3 .left)
-    (first-last _ _ (c .short-number .ensures))))
+returns-2 c =
+    first-later _ _ _ _ (c .before .before .limited-number .ensures) (c .before .if1 .left) (first-last _ _ (c .short-number .ensures))
 
 pub eager-number-spec : {M : Type 1} → statement M
 eager-number-spec =
     tie.close
-    (tie.spec
-    site-number-requires
-    returns
-    k-number-requires
-    returns-2
-    sub-n
-    eager-scratch-number-requires
-    returns-3
-    short-number-requires
-    returns-4)
+    (tie.spec limited-number-requires returns sub-short-number short-number-requires returns-2)

@@ -1,6 +1,6 @@
 -- `searches::eager::explore` meets its contract. The loop's invariant is that eager is under way (`Exploring`). A turn takes an entry, looks at its
 -- node, which sets flags before the area, and settles it; where fewer than k points are found the node is expanded, and is counted, and its arcs
--- are followed; else it is beaten, and the search stops behind it. The measure is the number of nodes that are not settled.
+-- are followed, and it is kept as the next visit; else it is beaten, and the search stops behind it. The measure is the number of nodes that are not settled.
 -- Assumes nothing.
 use Prim.Native.Nat.{_+_, _-_, _<_}
 use mathlib.Core.Path.{_≡_, refl, sym, _∙_}
@@ -17,20 +17,21 @@ use Rattle.network.specs.Points.{isListed}
 use Rattle.network.proofs.Rank.{Near}
 use Rattle.expansion.proofs.Beside.{Beside}
 use Rattle.expansion.specs.Area.{Took, Followed}
-use Rattle.expansion.proofs.AreaLaws.{settledAs}
+use Rattle.expansion.proofs.AreaLaws.{moved-same, settledAs}
 use Rattle.expansion.proofs.AreaSearch.{took-area}
 use Rattle.expansion.proofs.Progress.{took-place, took-fits, took-follow, frame-settled}
+use Rattle.searches.specs.Eager.{Visited}
 use Rattle.searches.proofs.Finds.{met-leads}
-use Rattle.searches.proofs.Exploring.{can-expand, Exploring, exploring-start, can-look, beside-old, looked-took, looked-exploring, looked-told, few-expanded, many-beaten, beyond, exploring-stopped, exploring-opened, count-all, found-all}
+use Rattle.searches.proofs.Exploring.{can-expand, Exploring, exploring-start, few-counted, few-visits, can-look, beside-old, looked-took, looked-exploring, looked-visited, looked-told, few-expanded, many-beaten, beyond, next-visit, visited-kept, exploring-stopped, exploring-opened, exploring-kept, visited-more, count-all, found-all}
 use Rattle.searches.proofs.eager.explore.Statement.{statement}
 use Rattle.searches.proofs.eager.explore.Tie as tie
 
 abbrev Inv-loop : tie.InvT-loop
-Inv-loop starts neighbours weights points s₀ b q k limit n settled₀ len₀ count₀ s settled len count =
-    (length s ≡ length s₀) × Exploring (network starts neighbours weights) points q k limit s b settled len count
+Inv-loop starts neighbours weights points s₀ b q k limit n visits settled₀ len₀ count₀ s settled len count =
+    (length s ≡ length s₀) × Exploring (network starts neighbours weights) points q k limit s b settled len count × Visited (network starts neighbours weights) points q k s count
 
 abbrev μ-loop : tie.MeasureT-loop
-μ-loop starts neighbours weights points s₀ b q k limit n settled₀ len₀ count₀ s settled len count = nodeCount (network starts neighbours weights) - settled
+μ-loop starts neighbours weights points s₀ b q k limit n visits settled₀ len₀ count₀ s settled len count = nodeCount (network starts neighbours weights) - settled
 
 -- the places: where the loop begins, the entry that was taken, its node looked at, and settled
 abbrev start-of : tie.At-loop Inv-loop μ-loop → tie.Start Inv-loop μ-loop
@@ -84,6 +85,12 @@ told : (k : tie.After-look Inv-loop μ-loop)
     → getD (k .look .last .1 .1 .1 .1 .0 ++ drop (a .b) (l .loop .s)) (nodeCount (G l) + p) 0 ≢ 0
 told k = let l = loop-of (taken-of k) in looked-told (start-of l .pre) (l .loop .inv .1) (took (taken-of k)) (k .look .ensures)
 
+visited : (k : tie.After-look Inv-loop μ-loop)
+    → let l = loop-of (taken-of k) in
+    let a = start-of l .args in
+    Visited (G l) (a .points .now) (a .q) (a .k) (k .look .last .1 .1 .1 .1 .0 ++ drop (a .b) (l .loop .s)) (l .loop .count)
+visited k = let l = loop-of (taken-of k) in looked-visited (start-of l .pre) (l .loop .inv .1) (took (taken-of k)) (k .look .ensures) (l .loop .inv .2)
+
 -- where fewer than k are found, the count is below the limit
 below : (s : tie.After-settle Inv-loop μ-loop) → look-of s .look .result < start-of (loop-of (taken-of (look-of s))) .args .k
     → loop-of (taken-of (look-of s)) .loop .count < start-of (loop-of (taken-of (look-of s))) .args .limit
@@ -109,6 +116,9 @@ followed o = rw (settle-of o .settle .ensures) at (o .«open» .ensures)
 sub-n : tie.Need-sub-n Inv-loop μ-loop
 sub-n c = search needs
 
+mul-visits : tie.Need-mul-visits Inv-loop μ-loop
+mul-visits c = search needs
+
 start-requires : tie.Need-start-requires Inv-loop μ-loop
 start-requires c κs =
     let p = c .before .before .before .before .before .before .pre in
@@ -117,7 +127,7 @@ start-requires c κs =
 loop-holds : tie.Need-loop-holds Inv-loop μ-loop
 loop-holds c =
     let s = c .before .before .before .before .before .before .before .before .before in
-    (refl, exploring-start (s .pre) (s .args .limit) (c .before .before .start .ensures))
+    (refl, exploring-start (s .pre) (s .args .limit) (c .before .before .start .ensures), λ i h. absurd (omega arith))
 
 next-requires : tie.Need-next-requires Inv-loop μ-loop
 next-requires c κs =
@@ -149,7 +159,8 @@ returns c =
       size = l .loop .inv .0 ∙ l .before .before .before .start .ensures .frame .size;
       area = rw (t .0) at (e .progress .area);
       blank = e .blank;
-      complete = λ a. record { count = all; within = rw (← all) (e .within); found = found-all (start-of l .pre) e (t .0) };
+      few = few-counted (start-of l .pre) e;
+      complete = λ a. record { count = all; within = rw (← all) (e .within); found = found-all (start-of l .pre) e (t .0); visited = l .loop .inv .2 };
       beyond = λ a. absurd (false≢true a);
     }))
 
@@ -184,6 +195,7 @@ returns-2 c =
       size = t .popped .frame .size ∙ flags-set k .size ∙ l .loop .inv .0 ∙ l .before .before .before .start .ensures .frame .size;
       area = took-area (start-of l .pre .accepted) (e .progress .area) (e .progress .searched) t;
       blank = λ j h m. t .popped .frame .before j m ∙ e .blank j h m;
+      few = few-counted (start-of l .pre) e;
       complete = λ a. absurd (true≢false a);
       beyond =
           λ a.
@@ -224,12 +236,8 @@ loop-again c =
     in (
       rw (s .settle .ensures) (simp length-set (t .popped .frame .size ∙ flags-set k .size ∙ l .loop .inv .0)),
       rw (s .settle .ensures) x,
+      rw (s .settle .ensures) (visited-kept (start-of l .pre) e t moved-same (visited k)),
     )
-
-add-count : tie.Need-add-count Inv-loop μ-loop
-add-count c =
-    let s = c .before .before .before in
-    record { fits = omega (arith, below s (c .if3 .left), start-of (loop-of (taken-of (look-of s))) .fits .limit) }
 
 open-requires : tie.Need-open-requires Inv-loop μ-loop
 open-requires c κs =
@@ -237,26 +245,73 @@ open-requires c κs =
     let k = look-of s in
     rw (s .settle .ensures) (took-follow (start-of (loop-of (taken-of k)) .pre .accepted) (exploring k .progress) (took-after k))
 
+-- the place of the visit
+abbrev open-of : tie.After-wide Inv-loop μ-loop → tie.After-open Inv-loop μ-loop
+open-of w = w .before .before .before
+
+place : (w : tie.After-wide Inv-loop μ-loop)
+    → let l = loop-of (taken-of (look-of (settle-of (open-of w)))) in
+    (w .wide .result ≡ l .loop .count) × (l .loop .count < nodeCount (G l))
+place w =
+    let o = open-of w in
+    let k = look-of (settle-of o) in
+    let l = loop-of (taken-of k) in
+    let p = start-of l .pre in
+    let e = exploring k in
+    let t = took-after k in
+    let few = o .before .before .if3 .left in
+    (w .wide .ensures, omega (arith, few-visits p (beyond p e t (few-expanded p e t (k .look .ensures .count) few))))
+
+wide-requires : tie.Need-wide-requires Inv-loop μ-loop
+wide-requires c κs = search needs
+
+add-at : tie.Need-add-at Inv-loop μ-loop
+add-at c =
+    let l = loop-of (taken-of (look-of (settle-of (open-of c)))) in
+    record { fits = omega (arith, place c .0, place c .1, start-of l .pre .accepted .few) }
+
+mul-s : tie.Need-mul-s Inv-loop μ-loop
+mul-s c =
+    let l = loop-of (taken-of (look-of (settle-of (open-of c)))) in
+    record { fits = omega (arith, place c .0, place c .1, start-of l .pre .accepted .few) }
+
+slice-write-s : tie.Need-slice-write-s Inv-loop μ-loop
+slice-write-s c =
+    let k = look-of (settle-of (open-of c)) in
+    let l = loop-of (taken-of k) in
+    let p = start-of l .pre in
+    let size = frame-settled (p .accepted) (exploring k .progress) (took-after k) (met-leads (p .accepted) _ _ _ (p .some)) (followed (open-of c)) .size in
+    omega (arith, place c .0, place c .1, size, flags-set k .size, l .loop .inv .1 .progress .area .queue .room, p .base)
+
+add-count : tie.Need-add-count Inv-loop μ-loop
+add-count c =
+    let s = settle-of (open-of c) in
+    record { fits = omega (arith, below s (open-of c .before .before .if3 .left), start-of (loop-of (taken-of (look-of s))) .fits .limit) }
+
 loop-less-2 : tie.Need-loop-less-2 Inv-loop μ-loop
 loop-less-2 c =
-    let o = c .before .before in
-    let k = look-of (settle-of o) in
+    let k = look-of (settle-of (open-of c)) in
     let l = loop-of (taken-of k) in
     let p = start-of l .pre in
     omega (arith, took-place (p .accepted) (exploring k .progress) (took-after k))
 
 loop-again-2 : tie.Need-loop-again-2 Inv-loop μ-loop
 loop-again-2 c =
-    let o = c .before .before in
+    let o = open-of c in
     let s = settle-of o in
     let k = look-of s in
     let l = loop-of (taken-of k) in
     let p = start-of l .pre in
     let e = exploring k in
     let t = took-after k in
-    let few = o .before .before .if3 .left in (
-      frame-settled (p .accepted) (e .progress) t (met-leads (p .accepted) _ _ _ (p .some)) (followed o) .size ∙ flags-set k .size ∙ l .loop .inv .0,
-      exploring-opened p e t (told k) (few-expanded p e t (k .look .ensures .count) few) (below s few) (followed o),
+    let few = o .before .before .if3 .left in
+    let y = few-expanded p e t (k .look .ensures .count) few in
+    let x = exploring-opened p e t (told k) y (below s few) (followed o) in
+    let v = visited-kept p e t (followed o .frame) (visited k) in
+    let at = place c in (
+      simp length-set (frame-settled (p .accepted) (e .progress) t (met-leads (p .accepted) _ _ _ (p .some)) (followed o) .size ∙ flags-set k .size ∙ l .loop .inv .0),
+      rw (at .0) (exploring-kept p x (l .loop .count) _ (at .1)),
+      rw (at .0) (visited-more p x (l .loop .count) _ (at .1) v (next-visit p e t y)),
     )
 
 pub explore-spec : {M : Type 1} → statement M
@@ -266,6 +321,7 @@ explore-spec =
     Inv-loop
     μ-loop
     sub-n
+    mul-visits
     start-requires
     loop-holds
     next-requires
@@ -284,7 +340,11 @@ explore-spec =
     add-settled
     loop-less
     loop-again
-    add-count
     open-requires
+    wide-requires
+    add-at
+    mul-s
+    slice-write-s
+    add-count
     loop-less-2
     loop-again-2)

@@ -1,4 +1,4 @@
--- `overlap::nearest::copy` meets its contract. The invariant: the first i words are stored. The measure is what is left to copy.
+-- `expansion::words::copy` meets its contract. The invariant: the first i words are stored. The measure is what is left to copy.
 -- Assumes nothing.
 use Prim.Native.Nat.{_+_, _-_, _≤_}
 use mathlib.Core.Path.{_≡_, refl}
@@ -6,8 +6,8 @@ use native.Mathlib.Omega.{arith}
 use lib.ListN.{getD}
 use Rattle.network.proofs.Tabulate.{Stored, stored-none, stored-more, stored-all}
 use borrow.Author.Needs.{needs}
-use Rattle.overlap.proofs.nearest.copy.Statement.{statement}
-use Rattle.overlap.proofs.nearest.copy.Tie as tie
+use Rattle.expansion.proofs.words.copy.Statement.{statement}
+use Rattle.expansion.proofs.words.copy.Tie as tie
 
 abbrev Inv-loop : tie.InvT-loop
 Inv-loop from at count answers₀ i₀ answers i = (i ≤ count) × Stored (λ x. getD from (at + x) 0) i answers₀ answers
