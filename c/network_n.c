@@ -5,7 +5,7 @@
  *     cc -std=c11 -Wall -Wextra -Wpedantic -Werror -Iinclude c/network_n.c target/staticlib/liboverlap.a -o target/network_n
  *     target/network_n
  *
- * The gate compares the output with network_n.expected, which is worked out from document 01 and Ask 8 of document 02.
+ * The gate compares the output with network_n.expected, which is worked out from document 01 and Asks 4 and 8 of document 02.
  *
  * What a caller lends, by the names of overlap.h. n is the number of nodes, A that of arcs; a road is two arcs, one from each end:
  *
@@ -15,6 +15,8 @@
  *     scratch               SCRATCH_LEN (below) words or more, for eager, verify and the short query EAGER_SCRATCH_LEN, of any contents; a call
  *                           that is accepted leaves them all 0
  *     answers               n words or more; the list stands in the first `length`, distances fill n
+ *     visits                n words or more; the nodes that eager's count counts stand in the first `count`, by distance from q and then by
+ *                           node
  *     ids, distances        of nearest k words each or more; of a table n x K words each, row i from i x K on, and `places` is K; a node with
  *                           several lockers comes as often, as far as there is room
  *
@@ -33,8 +35,8 @@
  *      7  a node given is n or more
  *      8  K not 2 to 17, or a table array not n x K long
  *      9  k is 0 or above 16; by table, above K - 1
- *     10  scratch shorter than SCRATCH_LEN (eager, verify and the short query: than EAGER_SCRATCH_LEN), or an array for answers shorter than n
- *         (nearest: than k)
+ *     10  scratch shorter than SCRATCH_LEN (eager, verify and the short query: than EAGER_SCRATCH_LEN), or an array for answers (eager: or the
+ *         visits) shorter than n (nearest: than k)
  *     11  insert at 15 lockers; remove or verify at none
  *     12  eager: the expanded count would exceed the limit
  *
@@ -209,14 +211,16 @@ static void print_by_table(network g, const uint8_t points[NODES], uint32_t q, u
                                    LEND_SCRATCH, LEND(answers)), answers);
 }
 
-/* The list of a site by all four searches. */
+/* The list of a site by all four searches, and eager's visits. */
 static void print_case(const char *name, network g, const uint8_t points[NODES], uint32_t q, uint32_t k)
 {
-    uint32_t answers[NODES];
-    overlap_listing eager = overlap_eager(LEND_NETWORK(g), points, NODES, q, k, 65535, LEND_EAGER_SCRATCH, LEND(answers));
+    uint32_t answers[NODES], visits[NODES];
+    overlap_listing eager = overlap_eager(LEND_NETWORK(g), points, NODES, q, k, 65535, LEND_EAGER_SCRATCH, LEND(answers), LEND(visits));
     printf("%s, q %u, k %u: eager ", name, (unsigned)q, (unsigned)k);
     print_list(eager, answers);
-    printf(" expanded %u, lazy ", (unsigned)eager.count);
+    printf(" expanded %u (", (unsigned)eager.count);
+    print_words(visits, eager.count);
+    printf("), lazy ");
     print_list(overlap_lazy(LEND_NETWORK(g), points, NODES, q, k, LEND_SCRATCH, LEND(answers)), answers);
     printf(", lazy-EP ");
     print_list(overlap_lazy_ep(LEND_NETWORK(g), points, NODES, q, k, LEND_SCRATCH, LEND(answers)), answers);
@@ -244,6 +248,8 @@ static void print_cases(void)
     print_case("P5", n, n_points, 5, 1);
     print_case("P6, no points", n, no_points, 0, 1);
     print_case("P7, road 2-4 of 6", p7, n_points, 0, 1);
+    /* Nodes 0 and 4 are equally far from 2. */
+    print_case("a tie, no points", n, no_points, 2, 1);
     print_short_query(3);
     print_short_query(4);
 }
@@ -321,7 +327,7 @@ static void print_other_numbers(void)
 {
     static const uint8_t byte_16[NODES] = { 0, 0, 16, 0, 1, 1 };
     uint8_t points[NODES] = { 0, 0, 1, 0, 1, 1 };
-    uint32_t answers[NODES], ids[NODES * 2], distances[NODES * 2];
+    uint32_t answers[NODES], visits[NODES], ids[NODES * 2], distances[NODES * 2];
     expect_accepted(overlap_build(LEND_NETWORK(n), LEND(points), 2, LEND_SCRATCH, LEND(ids), LEND(distances)));
     print_number(overlap_short_query(LEND_NETWORK(n), LEND(byte_16), 0, LEND_EAGER_SCRATCH, LEND(answers)).number, "N, byte 16");
     print_number(overlap_distances(LEND_NETWORK(n), 6, LEND_SCRATCH, LEND(answers)), "N, node 6");
@@ -331,7 +337,7 @@ static void print_other_numbers(void)
     print_number(overlap_distances(LEND_NETWORK(n), 0, LEND_SCRATCH, answers, 5), "N, 5 answer places");
     print_number(overlap_remove(LEND_NETWORK(n), LEND(points), 0, 2, LEND_SCRATCH, LEND(ids), LEND(distances)).number,
                  "N, remove 0");
-    print_number(overlap_eager(LEND_NETWORK(n), LEND(points), 0, 2, 3, LEND_EAGER_SCRATCH, LEND(answers)).number,
+    print_number(overlap_eager(LEND_NETWORK(n), LEND(points), 0, 2, 3, LEND_EAGER_SCRATCH, LEND(answers), LEND(visits)).number,
                  "N, q = 0, k = 2, limit 3");
 }
 

@@ -1,6 +1,6 @@
 //! Network N of document 01 through every call. It prints what `c/network_n.c` prints, and
 //! `tests/network_n.rs` compares the output with `c/network_n.expected`, which is worked out from
-//! document 01 and Ask 8 of document 02.
+//! document 01 and Asks 4 and 8 of document 02.
 //!
 //! Run it with `cargo run --release --example network_n`.
 
@@ -86,7 +86,7 @@ fn print_verdicts(engine: &mut Engine, points: &Points, out: &mut impl Write) ->
     Ok(())
 }
 
-/// Prints the list of a site by all four searches.
+/// Prints the list of a site by all four searches, and eager's visits.
 fn print_case(
     name: &str,
     network: &Network,
@@ -96,14 +96,14 @@ fn print_case(
 ) -> Done {
     let mut engine = Engine::new(network);
     let eager = engine.eager(points, q, k, 65_535)?;
-    let (by_eager, expanded) = (words(eager.points), eager.expanded);
+    let (by_eager, expanded, visits) = (words(eager.points), eager.expanded, words(eager.visits));
     let lazy = words(engine.lazy(points, q, k)?);
     let lazy_ep = words(engine.lazy_ep(points, q, k)?);
     let mut table = Table::build(network, points.clone(), 3)?;
     let table = words(table.query(q, k)?);
     write!(
         out,
-        "{name}, q {q}, k {k}: eager {{{by_eager}}} expanded {expanded}, "
+        "{name}, q {q}, k {k}: eager {{{by_eager}}} expanded {expanded} ({visits}), "
     )?;
     writeln!(
         out,
@@ -122,6 +122,8 @@ fn print_cases(engine: &mut Engine, points: &Points, out: &mut impl Write) -> Do
     print_case("P5", &n, points, (5, 1), out)?;
     print_case("P6, no points", &n, &Points::none(&n), (0, 1), out)?;
     print_case("P7, road 2-4 of 6", &network_with(6)?, points, (0, 1), out)?;
+    // Nodes 0 and 4 are equally far from 2.
+    print_case("a tie, no points", &n, &Points::none(&n), (2, 1), out)?;
     for q in [3, 4] {
         let listed = engine.short_query(points, q)?;
         let (list, expanded) = (words(listed.points), listed.expanded);

@@ -212,8 +212,40 @@ impl<'a> IntoIterator for Nearest<'a> {
     }
 }
 
-/// The answer of [`Engine::eager`](crate::Engine::eager). Document 01: it "returns the list and the
-/// count of nodes expanded."
+/// The answer of [`Engine::eager`](crate::Engine::eager): what [`Listed`] has, and the visits.
+///
+/// ```
+/// use overlap::{Engine, Network, Points};
+///
+/// # fn main() -> Result<(), overlap::Refusal> {
+/// // Network N of document 01.
+/// let network = Network::from_roads(6, &[(0, 1, 4), (0, 3, 5), (1, 2, 3), (2, 4, 7), (3, 4, 3)])?;
+/// let mut engine = Engine::new(&network);
+/// // P4: the site's own point is listed.
+/// let points = Points::on(&network, [2, 4, 5])?;
+/// let expansion = engine.eager(&points, 2, 1, 65_535)?;
+/// assert_eq!((expansion.points, expansion.expanded), (&[2, 4][..], 3));
+/// assert_eq!(expansion.visits, [2, 1, 0]);
+///
+/// // Without points all that can be reached is expanded. Nodes 0 and 4 are both 7 from node 2.
+/// let expansion = engine.eager(&Points::none(&network), 2, 1, 65_535)?;
+/// assert_eq!(expansion.visits, [2, 1, 0, 4, 3]);
+/// # Ok(())
+/// # }
+/// ```
+#[derive(Clone, Copy, Debug, PartialEq, Eq)]
+pub struct Expansion<'a> {
+    /// The list, as [`Listed::points`].
+    pub points: &'a [u32],
+    /// The count, as [`Listed::expanded`]: so many visits there are.
+    pub expanded: u32,
+    /// The nodes expanded, the site first. Document 02 (Ask 4): "the nodes that its count counts, by
+    /// distance from the site and then by node".
+    pub visits: &'a [u32],
+}
+
+/// The answer of [`Engine::short_query`](crate::Engine::short_query). Document 01: it is eager, which
+/// "returns the list and the count of nodes expanded."
 ///
 /// ```
 /// use overlap::{Engine, Network, Points};
@@ -224,7 +256,7 @@ impl<'a> IntoIterator for Nearest<'a> {
 /// let points = Points::on(&network, [2, 4, 5])?;
 /// let mut engine = Engine::new(&network);
 /// // P4: the site's own point is listed.
-/// let listed = engine.eager(&points, 2, 1, 65_535)?;
+/// let listed = engine.short_query(&points, 2)?;
 /// assert_eq!((listed.points, listed.expanded), (&[2, 4][..], 3));
 /// # Ok(())
 /// # }

@@ -1,4 +1,4 @@
-//! Scratch and answers that are allocated once and lent to each call.
+//! Scratch, answers and visits that are allocated once and lent to each call.
 
 use crate::Network;
 use std::fmt;
@@ -29,6 +29,7 @@ impl Words {
 pub(crate) struct Buffers {
     scratch: Vec<u32>,
     answers: Vec<u32>,
+    visits: Vec<u32>,
 }
 
 impl Buffers {
@@ -39,17 +40,39 @@ impl Buffers {
 
     /// Scratch, and n places for answers.
     pub(crate) fn both(&mut self, network: &Network, words: Words) -> (&mut [u32], &mut [u32]) {
+        let length = self.allocate(network, words);
+        (&mut self.scratch[..length], &mut self.answers)
+    }
+
+    /// Eager's scratch, n places for answers and n for visits.
+    pub(crate) fn of_eager(&mut self, network: &Network) -> [&mut [u32]; 3] {
+        let length = self.allocate(network, Words::Eager);
+        self.visits.resize(network.nodes() as usize, 0);
+        [
+            &mut self.scratch[..length],
+            &mut self.answers,
+            &mut self.visits,
+        ]
+    }
+
+    /// Makes scratch and answers long enough and returns the words of scratch that the call asks for.
+    fn allocate(&mut self, network: &Network, words: Words) -> usize {
         let length = words.on(network);
         if self.scratch.len() < length {
             self.scratch = vec![0; length];
         }
         self.answers.resize(network.nodes() as usize, 0);
-        (&mut self.scratch[..length], &mut self.answers)
+        length
     }
 
     /// The first answers of the last call.
     pub(crate) fn answers(&self, length: usize) -> &[u32] {
         &self.answers[..length]
+    }
+
+    /// The first visits of the last call of eager.
+    pub(crate) fn visits(&self, count: u32) -> &[u32] {
+        &self.visits[..count as usize]
     }
 }
 
@@ -59,6 +82,7 @@ impl fmt::Debug for Buffers {
         let mut buffers = f.debug_struct("Buffers");
         buffers.field("scratch_len", &self.scratch.len());
         buffers.field("answers_len", &self.answers.len());
+        buffers.field("visits_len", &self.visits.len());
         buffers.finish()
     }
 }

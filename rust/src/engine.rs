@@ -2,14 +2,15 @@
 
 use crate::buffers::{Buffers, Words};
 use crate::calls::{self, accepted, Found, Listing};
-use crate::{Distances, Listed, Nearest, Network, Points, Refusal};
+use crate::{Distances, Expansion, Listed, Nearest, Network, Points, Refusal};
 
 /// The calls without a table, on one network.
 ///
-/// It owns the scratch and the places for answers, as long as documents 01 and 02 ask for. They are
-/// allocated at the first call and again only when a later call needs more. On the largest network
-/// scratch is 786,420 words for eager, verify and the short query, and 76,545,904 for the other calls
-/// with k = 16. An answer is lent from them, so it is read or copied before the next call.
+/// It owns the scratch and the places for answers and visits, as long as documents 01 and 02 ask for.
+/// They are allocated at the first call and again only when a later call needs more. On the largest
+/// network scratch is 786,420 words for eager, verify and the short query, and 76,545,904 for the
+/// other calls with k = 16. An answer is lent from them, so it is read or copied before the next
+/// call.
 ///
 /// Document 01: "For query node q and k, point p is listed if it can be reached from q and fewer
 /// than k other points p' have d(p, p') < d(p, q). The point p itself doesn't count. A point on q
@@ -203,6 +204,10 @@ impl Engine {
     ///
     /// All lockers of a node count as points here. A limit of n or more is never exceeded.
     ///
+    /// Document 02 (Ask 4): "Map editors step through an expansion and want the same steps on both
+    /// machines. Eager also lists the nodes that its count counts, by distance from the site and then
+    /// by node".
+    ///
     /// ```
     /// use overlap::{Engine, Network, Points, Refusal};
     ///
@@ -212,8 +217,9 @@ impl Engine {
     /// let network = Network::from_roads(6, &roads)?;
     /// let points = Points::on(&network, [2, 4, 5])?;
     /// let mut engine = Engine::new(&network);
-    /// let listed = engine.eager(&points, 0, 2, 4)?;
-    /// assert_eq!((listed.points, listed.expanded), (&[2, 4][..], 4));
+    /// let expansion = engine.eager(&points, 0, 2, 4)?;
+    /// assert_eq!((expansion.points, expansion.expanded), (&[2, 4][..], 4));
+    /// assert_eq!(expansion.visits, [0, 1, 3, 2]);
     ///
     /// // Four nodes are expanded, which is above 3.
     /// assert_eq!(engine.eager(&points, 0, 2, 3), Err(Refusal::Limit));
@@ -230,14 +236,21 @@ impl Engine {
         q: u32,
         k: u32,
         limit: u32,
-    ) -> Result<Listed<'_>, Refusal> {
-        let (scratch, answers) = self.buffers.both(&self.network, Words::Eager);
+    ) -> Result<Expansion<'_>, Refusal> {
+        let [scratch, answers, visits] = self.buffers.of_eager(&self.network);
         let (network, marks) = (self.network.lend(), points.marks());
-        let listing = calls::eager(network, marks, q, k, limit, scratch, answers);
-        self.listed(listing)
+        let listing = calls::eager(network, marks, q, k, limit, scratch, answers, visits);
+        let Listed { points, expanded } = self.listed(listing)?;
+        let visits = self.buffers.visits(expanded);
+        Ok(Expansion {
+            points,
+            expanded,
+            visits,
+        })
     }
 
-    /// Document 01: "The short query: no k and no limit; eager with k = 1 and limit 65,535."
+    /// Document 01: "The short query: no k and no limit; eager with k = 1 and limit 65,535." Document
+    /// 02 (Ask 4): it doesn't list the nodes that its count counts.
     ///
     /// ```
     /// use overlap::{Engine, Network, Points};

@@ -3,9 +3,9 @@
 //! The engine works on a network of junctions and roads on which lockers stand, and answers which
 //! lockers have a new site among their k nearest, by road distance. It is written in Rattle and
 //! proved: each call of it meets a contract that says what document 01, the requirements of the
-//! build, says, with what document 02 changed: several lockers at one junction (Ask 8), and less
-//! scratch for eager, verify and the short query (Ask 5). Each item of this crate quotes the
-//! sentence that it is.
+//! build, says, with what document 02 changed: several lockers at one junction (Ask 8), less scratch
+//! for eager, verify and the short query (Ask 5), and eager's visits (Ask 4). Each item of this crate
+//! quotes the sentence that it is.
 //!
 //! | Type | What it is |
 //! |---|---|
@@ -28,10 +28,12 @@
 //! let network = Network::from_roads(6, &roads)?;
 //! let points = Points::on(&network, [2, 4, 5])?;
 //!
-//! // P2: a site at node 0 is among the two nearest of points 2 and 4.
+//! // P2: a site at node 0 is among the two nearest of points 2 and 4. To know it, eager expands four
+//! // nodes, the nearest to the site first.
 //! let mut engine = Engine::new(&network);
-//! let listed = engine.eager(&points, 0, 2, 65_535)?;
-//! assert_eq!((listed.points, listed.expanded), (&[2, 4][..], 4));
+//! let expansion = engine.eager(&points, 0, 2, 65_535)?;
+//! assert_eq!((expansion.points, expansion.expanded), (&[2, 4][..], 4));
+//! assert_eq!(expansion.visits, [0, 1, 3, 2]);
 //!
 //! // P8 and P10: the table, and the table once node 0 has a point too.
 //! let mut table = Table::build(&network, points, 2)?;
@@ -70,7 +72,7 @@ mod refusal;
 pub mod road_list;
 mod table;
 
-pub use answers::{Distances, Listed, Nearest};
+pub use answers::{Distances, Expansion, Listed, Nearest};
 pub use engine::Engine;
 pub use network::{Network, Road};
 pub use points::Points;

@@ -43,9 +43,10 @@ pub enum Refusal {
     /// 9: "k is 0 or above 16; by table, above K - 1".
     K = 9,
     /// 10: scratch shorter than S (eager, verify and the short query: than 12 × n), or an array for
-    /// answers shorter than n (nearest: than k). Document 02 (Ask 5): "10 compares with 12 × n for
-    /// these." Only the functions of [`calls`](crate::calls) can meet it: the types at the root own
-    /// arrays that are long enough.
+    /// answers (eager: or the visits) shorter than n (nearest: than k). Document 02 (Ask 5): "10
+    /// compares with 12 × n for these." (Ask 4): "10 if the new list's array is shorter than n." Only
+    /// the functions of [`calls`](crate::calls) can meet it: the types at the root own arrays that are
+    /// long enough.
     Short = 10,
     /// 11: insert at 15 lockers; remove or verify at none. Document 02 (Ask 8): "11 means insert at
     /// 15, remove or verify at 0".
@@ -104,8 +105,8 @@ impl Refusal {
         self as u32
     }
 
-    /// The condition, in the wording of document 01, for 10 with the length of Ask 5 and for 6 and 11
-    /// with the bounds of Ask 8.
+    /// The condition, in the wording of document 01, for 10 with the length of Ask 5 and the array of
+    /// Ask 4, for 6 and 11 with the bounds of Ask 8.
     ///
     /// ```
     /// assert_eq!(overlap::Refusal::Node.condition(), "a node given is n or more");
@@ -128,8 +129,8 @@ impl Refusal {
             Self::Table => "K not 2 to 17, or a table array not n × K long",
             Self::K => "k is 0 or above 16; by table, above K - 1",
             Self::Short => {
-                "scratch shorter than S (eager, verify and the short query: than 12 × n), \
-                 or an array for answers shorter than n (nearest: than k)"
+                "scratch shorter than S (eager, verify and the short query: than 12 × n), or an array \
+                 for answers (eager: or the visits) shorter than n (nearest: than k)"
             }
             Self::Mark => "insert at 15 lockers; remove or verify at none",
             Self::Limit => "eager: the expanded count would exceed the limit",

@@ -1,4 +1,4 @@
-//! Eager and the short query, compared with document 01.
+//! Eager and the short query, compared with document 01, and eager's visits with Ask 4 of document 02.
 
 mod common;
 
@@ -26,27 +26,31 @@ mod network_n {
         Eager::exact(&network_n(), &points, (q, k, limit), &mut Random::new(seed))
     }
 
-    fn assert_list(call: Eager, list: &[u32], count: u32) {
-        let outcome = call.accepted(list, count);
+    /// Sees that these are the list and the visits, and so many visits the count.
+    fn assert_list(call: Eager, list: &[u32], visits: &[u32]) {
+        let outcome = call.accepted(list, visits);
         assert_outcome(call, &outcome);
     }
 
     #[test]
-    fn the_lists_and_counts_of_p1_to_p5() {
+    fn the_lists_and_visits_of_p1_to_p5() {
         for limit in [4, 65_535, u32::MAX] {
-            assert_list(call(0, 1, limit), &[2], 1);
-            assert_list(call(0, 2, limit), &[2, 4], 4);
-            assert_list(call(1, 1, limit), &[2], 2);
-            assert_list(call(2, 1, limit), &[2, 4], 3);
-            assert_list(call(5, 1, limit), &[5], 1);
+            assert_list(call(0, 1, limit), &[2], &[0]);
+            assert_list(call(0, 2, limit), &[2, 4], &[0, 1, 3, 2]);
+            assert_list(call(1, 1, limit), &[2], &[1, 0]);
+            assert_list(call(2, 1, limit), &[2, 4], &[2, 1, 0]);
+            assert_list(call(5, 1, limit), &[5], &[5]);
         }
     }
 
+    /// P6, and another site for which nodes 0 and 4 are equally far, 7.
     #[test]
     fn without_points_all_nodes_reached_are_expanded() {
-        let mut call = call(0, 1, 5);
-        call.site.points = vec![0; 6];
-        assert_list(call, &[], 5);
+        for (q, visits) in [(0, [0, 1, 3, 2, 4]), (2, [2, 1, 0, 4, 3])] {
+            let mut call = call(q, 1, 5);
+            call.site.points = vec![0; 6];
+            assert_list(call, &[], &visits);
+        }
     }
 
     /// P7: with the road 2-4 of 6, point 4 is nearer to 2 than site 0 is.
@@ -55,14 +59,13 @@ mod network_n {
         let roads = [(0, 1, 4), (0, 3, 5), (1, 2, 3), (2, 4, 6), (3, 4, 3)];
         let mut call = call(0, 1, 65_535);
         call.site.network = OwnedNetwork::from_roads(N_NODES, &roads);
-        let expanded = call.site.expanded(&AllPairs::of(call.site.network.lend()));
-        assert_list(call, &[], expanded);
+        assert_list(call, &[], &[0]);
     }
 
     /// "Limit 4 answers P2, limit 3 refuses." Limit 0 always refuses, as q itself is expanded.
     #[test]
     fn the_limit_of_p2() {
-        assert_list(call(0, 2, 4), &[2, 4], 4);
+        assert_list(call(0, 2, 4), &[2, 4], &[0, 1, 3, 2]);
         for limit in 0..=3 {
             assert_refused(call(0, 2, limit), 12);
         }
@@ -88,6 +91,7 @@ mod network_n {
         assert_number(9, |c| c.site.k = 17);
         assert_number(9, |c| c.site.k = u32::MAX);
         assert_number(10, |c| c.site.answers = Lent::junk(5, &mut Random::new(0)));
+        assert_number(10, |c| c.visits = Lent::junk(5, &mut Random::new(0)));
         assert_number(12, |c| c.limit = 3);
     }
 
@@ -141,7 +145,7 @@ mod random {
     #[test]
     fn engine_and_plain_calculation_agree() {
         let numbers = [0, 1, 2, 3, 4, 5, 6, 7, 9, 10, 12];
-        let names = [&Site::TALLIED[..], &["a limit of just the count"]].concat();
+        let names = [&Site::TALLIED[..], &Eager::TALLIED].concat();
         assert_random_calls::<Eager>(&numbers, &names).assert_each_k(LEAST_OF_EACH);
     }
 
@@ -190,20 +194,26 @@ mod limits {
         network: &OwnedNetwork,
         points: &[u8],
         asked: Asked,
-        (list, count): (&[u32], u32),
+        (list, visits): (&[u32], &[u32]),
     ) {
         let call = Eager::exact(network, points, asked, &mut Random::new(6));
-        let outcome = call.accepted(list, count);
+        let outcome = call.accepted(list, visits);
         assert_outcome(call, &outcome);
     }
 
-    /// Points at each thousandth node. The expanded nodes reach halfway to the points beside q.
+    /// Points at each thousandth node. The expanded nodes reach halfway to the points beside q, from
+    /// 32,384 to 32,883, and those on both sides of q are equally far.
     #[test]
     fn the_middle_of_the_longest_chain() {
         let network = longest_chain();
         let points = each(1_000);
         let q = MOST_NODES / 2;
-        assert_list(&network, &points, (q, 1, 500), (&[32_000, 33_000], 500));
+        let mut visits = vec![q];
+        visits.extend((1..=383).flat_map(|far| [q - far, q + far]));
+        visits.retain(|&m| m <= 32_883);
+        assert_eq!(visits.len(), 500);
+        let listed = (&[32_000, 33_000][..], &visits[..]);
+        assert_list(&network, &points, (q, 1, 500), listed);
         let call = Eager::exact(&network, &points, (q, 1, 499), &mut Random::new(7));
         assert_refused(call, 12);
     }
@@ -214,7 +224,7 @@ mod limits {
         let centre = 7;
         let network = largest_star(centre);
         let points = marks(MOST_NODES, &[0, centre, LAST]);
-        assert_list(&network, &points, (LAST, 1, 1), (&[centre, LAST], 1));
+        assert_list(&network, &points, (LAST, 1, 1), (&[centre, LAST], &[LAST]));
         let call = Eager::exact(&network, &points, (LAST, 1, 0), &mut Random::new(7));
         assert_refused(call, 12);
     }
@@ -224,9 +234,9 @@ mod limits {
         let network = OwnedNetwork::from_roads(1, &[]);
         for k in [1, 16] {
             for lockers in 1..=15 {
-                assert_list(&network, &[lockers], (0, k, 1), (&[0], 1));
+                assert_list(&network, &[lockers], (0, k, 1), (&[0], &[0]));
             }
-            assert_list(&network, &[0], (0, k, 1), (&[], 1));
+            assert_list(&network, &[0], (0, k, 1), (&[], &[0]));
         }
     }
 
@@ -241,17 +251,17 @@ mod limits {
         );
     }
 
-    /// Sees that the list and the count are what the nearest points of each node say, for each q
+    /// Sees that the list and the visits are what the nearest points of each node say, for each q
     /// and k.
     fn assert_lists(network: &OwnedNetwork, points: &[u8], asked: &[(u32, u32)]) {
         let most = asked.iter().map(|&(_, k)| k as usize + 1).max().unwrap();
         let nearest = NearestRows::of(network.lend(), points, most);
         for &(q, k) in asked {
             let from_q = relaxed_row(network.lend(), q);
-            let list = nearest.listed(&from_q, k);
-            let count = nearest.expanded(&from_q, k);
+            let (list, visits) = (nearest.listed(&from_q, k), nearest.visits(&from_q, k));
+            let count = visits.len() as u32;
             assert!(list.len() > 1);
-            assert_list(network, points, (q, k, count), (&list, count));
+            assert_list(network, points, (q, k, count), (&list, &visits));
             let asked = (q, k, count - 1);
             let call = Eager::exact(network, points, asked, &mut Random::new(8));
             assert_refused(call, 12);

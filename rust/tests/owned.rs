@@ -15,7 +15,7 @@ use common::shapes::{belt, grid, random_network, weight_by_product, weighted};
 use common::table::PlainTable;
 use common::table_damage;
 use overlap::calls::{self, eager_scratch_len, scratch_len};
-use overlap::{Engine, Network, Points, Refusal, Table, NONE};
+use overlap::{Engine, Expansion, Network, Points, Refusal, Table, NONE};
 
 /// The network of these arrays.
 fn accepted(arrays: &OwnedNetwork) -> Result<Network, Refusal> {
@@ -25,6 +25,15 @@ fn accepted(arrays: &OwnedNetwork) -> Result<Network, Refusal> {
         weights,
     } = arrays.clone();
     Network::new(starts, neighbours, weights)
+}
+
+/// The answer of eager that has this list and these visits.
+fn expansion<'a>(points: &'a [u32], visits: &'a [u32]) -> Expansion<'a> {
+    Expansion {
+        points,
+        expanded: visits.len() as u32,
+        visits,
+    }
 }
 
 fn n_and_points() -> (Network, Points) {
@@ -41,15 +50,16 @@ mod network_n {
     fn p1_to_p5() {
         let (network, points) = n_and_points();
         let mut engine = Engine::new(&network);
-        for (q, k, list, expanded) in [
-            (0, 1, &[2][..], 1),
-            (0, 2, &[2, 4], 4),
-            (1, 1, &[2], 2),
-            (2, 1, &[2, 4], 3),
-            (5, 1, &[5], 1),
+        for (q, k, list, visits) in [
+            (0, 1, &[2][..], &[0][..]),
+            (0, 2, &[2, 4], &[0, 1, 3, 2]),
+            (1, 1, &[2], &[1, 0]),
+            (2, 1, &[2, 4], &[2, 1, 0]),
+            (5, 1, &[5], &[5]),
         ] {
-            let listed = engine.eager(&points, q, k, expanded).unwrap();
-            assert_eq!((listed.points, listed.expanded), (list, expanded));
+            let expansion = expansion(list, visits);
+            let expanded = expansion.expanded;
+            assert_eq!(engine.eager(&points, q, k, expanded), Ok(expansion));
             assert_eq!(engine.lazy(&points, q, k), Ok(list));
             assert_eq!(engine.lazy_ep(&points, q, k), Ok(list));
             let refusal = engine.eager(&points, q, k, expanded - 1);
@@ -62,11 +72,11 @@ mod network_n {
     #[test]
     fn p6_without_points() {
         let (network, _) = n_and_points();
-        let mut engine = Engine::new(&network);
-        let listed = engine
-            .eager(&Points::none(&network), 0, 1, u32::MAX)
-            .unwrap();
-        assert_eq!((listed.points, listed.expanded), (&[][..], 5));
+        let (mut engine, none) = (Engine::new(&network), Points::none(&network));
+        for (q, visits) in [(0, [0, 1, 3, 2, 4]), (2, [2, 1, 0, 4, 3])] {
+            let is = engine.eager(&none, q, 1, u32::MAX);
+            assert_eq!(is, Ok(expansion(&[], &visits)));
+        }
     }
 
     #[test]
@@ -331,25 +341,37 @@ mod engine {
         (number, answers, listing.count)
     }
 
+    /// Compares eager with this list and these visits, and with its thin call.
+    fn assert_eager(
+        engine: &mut Engine,
+        points: &Points,
+        (q, k): (u32, u32),
+        list: &[u32],
+        visits: &[u32],
+    ) {
+        let (network, marks) = (engine.network().clone(), points.marks());
+        let count = visits.len() as u32;
+        let is = engine.eager(points, q, k, count);
+        assert_eq!(is, Ok(expansion(list, visits)));
+        let mut visited = vec![7; marks.len()];
+        let by_call = thin(&network, network.eager_scratch_len(), |s, a| {
+            calls::eager(network.lend(), marks, q, k, count, s, a, &mut visited)
+        });
+        assert_eq!(by_call, (Ok(()), list.to_vec(), count));
+        assert_eq!(visited[..visits.len()], *visits);
+        let refusal = engine.eager(points, q, k, count - 1);
+        assert_eq!(refusal, Err(Refusal::Limit));
+    }
+
     /// Compares each search with the plain calculation and with its thin call.
     fn assert_searches(engine: &mut Engine, pairs: &AllPairs, points: &Points, q: u32, k: u32) {
         let (network, marks) = (engine.network().clone(), points.marks());
         let lent = network.lend();
         let list = pairs.plain_listed(marks, q, k);
-        let expanded = pairs.plain_expanded(marks, q, k);
+        let visits = pairs.plain_visits(marks, q, k);
+        assert_eager(engine, points, (q, k), &list, &visits);
 
-        let listed = engine.eager(points, q, k, expanded).unwrap();
-        assert_eq!((listed.points, listed.expanded), (&list[..], expanded));
         let (small, by_s) = (network.eager_scratch_len(), network.scratch_len(k));
-        let by_call = thin(&network, small, |s, a| {
-            calls::eager(lent, marks, q, k, expanded, s, a)
-        });
-        assert_eq!(by_call, (Ok(()), list.clone(), expanded));
-        if expanded > 0 {
-            let refusal = engine.eager(points, q, k, expanded - 1);
-            assert_eq!(refusal, Err(Refusal::Limit));
-        }
-
         assert_eq!(engine.lazy(points, q, k), Ok(&list[..]));
         let by_call = thin(&network, by_s, |s, a| calls::lazy(lent, marks, q, k, s, a));
         assert_eq!(by_call, (Ok(()), list.clone(), 0));
@@ -454,12 +476,13 @@ mod engine {
         });
     }
 
-    /// Sees that the engine has allocated so many words of scratch, which is all that it shows of
-    /// them.
-    fn assert_scratch(engine: &Engine, words: usize) {
+    /// Sees that the engine has allocated so many words of scratch and so many for visits, which is
+    /// all that it shows of them.
+    fn assert_buffers(engine: &Engine, words: usize, visits: usize) {
         let shown = format!("{engine:?}");
-        let lengths = format!("Buffers {{ scratch_len: {words}, answers_len: 6 }}");
-        assert!(shown.contains(&lengths), "{shown}");
+        let lengths = format!("scratch_len: {words}, answers_len: 6, visits_len: {visits}");
+        let buffers = format!("Buffers {{ {lengths} }}");
+        assert!(shown.contains(&buffers), "{shown}");
     }
 
     /// Scratch can be millions of words.
@@ -468,7 +491,7 @@ mod engine {
         let (network, points) = n_and_points();
         let mut engine = Engine::new(&network);
         engine.lazy(&points, 0, 16).unwrap();
-        assert_scratch(&engine, 2_144);
+        assert_buffers(&engine, 2_144, 0);
     }
 
     /// "Eager, verify and the short query shall work with 12 × n entries for every k."
@@ -481,7 +504,7 @@ mod engine {
             engine.eager(&points, 0, k, 6).unwrap();
             engine.verify(&points, 2, 0, k).unwrap();
             engine.short_query(&points, 0).unwrap();
-            assert_scratch(&engine, small);
+            assert_buffers(&engine, small, 6);
         }
         for call in [
             |e: &mut Engine, p: &Points| e.lazy(p, 0, 16).map(|_| ()),
@@ -490,10 +513,11 @@ mod engine {
         ] {
             let mut engine = engine.clone();
             assert_eq!(call(&mut engine, &points), Ok(()));
-            assert_scratch(&engine, by_s);
+            assert_buffers(&engine, by_s, 0);
             // What is there already serves them too.
-            assert_eq!(engine.eager(&points, 0, 2, 6).unwrap().points, [2, 4]);
-            assert_scratch(&engine, by_s);
+            let is = engine.eager(&points, 0, 2, 6);
+            assert_eq!(is, Ok(expansion(&[2, 4], &[0, 1, 3, 2])));
+            assert_buffers(&engine, by_s, 6);
         }
     }
 
@@ -703,8 +727,8 @@ mod refusals {
         }
     }
 
-    /// The column "Condition" of document 01's table of refusals, 10 with the length of Ask 5, 6 and
-    /// 11 with the bounds of Ask 8.
+    /// The column "Condition" of document 01's table of refusals, 10 with the length of Ask 5 and the
+    /// array of Ask 4, 6 and 11 with the bounds of Ask 8.
     #[test]
     fn have_the_wording_of_document_01() {
         let conditions = [
@@ -717,7 +741,7 @@ mod refusals {
             "a node given is n or more",
             "K not 2 to 17, or a table array not n × K long",
             "k is 0 or above 16; by table, above K - 1",
-            "scratch shorter than S (eager, verify and the short query: than 12 × n), or an array for answers shorter than n (nearest: than k)",
+            "scratch shorter than S (eager, verify and the short query: than 12 × n), or an array for answers (eager: or the visits) shorter than n (nearest: than k)",
             "insert at 15 lockers; remove or verify at none",
             "eager: the expanded count would exceed the limit",
         ];

@@ -19,15 +19,15 @@ use overlap::calls::{Listing, Network, Update, Verdict, NONE};
 mod cases {
     use super::*;
 
-    /// A case: q, k, the list and the expanded count.
-    type Case = (u32, u32, &'static [u32], u32);
+    /// A case: q, k, the list, the expanded count and the visits.
+    type Case = (u32, u32, &'static [u32], u32, &'static [u32]);
 
     const P1_TO_P5: [Case; 5] = [
-        (0, 1, &[2], 1),
-        (0, 2, &[2, 4], 4),
-        (1, 1, &[2], 2),
-        (2, 1, &[2, 4], 3),
-        (5, 1, &[5], 1),
+        (0, 1, &[2], 1, &[0]),
+        (0, 2, &[2, 4], 4, &[0, 1, 3, 2]),
+        (1, 1, &[2], 2, &[1, 0]),
+        (2, 1, &[2, 4], 3, &[2, 1, 0]),
+        (5, 1, &[5], 1, &[5]),
     ];
 
     fn pairs_of_n() -> AllPairs {
@@ -37,9 +37,10 @@ mod cases {
     #[test]
     fn p1_to_p5() {
         let (pairs, points) = (pairs_of_n(), marks(N_NODES, &N_POINTS));
-        for (q, k, listed, expanded) in P1_TO_P5 {
+        for (q, k, listed, expanded, visits) in P1_TO_P5 {
             assert_eq!(pairs.plain_listed(&points, q, k), listed);
             assert_eq!(pairs.plain_expanded(&points, q, k), expanded);
+            assert_eq!(pairs.plain_visits(&points, q, k), visits);
         }
     }
 
@@ -48,6 +49,9 @@ mod cases {
         let (pairs, points) = (pairs_of_n(), marks(N_NODES, &[]));
         assert!(pairs.plain_listed(&points, 0, 1).is_empty());
         assert_eq!(pairs.plain_expanded(&points, 0, 1), 5);
+        assert_eq!(pairs.plain_visits(&points, 0, 1), [0, 1, 3, 2, 4]);
+        // Nodes 0 and 4 are both 7 from node 2.
+        assert_eq!(pairs.plain_visits(&points, 2, 1), [2, 1, 0, 4, 3]);
     }
 
     #[test]
@@ -136,9 +140,10 @@ mod lockers {
         assert!(several >= 400, "{several}");
     }
 
-    /// "[...] the expanded count now count lockers".
+    /// "[...] the expanded count now count lockers". Ask 4: "the nodes that its count counts, by
+    /// distance from the site and then by node".
     #[test]
-    fn give_the_counts() {
+    fn give_the_counts_and_visits() {
         try_random(|pairs, points, q, k| {
             let is_counted = |&m: &u32| {
                 let far = pairs.plain_distances(m);
@@ -147,8 +152,13 @@ mod lockers {
                 let nearer = lockers.filter(|&p| far[p as usize] < to_q).count();
                 to_q != NONE && nearer < k as usize
             };
-            let count = (0..points.len() as u32).filter(is_counted).count();
-            assert_eq!(pairs.plain_expanded(points, q, k), count as u32);
+            let counted: Vec<u32> = (0..points.len() as u32).filter(is_counted).collect();
+            assert_eq!(pairs.plain_expanded(points, q, k), counted.len() as u32);
+            let (far, mut visits) = (pairs.plain_distances(q), pairs.plain_visits(points, q, k));
+            let place = |m: u32| (far[m as usize], m);
+            assert!(visits.windows(2).all(|two| place(two[0]) < place(two[1])));
+            visits.sort_unstable();
+            assert_eq!(visits, counted);
         });
     }
 
@@ -205,8 +215,8 @@ mod nearest_rows {
             let q = some_node(&network, &mut random);
             let list = nearest.listed(pairs.row(q), k);
             assert_eq!(list, pairs.plain_listed(&points, q, k), "{network:?}");
-            let count = nearest.expanded(pairs.row(q), k);
-            assert_eq!(count, pairs.plain_expanded(&points, q, k), "{network:?}");
+            let visits = nearest.visits(pairs.row(q), k);
+            assert_eq!(visits, pairs.plain_visits(&points, q, k), "{network:?}");
         }
     }
 }

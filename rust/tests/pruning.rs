@@ -5,34 +5,40 @@ mod common;
 #[path = "../benches/plain/mod.rs"]
 mod plain;
 
+use common::call::Call;
+use common::eager::Eager;
 use common::largest::{each, largest_grid, MOST_NODES};
+use common::lent::Lent;
 use common::network::{marks, OwnedNetwork};
 use common::random::Random;
 use common::shapes::{chain, figure_12, random_network, weight_by_product, weighted};
-use common::site::{SearchCall, Site, EAGER};
-use overlap::calls::{lazy, lazy_ep, Listing};
+use common::site::{SearchCall, Site};
+use overlap::calls::{eager, lazy, lazy_ep, Listing};
 
 /// A twin that also says how many nodes it settled.
 type CountingCall = SearchCall<(Listing, usize)>;
 
-/// The twin of eager, with a limit that is never met.
-const PLAIN_EAGER: SearchCall = |n, points, q, k, s, a| plain::eager(n, points, q, k, 65_535, s, a);
-
 /// Sees that engine and twin return the same and leave the same, eager in scratch of its own length.
 fn assert_same(site: &Site) {
-    let for_eager = site.for_eager(&mut Random::new(4));
-    let pairs: [(&Site, SearchCall, SearchCall); 3] = [
-        (&for_eager, EAGER, PLAIN_EAGER),
-        (site, lazy, plain::lazy),
-        (site, lazy_ep, plain::lazy_ep),
-    ];
-    for (site, engine, twin) in pairs {
+    let pairs: [(SearchCall, SearchCall); 2] = [(lazy, plain::lazy), (lazy_ep, plain::lazy_ep)];
+    for (engine, twin) in pairs {
         let [mut is, mut wanted] = [site.clone(), site.clone()];
         let listing = is.run(engine);
         assert_eq!((listing.number, listing), (0, wanted.run(twin)));
-        for ((name, is), (_, wanted)) in is.arrays().into_iter().zip(wanted.arrays()) {
-            assert_eq!(is.difference(wanted), None, "{name}");
-        }
+        assert_left(is.arrays(), wanted.arrays());
+    }
+    let random = &mut Random::new(4);
+    let mut is = Eager::of(site.for_eager(random), 65_535, random);
+    let mut wanted = is.clone();
+    let listing = is.run_by(eager);
+    assert_eq!((listing.number, listing), (0, wanted.run_by(plain::eager)));
+    assert_left(is.arrays(), wanted.arrays());
+}
+
+/// Sees that a call leaves what another leaves.
+fn assert_left(is: Vec<(&str, &Lent)>, wanted: Vec<(&str, &Lent)>) {
+    for ((name, is), (_, wanted)) in is.into_iter().zip(wanted) {
+        assert_eq!(is.difference(wanted), None, "{name}");
     }
 }
 

@@ -59,16 +59,36 @@ mod samples {
         assert_eq!(output, (0, expected, String::new()));
     }
 
-    /// The line of a site.
-    fn site_line(pairs: &AllPairs, points: &Points, q: u32, k: u32) -> String {
-        let list = pairs.plain_listed(points.marks(), q, k);
-        let texts: Vec<String> = list.iter().map(u32::to_string).collect();
-        let list = match texts.is_empty() {
+    /// The visits of network N for k = 1, by hand, come between the lists and the table.
+    #[test]
+    fn network_n_with_visits() {
+        let visits = "\nsite   visits for k = 1\n\
+            0      0\n1      1, 0\n2      2, 1, 0\n3      3, 0\n4      4, 3\n5      5\n";
+        let without = include_str!("../examples/data/n.expected");
+        let expected = without.replace("\ntable", &format!("{visits}\ntable"));
+        let output = run_sample("n", &["--visits"]);
+        assert_eq!(output, (0, expected, String::new()));
+    }
+
+    fn shown(nodes: &[u32]) -> String {
+        let texts: Vec<String> = nodes.iter().map(u32::to_string).collect();
+        match texts.is_empty() {
             true => "none".to_string(),
             false => texts.join(", "),
-        };
+        }
+    }
+
+    /// The line of a site.
+    fn site_line(pairs: &AllPairs, points: &Points, q: u32, k: u32) -> String {
+        let list = shown(&pairs.plain_listed(points.marks(), q, k));
         let expanded = pairs.plain_expanded(points.marks(), q, k);
         format!("{q:<6} {expanded:<10} {list}\n")
+    }
+
+    /// The line of a site's visits.
+    fn visits_line(pairs: &AllPairs, points: &Points, q: u32, k: u32) -> String {
+        let visits = shown(&pairs.plain_visits(points.marks(), q, k));
+        format!("{q:<6} {visits}\n")
     }
 
     /// The lines of the table.
@@ -83,6 +103,8 @@ mod samples {
         format!("\ntable with K = {places}\n{rows}farthest    {farthest}\ncheck       yes\n")
     }
 
+    type Line = fn(&AllPairs, &Points, u32, u32) -> String;
+
     /// All sites and all k, by the plain all-pairs calculation.
     #[test]
     fn all_lines_are_those_of_the_plain_calculation() {
@@ -91,14 +113,25 @@ mod samples {
             let network = read_network(&read("roads")).unwrap();
             let points = read_points(&read("points"), &network).unwrap();
             let pairs = AllPairs::of(network.lend());
-            for k in 1..=16 {
-                let (status, out, _) = run_sample(name, &["--k", &k.to_string()]);
-                assert_eq!(status, 0);
+            let lines = |k, line: Line| -> String {
                 let sites = 0..network.nodes();
-                let lines: String = sites.map(|q| site_line(&pairs, &points, q, k)).collect();
+                sites.map(|q| line(&pairs, &points, q, k)).collect()
+            };
+            for k in 1..=16 {
                 let heading = format!("\nsite   expanded   list for k = {k}\n");
-                let expected = heading + &lines + &table_lines(&pairs, &points, k + 1);
-                assert!(out.ends_with(&expected), "{name}, k {k}: {out}");
+                let lists = heading + &lines(k, site_line);
+                let heading = format!("\nsite   visits for k = {k}\n");
+                let visits = heading + &lines(k, visits_line);
+                let table = table_lines(&pairs, &points, k + 1);
+                let assert_end = |options: &[&str], expected: String| {
+                    let (status, out, _) = run_sample(name, options);
+                    assert_eq!(status, 0);
+                    assert!(out.ends_with(&expected), "{name}, k {k}: {out}");
+                };
+                let text = k.to_string();
+                assert_end(&["--k", &text], format!("{lists}{table}"));
+                let with_visits = format!("{lists}{visits}{table}");
+                assert_end(&["--visits", "--k", &text], with_visits);
             }
         }
     }
@@ -108,6 +141,9 @@ mod samples {
         let (status, out, _) = run_sample("n", &["--site", "5", "--site", "0"]);
         assert_eq!(status, 0);
         assert!(out.contains("list for k = 1\n5      1          5\n0      1          2\n\ntable"));
+        let (status, out, _) = run_sample("n", &["--site", "4", "--visits", "--site", "2"]);
+        assert_eq!(status, 0);
+        assert!(out.contains("visits for k = 1\n4      4, 3\n2      2, 1, 0\n\ntable"));
     }
 }
 
@@ -183,7 +219,7 @@ mod messages {
 
     #[test]
     fn explain_the_command_line() {
-        let usage = "usage: roads ROADS POINTS [--site q].. [--k k] [--K K]";
+        let usage = "usage: roads ROADS POINTS [--site q].. [--k k] [--K K] [--visits]";
         let assert_usage = |arguments: &[&str], message: &str| {
             assert_message(arguments, 2, &format!("{message}\n{usage}"));
         };
@@ -196,6 +232,8 @@ mod messages {
         }
         assert_usage(&["a", "b", "-k", "2"], "no option -k");
         assert_usage(&["a", "b", "--sites", "2"], "no option --sites");
+        assert_usage(&["a", "b", "--visit"], "no option --visit");
+        assert_usage(&["a", "b", "--visits", "2"], "two files are needed");
         for help in ["--help", "-h"] {
             let (status, out, err) = run(&[help]);
             assert_eq!((status, err), (0, String::new()));

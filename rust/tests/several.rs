@@ -64,7 +64,7 @@ mod numbers {
             distances: &mut distances,
         };
         let nearest = calls::nearest(lent, points, 0, NONE, 2, s, found).number;
-        let eager = calls::eager(lent, points, 0, 2, 6, &mut s[..small], a).number;
+        let eager = calls::eager(lent, points, 0, 2, 6, &mut s[..small], a, &mut [0; 6]).number;
         let short_query = calls::short_query(lent, points, 0, &mut s[..small], a).number;
         let lazy = calls::lazy(lent, points, 0, 2, s, a).number;
         let lazy_ep = calls::lazy_ep(lent, points, 0, 2, s, a).number;
@@ -210,10 +210,12 @@ mod verify {
 mod searches {
     use super::*;
 
-    fn assert_list(lockers: [u8; 6], (q, k): (u32, u32), list: &[u32], expanded: u32) {
+    fn assert_list(lockers: [u8; 6], (q, k): (u32, u32), list: &[u32], visits: &[u32]) {
         let (mut engine, points) = n_with(lockers);
-        let listed = engine.eager(&points, q, k, expanded).unwrap();
-        assert_eq!((listed.points, listed.expanded), (list, expanded));
+        let expanded = visits.len() as u32;
+        let expansion = engine.eager(&points, q, k, expanded).unwrap();
+        assert_eq!((expansion.points, expansion.expanded), (list, expanded));
+        assert_eq!(expansion.visits, visits);
         let beyond = engine.eager(&points, q, k, expanded - 1);
         assert_eq!(beyond, Err(Refusal::Limit));
         assert_eq!(engine.lazy(&points, q, k), Ok(list));
@@ -230,31 +232,31 @@ mod searches {
     /// P1 with a second locker on 2, which beats the site: 2 is no longer listed.
     #[test]
     fn a_companion_beats_the_site() {
-        assert_list([0, 0, 1, 0, 1, 1], (0, 1), &[2], 1);
-        assert_list(TWO_ON_2, (0, 1), &[], 1);
+        assert_list([0, 0, 1, 0, 1, 1], (0, 1), &[2], &[0]);
+        assert_list(TWO_ON_2, (0, 1), &[], &[0]);
     }
 
     /// P2 with a second locker on 2: 2 has its companion, 4 has both. Nodes 0 and 3 are expanded, as
     /// 1 and 2 have both lockers of 2 nearer than q, and 4 has them and its own.
     #[test]
     fn lockers_count_one_by_one() {
-        assert_list([0, 0, 1, 0, 1, 1], (0, 2), &[2, 4], 4);
-        assert_list(TWO_ON_2, (0, 2), &[2], 2);
-        assert_list(TWO_ON_2, (0, 3), &[2, 4], 4);
+        assert_list([0, 0, 1, 0, 1, 1], (0, 2), &[2, 4], &[0, 1, 3, 2]);
+        assert_list(TWO_ON_2, (0, 2), &[2], &[0, 3]);
+        assert_list(TWO_ON_2, (0, 3), &[2, 4], &[0, 1, 3, 2]);
     }
 
     /// P4 with a second locker on 2, where the site is: both are listed, as one node.
     #[test]
     fn the_lockers_on_q_are_listed_once() {
-        assert_list(TWO_ON_2, (2, 1), &[2, 4], 3);
-        assert_list([0, 0, 15, 0, 1, 1], (2, 1), &[2, 4], 3);
+        assert_list(TWO_ON_2, (2, 1), &[2, 4], &[2, 1, 0]);
+        assert_list([0, 0, 15, 0, 1, 1], (2, 1), &[2, 4], &[2, 1, 0]);
     }
 
     /// P5 with 15 lockers on the node that is alone.
     #[test]
     fn a_node_alone() {
         for k in [1, 14, 15, 16] {
-            assert_list([0, 0, 0, 0, 0, 15], (5, k), &[5], 1);
+            assert_list([0, 0, 0, 0, 0, 15], (5, k), &[5], &[5]);
         }
     }
 }
@@ -368,9 +370,10 @@ mod two_nodes {
             let mut engine = Engine::new(network);
             for (q, k) in (0..2).flat_map(|q| (1..=16).map(move |k| (q, k))) {
                 let list = pairs.plain_listed(&marks, q, k);
-                let expanded = pairs.plain_expanded(&marks, q, k);
+                let visits = pairs.plain_visits(&marks, q, k);
+                let expanded = visits.len() as u32;
                 let listed = engine.eager(&points, q, k, expanded).unwrap();
-                assert_eq!((listed.points, listed.expanded), (&list[..], expanded));
+                assert_eq!((listed.points, listed.visits), (&list[..], &visits[..]));
                 assert_eq!(engine.lazy(&points, q, k), Ok(&list[..]));
                 assert_eq!(engine.lazy_ep(&points, q, k), Ok(&list[..]));
                 for p in points.iter() {

@@ -52,10 +52,11 @@ impl Town {
     /// Eager with a limit that the count keeps, often just so, and with one that it exceeds.
     fn try_eager(&self, points: &[u8], (q, k): (u32, u32), random: &mut Random) {
         let list = self.pairs.plain_listed(points, q, k);
-        let count = self.pairs.plain_expanded(points, q, k);
+        let visits = self.pairs.plain_visits(points, q, k);
+        let count = visits.len() as u32;
         let kept = random.pick(&[count, count, count + 1, 65_535, u32::MAX]);
         let call = Eager::exact(&self.network, points, (q, k, kept), random);
-        self.try_call(call, random, |c| c.accepted(&list, count));
+        self.try_call(call, random, |c| c.accepted(&list, &visits));
         let exceeded = random.pick(&[count - 1, count - 1, count / 2, 0]);
         let call = Eager::exact(&self.network, points, (q, k, exceeded), random);
         self.try_call(call, random, |c| c.refused(12));
@@ -155,7 +156,7 @@ mod few_nodes {
             let list = &[0][..usize::from(lockers.min(1))];
             for k in 1..=16 {
                 let call = Eager::exact(&town.network, &[lockers], (0, k, 1), &mut random);
-                town.try_call(call, &mut random, |c| c.accepted(list, 1));
+                town.try_call(call, &mut random, |c| c.accepted(list, &[0]));
                 town.try_site(&[lockers], (0, k), &mut random);
             }
         }
@@ -172,15 +173,16 @@ mod fifteen_lockers_on_one_of_two_nodes {
         Town::of(OwnedNetwork::from_roads(2, &[(0, 1, 4)]))
     }
 
-    /// Sees that by hand and by the plain calculation it is this list and this count, and verify
+    /// Sees that by hand and by the plain calculation it is this list and these visits, and verify
     /// says yes of node 1 where it is listed.
-    fn assert_site((q, k): (u32, u32), list: &[u32], count: u32) {
+    fn assert_site((q, k): (u32, u32), list: &[u32], visits: &[u32]) {
         let (town, mut random) = (town(), Random::new(u64::from(k)));
         assert_eq!(town.pairs.plain_listed(&POINTS, q, k), list);
-        assert_eq!(town.pairs.plain_expanded(&POINTS, q, k), count);
+        assert_eq!(town.pairs.plain_visits(&POINTS, q, k), visits);
+        let count = visits.len() as u32;
         for limit in [count, 65_535, u32::MAX] {
             let call = Eager::exact(&town.network, &POINTS, (q, k, limit), &mut random);
-            town.try_call(call, &mut random, |c| c.accepted(list, count));
+            town.try_call(call, &mut random, |c| c.accepted(list, visits));
         }
         for limit in 0..count {
             let call = Eager::exact(&town.network, &POINTS, (q, k, limit), &mut random);
@@ -197,13 +199,13 @@ mod fifteen_lockers_on_one_of_two_nodes {
     /// From site 0, each locker has 14 companions nearer, and node 1 has 15 points nearer.
     #[test]
     fn k_of_3_from_the_other_node() {
-        assert_site((0, 3), &[], 1);
+        assert_site((0, 3), &[], &[0]);
     }
 
     /// From site 1, no locker has another nearer, and node 0 has all 15 as far as the site.
     #[test]
     fn k_of_3_from_the_node_itself() {
-        assert_site((1, 3), &[1], 2);
+        assert_site((1, 3), &[1], &[1, 0]);
     }
 
     #[test]
@@ -211,9 +213,9 @@ mod fifteen_lockers_on_one_of_two_nodes {
         for k in 1..=16 {
             // Fewer than k of the 14 companions; fewer than k of the 15 points.
             let list: &[u32] = if k >= 15 { &[1] } else { &[] };
-            let count = if k == 16 { 2 } else { 1 };
-            assert_site((0, k), list, count);
-            assert_site((1, k), &[1], 2);
+            let visits: &[u32] = if k == 16 { &[0, 1] } else { &[0] };
+            assert_site((0, k), list, visits);
+            assert_site((1, k), &[1], &[1, 0]);
         }
     }
 }
@@ -336,11 +338,11 @@ mod limits {
         ] {
             let nearest = NearestRows::of(network.lend(), &points, k as usize + 1);
             let from_q = relaxed_row(network.lend(), q);
-            let list = nearest.listed(&from_q, k);
-            let count = nearest.expanded(&from_q, k);
+            let (list, visits) = (nearest.listed(&from_q, k), nearest.visits(&from_q, k));
+            let count = visits.len() as u32;
             assert!(!list.is_empty() && count > 1);
             let call = Eager::exact(&network, &points, (q, k, count), &mut random);
-            assert_scratch_lengths(&call, &mut random, |c| c.accepted(&list, count));
+            assert_scratch_lengths(&call, &mut random, |c| c.accepted(&list, &visits));
             let call = Eager::exact(&network, &points, (q, k, count - 1), &mut random);
             assert_scratch_lengths(&call, &mut random, |c| c.refused(12));
             if k == 1 {
@@ -406,16 +408,19 @@ mod agreement {
             let town = Town::of(random_network(&mut random));
             let mut site = Site::random_eager(&town.network, &mut random);
             let (q, k) = (site.q, site.k);
-            let (list, count) = (site.list(&town.pairs), site.expanded(&town.pairs));
+            let (list, visits) = (site.list(&town.pairs), site.visits(&town.pairs));
             let (network, points) = (town.network.lend(), &site.points);
             let (scratch, answers) = (site.scratch.part_mut(), site.answers.part_mut());
+            let (count, mut visited) = (visits.len() as u32, vec![0; points.len()]);
             for limit in [count - 1, count, 0, u32::MAX] {
-                let listing = eager(network, points, q, k, limit, scratch, answers);
+                let v = &mut visited;
+                let listing = eager(network, points, q, k, limit, scratch, answers, v);
                 if limit < count {
                     assert_eq!(listing, Listing::refusal(12));
                 } else {
                     assert_eq!((listing.number, listing.count), (0, count));
                     assert_eq!(answers[..listing.length], list);
+                    assert_eq!(visited[..visits.len()], visits);
                 }
                 for p in (0..town.nodes()).filter(|&p| points[p as usize] > 0) {
                     let verdict = verify(network, points, p, q, k, scratch);

@@ -7,14 +7,15 @@ use std::fs;
 use std::io::{self, Write};
 use std::path::{Path, PathBuf};
 
-const USAGE: &str = "usage: roads ROADS POINTS [--site q].. [--k k] [--K K]";
+const USAGE: &str = "usage: roads ROADS POINTS [--site q].. [--k k] [--K K] [--visits]";
 
 const HELP: &str = "
 ROADS    a file of one road a line: a b weight
 POINTS   a file of one locker a line: its junction, which comes up to 15 times
 --site   a site to ask about; without it, every junction is asked about
 --k      the k of the lists, 1 to 16; 1 unless it is given
---K      the places of a row of the table, above k and at most 17; k + 1 unless it is given";
+--K      the places of a row of the table, above k and at most 17; k + 1 unless it is given
+--visits also prints the junctions that eager expands for a site, by distance and then by number";
 
 /// What the command line asks for.
 struct Asked {
@@ -23,6 +24,7 @@ struct Asked {
     sites: Vec<u32>,
     k: u32,
     places: u32,
+    visits: bool,
 }
 
 /// A message for the user.
@@ -50,7 +52,7 @@ pub fn run(arguments: &[OsString], out: &mut impl Write, err: &mut impl Write) -
 
 fn asked(arguments: &[OsString]) -> Result<Asked, Message> {
     let (mut files, mut sites) = (Vec::new(), Vec::new());
-    let (mut k, mut places) = (1, None);
+    let (mut k, mut places, mut visits) = (1, None, false);
     let mut words = arguments.iter();
     while let Some(word) = words.next() {
         let text = word.to_string_lossy();
@@ -59,6 +61,7 @@ fn asked(arguments: &[OsString]) -> Result<Asked, Message> {
             "--site" => sites.push(number()?),
             "--k" => k = number()?,
             "--K" => places = Some(number()?),
+            "--visits" => visits = true,
             option if option.starts_with('-') => return Err(format!("no option {option}")),
             _ => files.push(PathBuf::from(word)),
         }
@@ -71,6 +74,7 @@ fn asked(arguments: &[OsString]) -> Result<Asked, Message> {
         k,
         // Where k is not 1 to 16, that is what the refusal shall name.
         places: places.unwrap_or(k.clamp(1, 16) + 1),
+        visits,
     })
 }
 
@@ -91,6 +95,9 @@ fn report(asked: &Asked, out: &mut impl Write) -> Result<(), Message> {
     let mut table = table.map_err(|refusal| format!("K = {}: {refusal}", asked.places))?;
     print_network(&table, out).map_err(unwritten)?;
     print_lists(asked, &mut table, out)?;
+    if asked.visits {
+        print_visits(asked, &table, out)?;
+    }
     print_table(&table, out).map_err(unwritten)
 }
 
@@ -125,34 +132,53 @@ fn point_text(points: &Points, node: u32) -> String {
     }
 }
 
-/// Prints a line for each site.
+/// Prints for each site its list, by the table, and the count of nodes that eager expands for it.
 fn print_lists(asked: &Asked, table: &mut Table, out: &mut impl Write) -> Result<(), Message> {
-    let network = table.network().clone();
-    let all: Vec<u32> = (0..network.nodes()).collect();
+    let (nodes, k) = (table.network().nodes(), asked.k);
+    let mut engine = Engine::new(table.network());
+    let heading = format!("site   expanded   list for k = {k}");
+    print_sites(asked, nodes, &heading, out, |q| {
+        let list = shown(table.query(q, k)?.iter().map(u32::to_string));
+        let expanded = engine.eager(table.points(), q, k, u32::MAX)?.expanded;
+        Ok(format!("{q:<6} {expanded:<10} {list}"))
+    })
+}
+
+/// Prints for each site the nodes that eager expands, in the order in which it visits them.
+fn print_visits(asked: &Asked, table: &Table, out: &mut impl Write) -> Result<(), Message> {
+    let (nodes, k) = (table.network().nodes(), asked.k);
+    let mut engine = Engine::new(table.network());
+    let heading = format!("site   visits for k = {k}");
+    print_sites(asked, nodes, &heading, out, |q| {
+        let expansion = engine.eager(table.points(), q, k, u32::MAX)?;
+        let visits = shown(expansion.visits.iter().map(u32::to_string));
+        Ok(format!("{q:<6} {visits}"))
+    })
+}
+
+/// Prints a heading, and behind it the line of each site.
+fn print_sites(
+    asked: &Asked,
+    nodes: u32,
+    heading: &str,
+    out: &mut impl Write,
+    mut line_of: impl FnMut(u32) -> Result<String, Refusal>,
+) -> Result<(), Message> {
+    let all: Vec<u32> = (0..nodes).collect();
     let sites = if asked.sites.is_empty() {
         &all
     } else {
         &asked.sites
     };
-    let mut engine = Engine::new(&network);
-    let heading = format!("\nsite   expanded   list for k = {}", asked.k);
-    writeln!(out, "{heading}").map_err(unwritten)?;
+    writeln!(out, "\n{heading}").map_err(unwritten)?;
     for &site in sites {
-        let line = site_line(site, asked.k, table, &mut engine);
-        let line = line.map_err(|refusal| match refusal {
+        let line = line_of(site).map_err(|refusal| match refusal {
             Refusal::K => format!("k = {}, K = {}: {refusal}", asked.k, asked.places),
             _ => format!("site {site}: {refusal}"),
         })?;
         writeln!(out, "{line}").map_err(unwritten)?;
     }
     Ok(())
-}
-
-/// The list of a site, by the table, and the count of nodes that eager expands for it.
-fn site_line(q: u32, k: u32, table: &mut Table, engine: &mut Engine) -> Result<String, Refusal> {
-    let list = shown(table.query(q, k)?.iter().map(u32::to_string));
-    let expanded = engine.eager(table.points(), q, k, u32::MAX)?.expanded;
-    Ok(format!("{q:<6} {expanded:<10} {list}"))
 }
 
 /// Prints what the table holds: how full its rows are, and how far the farthest point in it is.

@@ -9,11 +9,15 @@ use super::{ffi, Listing, Network};
 /// Document 02 (Ask 8): "A node is listed once, as its lockers fare alike." Each locker of a node
 /// is a point that counts.
 ///
+/// Document 02 (Ask 4): "Map editors step through an expansion and want the same steps on both
+/// machines. Eager also lists the nodes that its count counts, by distance from the site and then by
+/// node". They stand in the first `count` entries of `visits`, and the site comes first.
+///
 /// The answer is number 0, the length of the list and the count, or the first condition met of 1 to
 /// 7, 9, 10 and 12. Document 02 (Ask 5): "Eager, verify and the short query shall work with 12 × n
 /// entries for every k." So scratch has at least
 /// [`eager_scratch_len`](super::eager_scratch_len)`(network)` entries of any contents, and `answers`
-/// at least n.
+/// at least n. So has `visits`: "10 if the new list's array is shorter than n."
 ///
 /// "Lists are ascending by node." "An accepted call with scratch leaves it all zero. Answer arrays
 /// hold the answer, then their old entries." "A refusal returns its number, count 0 and no, and
@@ -31,18 +35,28 @@ use super::{ffi, Listing, Network};
 /// };
 /// let points = [0, 0, 1, 0, 1, 1];
 /// let mut scratch = vec![0; eager_scratch_len(network)];
-/// let mut answers = [0; 6];
+/// let (mut answers, mut visits) = ([0; 6], [0; 6]);
 ///
-/// let listing = eager(network, &points, 0, 2, 4, &mut scratch, &mut answers).accepted()?;
-/// assert_eq!(answers[..listing.length], [2, 4]);
-/// assert_eq!(listing.count, 4);
+/// // P2. From node 0 it is 4 to node 1, 5 to node 3 and 7 to node 2.
+/// let (s, a, v) = (&mut scratch[..], &mut answers[..], &mut visits[..]);
+/// let listing = eager(network, &points, 0, 2, 4, s, a, v).accepted()?;
+/// assert_eq!(a[..listing.length], [2, 4]);
+/// assert_eq!(v[..listing.count as usize], [0, 1, 3, 2]);
 ///
 /// // Four nodes are expanded, which is above 3.
-/// let listing = eager(network, &points, 0, 2, 3, &mut scratch, &mut answers);
+/// let listing = eager(network, &points, 0, 2, 3, s, a, v);
 /// assert_eq!((listing.number, listing.count), (12, 0));
+///
+/// // Without points all that can be reached is expanded. Nodes 0 and 4 are both 7 from node 2.
+/// let listing = eager(network, &[0; 6], 2, 1, 6, s, a, v).accepted()?;
+/// assert_eq!(v[..listing.count as usize], [2, 1, 0, 4, 3]);
+///
+/// // Five places for visits are fewer than n.
+/// assert_eq!(eager(network, &points, 0, 2, 4, s, a, &mut v[..5]).number, 10);
 /// # Ok(())
 /// # }
 /// ```
+#[allow(clippy::too_many_arguments)] // They are those of `overlap_eager`.
 pub fn eager(
     network: Network<'_>,
     points: &[u8],
@@ -51,8 +65,9 @@ pub fn eager(
     limit: u32,
     scratch: &mut [u32],
     answers: &mut [u32],
+    visits: &mut [u32],
 ) -> Listing {
-    // SAFETY: each pointer and length are those of one slice, lent for the whole call; the two that
+    // SAFETY: each pointer and length are those of one slice, lent for the whole call; those that
     // the call writes are lent to it alone. It touches no word outside the slices. An empty slice
     // has a pointer that is not null.
     unsafe {
@@ -72,14 +87,17 @@ pub fn eager(
             scratch.len(),
             answers.as_mut_ptr(),
             answers.len(),
+            visits.as_mut_ptr(),
+            visits.len(),
         )
     }
 }
 
 /// Document 01: "The short query: no k and no limit; eager with k = 1 and limit 65,535."
 ///
-/// The answer and all that the call leaves are those of [`eager`], in as much scratch; no condition 9
-/// or 12 can be met.
+/// The answer and all that the call leaves are those of [`eager`], in as much scratch, but for the
+/// visits. Document 02 (Ask 4): "Eager also lists the nodes that its count counts, [...]; the short
+/// query doesn't." No condition 9 or 12 can be met.
 ///
 /// ```
 /// use overlap::calls::{eager_scratch_len, short_query, Network};

@@ -180,7 +180,7 @@ extern "C" {
         scratch_len: usize,
     ) -> Verdict;
 
-    /// Writes `scratch` and `answers`.
+    /// Writes `scratch`, `answers` and `visits`.
     pub(crate) fn overlap_eager(
         starts: *const u32,
         starts_len: usize,
@@ -197,6 +197,8 @@ extern "C" {
         scratch_len: usize,
         answers: *mut u32,
         answers_len: usize,
+        visits: *mut u32,
+        visits_len: usize,
     ) -> Listing;
 
     /// Writes `scratch` and `answers`.

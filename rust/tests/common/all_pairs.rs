@@ -1,7 +1,7 @@
 //! All distances of a small network, by a plain all-pairs calculation in 64-bit numbers, and what
 //! document 01 says by them.
 
-use super::rows::{distances_in, expanded_in, nearest_in, verify_in, Near, Row};
+use super::rows::{distances_in, expanded_in, in_order, nearest_in, verify_in, Near, Row};
 use overlap::calls::Network;
 
 /// The row of each node.
@@ -56,8 +56,13 @@ impl AllPairs {
     /// "the number of nodes m that can be reached from q and have fewer than k points p (one on m
     /// included) with d(m, p) < d(m, q)".
     pub fn plain_expanded(&self, points: &[u8], q: u32, k: u32) -> u32 {
+        self.plain_visits(points, q, k).len() as u32
+    }
+
+    /// Ask 4: "the nodes that its count counts, by distance from the site and then by node".
+    pub fn plain_visits(&self, points: &[u8], q: u32, k: u32) -> Vec<u32> {
         let is_counted = |&m: &u32| expanded_in(self.row(m), points, q, k);
-        self.nodes().filter(is_counted).count() as u32
+        in_order(self.row(q), self.nodes().filter(is_counted))
     }
 
     fn nodes(&self) -> std::ops::Range<u32> {

@@ -1,7 +1,7 @@
 //! The nearest points of each node of a network that may be too large for all pairs, and the lists
-//! and counts of document 01 by them.
+//! of document 01 and the visits of Ask 4 by them.
 
-use super::rows::Row;
+use super::rows::{in_order, Row};
 use overlap::calls::Network;
 use std::cmp::Reverse;
 use std::collections::BinaryHeap;
@@ -83,13 +83,14 @@ impl NearestRows {
         self.nodes().filter(is_listed).collect()
     }
 
-    /// "the number of nodes m that can be reached from q and have fewer than k points p (one on m
-    /// included) with d(m, p) < d(m, q)".
-    pub fn expanded(&self, from_q: &Row, k: u32) -> u32 {
+    /// Ask 4: "the nodes that its count counts, by distance from the site and then by node", the
+    /// nodes m "that can be reached from q and have fewer than k points p (one on m included) with
+    /// d(m, p) < d(m, q)".
+    pub fn visits(&self, from_q: &Row, k: u32) -> Vec<u32> {
         assert!(self.most >= k as usize);
         let is_counted =
             |&m: &u32| from_q[m as usize].is_some_and(|to_q| self.nearer(m, to_q) < k as usize);
-        self.nodes().filter(is_counted).count() as u32
+        in_order(from_q, self.nodes().filter(is_counted))
     }
 
     /// How many lockers of the node's row are nearer than the bound.

@@ -78,6 +78,13 @@ pub fn expanded_in(row: &Row, points: &[u8], q: u32, k: u32) -> bool {
     lockers_nearer(row, points, to_q) < k as usize
 }
 
+/// The row is that of the site: these nodes "by distance from the site and then by node".
+pub fn in_order(row: &Row, nodes: impl Iterator<Item = u32>) -> Vec<u32> {
+    let mut visits: Vec<_> = nodes.map(|m| (row[m as usize], m)).collect();
+    visits.sort_unstable();
+    visits.into_iter().map(|(_, m)| m).collect()
+}
+
 /// How many lockers have a distance strictly below the bound.
 fn lockers_nearer(row: &Row, points: &[u8], bound: u64) -> usize {
     let nodes = nearer_nodes(row, points, bound);

@@ -13,8 +13,11 @@ use overlap::calls::{eager, Listing, Network};
 pub type SearchCall<Answer = Listing> =
     fn(Network<'_>, &[u8], u32, u32, &mut [u32], &mut [u32]) -> Answer;
 
-/// Eager with a limit that is never met.
-pub const EAGER: SearchCall = |n, points, q, k, s, a| eager(n, points, q, k, 65_535, s, a);
+/// Eager with a limit that is never met and visits that nobody reads.
+pub const EAGER: SearchCall = |n, points, q, k, s, a| {
+    let mut visits = vec![0; points.len()];
+    eager(n, points, q, k, 65_535, s, a, &mut visits)
+};
 
 #[derive(Clone)]
 pub struct Site {
@@ -135,10 +138,18 @@ impl Site {
         pairs.plain_expanded(&self.points, self.q, self.k)
     }
 
+    pub fn visits(&self, pairs: &AllPairs) -> Vec<u32> {
+        pairs.plain_visits(&self.points, self.q, self.k)
+    }
+
+    /// n of any arrays.
+    pub fn nodes(&self) -> usize {
+        self.network.starts.len().saturating_sub(1)
+    }
+
     /// 10: "an array for answers shorter than n".
     pub fn shorten_answers(&mut self, random: &mut Random) {
-        let n = self.network.starts.len().saturating_sub(1);
-        self.answers = Lent::junk(too_short(n, random), random);
+        self.answers = Lent::junk(too_short(self.nodes(), random), random);
     }
 
     pub fn arrays(&self) -> Vec<(&'static str, &Lent)> {
