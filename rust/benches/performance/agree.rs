@@ -9,10 +9,10 @@ use super::common::random::Random;
 use super::common::shapes::random_network;
 use super::common::table::PlainTable;
 use super::common::table_damage;
-use super::lent::{Lent, Written};
+use super::lent::{Lent, Written, OLD};
 
-/// How many words of scratch a call is lent beyond those that it asks for: mostly none, at times a few,
-/// and at times it is one too few.
+/// How many words of scratch, and eager of visits, a call is lent beyond those that it asks for: mostly
+/// none, at times a few, and at times it is one too few.
 const MORE: [isize; 8] = [0, 0, 0, 0, 0, 8, 8, -1];
 /// An m above every call's, so that there are these words.
 const MOST_M: u32 = 18;
@@ -37,6 +37,8 @@ pub fn try_small_networks(networks: u64) -> (usize, usize) {
 /// Tries every call, and the table check on a damaged table as well.
 fn try_calls(network: &OwnedNetwork, points: &[u8], random: &mut Random) -> Vec<Answer> {
     let mut lent = Lent::built(network.lend(), points, some_places(random), MOST_M);
+    let visits = points.len().saturating_add_signed(random.pick(&MORE));
+    lent.written.visits.resize(visits, OLD);
     let before = lent.written.clone();
     let mut answers = Vec::new();
     for call in calls::ALL {

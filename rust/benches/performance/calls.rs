@@ -1,6 +1,7 @@
 //! Every call in one form, by the engine and by plain Rust.
 
 use super::common::change::ChangeCall;
+use super::common::eager::EagerCall;
 use super::common::site::SearchCall;
 use super::lent::{Lent, Scratch};
 use super::plain;
@@ -9,13 +10,15 @@ use overlap::calls::{eager_scratch_len, Found, Listing, Network, Table, TableMut
 /// The functions of the engine, their twins in plain Rust, or those of another build.
 #[allow(clippy::type_complexity)] // each type is used once, and a field reads as its function does
 pub struct Functions {
-    /// The words of scratch that eager, verify and the short query ask for with this k.
-    pub eager_scratch: fn(Network<'_>, u32) -> usize,
+    /// The words of scratch that eager, verify and the short query ask for.
+    pub eager_scratch: fn(Network<'_>) -> usize,
     pub network_check: fn(Network<'_>) -> u32,
     pub distances: fn(Network<'_>, u32, &mut [u32], &mut [u32]) -> u32,
     pub nearest: fn(Network<'_>, &[u8], u32, u32, u32, &mut [u32], Found<'_>) -> Listing,
     pub verify: fn(Network<'_>, &[u8], u32, u32, u32, &mut [u32]) -> Verdict,
-    pub eager: fn(Network<'_>, &[u8], u32, u32, u32, &mut [u32], &mut [u32]) -> Listing,
+    pub eager: EagerCall,
+    /// Whether eager lists its visits. A build before Ask 4 lists none.
+    pub lists_visits: bool,
     pub short_query: fn(Network<'_>, &[u8], u32, &mut [u32], &mut [u32]) -> Listing,
     pub lazy: SearchCall,
     pub lazy_ep: SearchCall,
@@ -27,12 +30,13 @@ pub struct Functions {
 }
 
 pub const ENGINE: Functions = Functions {
-    eager_scratch: |network, _| eager_scratch_len(network),
+    eager_scratch: eager_scratch_len,
     network_check: overlap::calls::network_check,
     distances: overlap::calls::distances,
     nearest: overlap::calls::nearest,
     verify: overlap::calls::verify,
     eager: overlap::calls::eager,
+    lists_visits: true,
     short_query: overlap::calls::short_query,
     lazy: overlap::calls::lazy,
     lazy_ep: overlap::calls::lazy_ep,
@@ -50,6 +54,7 @@ pub const PLAIN: Functions = Functions {
     nearest: plain::nearest,
     verify: plain::verify,
     eager: plain::eager,
+    lists_visits: true,
     short_query: plain::short_query,
     lazy: plain::lazy,
     lazy_ep: plain::lazy_ep,
@@ -112,7 +117,7 @@ pub const NEAREST: Call = call("nearest", |by, lent, Query { site, k, .. }| {
 
 pub const VERIFY: Call = call("verify", |by, lent, query| {
     let (network, points) = (lent.network, &lent.written.points);
-    let scratch = eager_scratch(by, network, query.k, &mut lent.scratch);
+    let scratch = eager_scratch(by, network, &mut lent.scratch);
     of_verdict((by.verify)(
         network,
         points,
@@ -125,7 +130,7 @@ pub const VERIFY: Call = call("verify", |by, lent, query| {
 
 pub const EAGER: Call = call("eager", |by, lent, query| {
     let (network, w) = (lent.network, &mut lent.written);
-    let scratch = eager_scratch(by, network, query.k, &mut lent.scratch);
+    let scratch = eager_scratch(by, network, &mut lent.scratch);
     let (q, k, limit) = (query.site, query.k, query.limit);
     of_listing((by.eager)(
         network,
@@ -135,12 +140,13 @@ pub const EAGER: Call = call("eager", |by, lent, query| {
         limit,
         scratch,
         &mut w.answers,
+        &mut w.visits,
     ))
 });
 
 pub const SHORT_QUERY: Call = call("short query", |by, lent, query| {
     let (network, w) = (lent.network, &mut lent.written);
-    let scratch = eager_scratch(by, network, 1, &mut lent.scratch);
+    let scratch = eager_scratch(by, network, &mut lent.scratch);
     of_listing((by.short_query)(
         network,
         &w.points,
@@ -221,10 +227,9 @@ pub const BY_K: [Call; 6] = [NEAREST, VERIFY, EAGER, LAZY, LAZY_EP, TABLE_QUERY]
 fn eager_scratch<'a>(
     by: &Functions,
     network: Network<'_>,
-    k: u32,
     scratch: &'a mut Scratch,
 ) -> &'a mut [u32] {
-    scratch.of_length((by.eager_scratch)(network, k))
+    scratch.of_length((by.eager_scratch)(network))
 }
 
 fn search(search: SearchCall, lent: &mut Lent<'_>, query: Query) -> Answer {

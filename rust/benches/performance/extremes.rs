@@ -18,11 +18,11 @@ pub type Range = RangeInclusive<usize>;
 pub fn reach(subject: &Subject, k: u32) -> [Range; 3] {
     let (network, points) = (subject.network.lend(), &subject.points);
     let mut scratch = vec![0; scratch_len(network, k as usize)];
-    let mut answers = vec![0; points.len()];
+    let (mut answers, mut visits) = (vec![0; points.len()], vec![0; points.len()]);
     let mut counts = [vec![], vec![], vec![]];
     for Query { site, limit, .. } in subject.queries(k) {
         let (s, a) = (&mut scratch, &mut answers);
-        let listing = plain::eager(network, points, site, k, limit, s, a);
+        let listing = plain::eager(network, points, site, k, limit, s, a, &mut visits);
         counts[0].push(listing.count as usize);
         counts[1].push(plain::lazy_and_settled(network, points, site, k, s, a).1);
         counts[2].push(plain::lazy_ep_and_settled(network, points, site, k, s, a).1);

@@ -87,7 +87,8 @@ struct Timed<'a, 'b> {
 }
 
 /// Compares the outcomes of the first query whole, then times the queries in turn. Behind each pair
-/// of runs the answers and all arrays but scratch are compared. All calls are accepted.
+/// of runs the answers and all arrays but scratch are compared, visits where both list them. All calls
+/// are accepted.
 pub fn measure(
     call: Call,
     by: [&Functions; 2],
@@ -135,7 +136,8 @@ impl Timed<'_, '_> {
         let first_written = self.lent.written.clone();
         let (second_time, second_answer) = self.time(second, query);
         assert_eq!(first_answer, second_answer, "{}", self.call.name);
-        assert!(first_written == self.lent.written, "{}", self.call.name);
+        let is_same = first_written.is_same(&self.lent.written, self.by);
+        assert!(is_same, "{}", self.call.name);
         match engine_first {
             true => (first_time, second_time),
             false => (second_time, first_time),

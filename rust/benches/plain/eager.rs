@@ -1,7 +1,8 @@
-//! Eager (000, Fig. 4), with one area for all inner expansions.
+//! Eager (000, Fig. 4), with one area for all inner expansions, and the short query, which is eager
+//! without the copy of the visits.
 //!
-//! Words of scratch: verified flags n, found flags n, n that stay zero, found nodes n, inner area 4 × n,
-//! outer area 4 × n.
+//! Words of scratch: verified flags n, found flags n, visits n, found nodes n, inner area 4 × n, outer
+//! area 4 × n.
 
 use super::area::Area;
 use super::nearest::find_nodes;
@@ -10,6 +11,7 @@ use super::site::{listed, refused, Lent, Site};
 use overlap::calls::{Listing, Network};
 
 #[inline(never)]
+#[allow(clippy::too_many_arguments)] // They are those of the engine's call.
 pub fn eager(
     network: Network<'_>,
     points: &[u8],
@@ -18,6 +20,7 @@ pub fn eager(
     limit: u32,
     scratch: &mut [u32],
     answers: &mut [u32],
+    visits: &mut [u32],
 ) -> Listing {
     let site = Site {
         network,
@@ -25,13 +28,15 @@ pub fn eager(
         q,
         k: k as usize,
     };
-    let lent = Lent { scratch, answers };
-    site.answer(lent, Site::eager_words, |words, answers| {
-        search(site, limit, words, answers)
+    let lists = [answers, visits];
+    let lent = Lent { scratch, lists };
+    site.answer(lent, Site::eager_words, |words, [answers, visits]| {
+        let copy = |kept: &[u32]| visits[..kept.len()].copy_from_slice(kept);
+        search(site, limit, words, answers, copy)
     })
 }
 
-/// Eager with k = 1 and limit 65,535.
+/// Eager with k = 1 and limit 65,535, without the visits.
 #[inline(never)]
 pub fn short_query(
     network: Network<'_>,
@@ -40,13 +45,31 @@ pub fn short_query(
     scratch: &mut [u32],
     answers: &mut [u32],
 ) -> Listing {
-    eager(network, points, q, 1, 65_535, scratch, answers)
+    let site = Site {
+        network,
+        points,
+        q,
+        k: 1,
+    };
+    let lists = [answers];
+    let lent = Lent { scratch, lists };
+    site.answer(lent, Site::eager_words, |words, [answers]| {
+        search(site, 65_535, words, answers, |_| ())
+    })
 }
 
-/// The words are all zero before and after.
-fn search(site: Site<'_>, limit: u32, words: &mut [u32], answers: &mut [u32]) -> Listing {
+/// Writes the list and hands out the visits, unless it is refused. The words are all zero before and
+/// after.
+fn search(
+    site: Site<'_>,
+    limit: u32,
+    words: &mut [u32],
+    answers: &mut [u32],
+    take_visits: impl FnOnce(&[u32]),
+) -> Listing {
     let n = site.points.len();
-    let (flags, rest) = words.split_at_mut(3 * n);
+    let (flags, rest) = words.split_at_mut(2 * n);
+    let (visits, rest) = rest.split_at_mut(n);
     let (nodes, areas) = rest.split_at_mut(n);
     let (inner, outer) = areas.split_at_mut(4 * n);
     flags[n + site.q as usize] = u32::from(site.points[site.q as usize] > 0);
@@ -56,18 +79,29 @@ fn search(site: Site<'_>, limit: u32, words: &mut [u32], answers: &mut [u32]) ->
         inner,
     };
     let mut area = Area::start(outer, site.network, site.q);
-    let listing = match explore(site, limit, &mut looks, &mut area) {
-        Some(count) => listed(&looks.flags[n..2 * n], answers, count),
+    let listing = match explore(site, limit, &mut looks, &mut area, visits) {
+        Some(count) => {
+            take_visits(&visits[..count as usize]);
+            listed(&looks.flags[n..], answers, count)
+        }
         None => refused(12),
     };
     area.clear();
     looks.flags.fill(0);
+    visits.fill(0);
     listing
 }
 
-/// Settles nodes by rising distance from the site, looks at each, and expands those with fewer than k
-/// lockers nearer than the site. Returns how many it expands, unless that is more than the limit.
-fn explore(site: Site<'_>, limit: u32, looks: &mut Looks<'_>, area: &mut Area<'_>) -> Option<u32> {
+/// Settles nodes by distance from the site and then by node, looks at each, and expands those with
+/// fewer than k lockers nearer than the site. These are the visits. Returns how many they are, unless
+/// that is more than the limit.
+fn explore(
+    site: Site<'_>,
+    limit: u32,
+    looks: &mut Looks<'_>,
+    area: &mut Area<'_>,
+    visits: &mut [u32],
+) -> Option<u32> {
     let mut count = 0;
     while let Some(entry) = area.next() {
         let lockers = looks.look(site, entry);
@@ -76,8 +110,9 @@ fn explore(site: Site<'_>, limit: u32, looks: &mut Looks<'_>, area: &mut Area<'_
         }
         area.settle(entry);
         if lockers < site.k {
-            count += 1;
             area.open(site.network, entry);
+            visits[count as usize] = entry.node() as u32;
+            count += 1;
         }
     }
     Some(count)

@@ -35,9 +35,10 @@ pub fn lazy_and_settled(
         q,
         k: k as usize,
     };
-    let lent = Lent { scratch, answers };
+    let lists = [answers];
+    let lent = Lent { scratch, lists };
     let mut settled = 0;
-    let listing = site.answer(lent, Site::s_words, |scratch, answers| {
+    let listing = site.answer(lent, Site::s_words, |scratch, [answers]| {
         let n = points.len();
         let words = &mut scratch[..10 * n];
         settled = search(site, words);

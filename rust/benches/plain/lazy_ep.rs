@@ -37,9 +37,10 @@ pub fn lazy_ep_and_settled(
         q,
         k: k as usize,
     };
-    let lent = Lent { scratch, answers };
+    let lists = [answers];
+    let lent = Lent { scratch, lists };
     let mut settled = 0;
-    let listing = site.answer(lent, Site::s_words, |scratch, answers| {
+    let listing = site.answer(lent, Site::s_words, |scratch, [answers]| {
         let (n, arcs) = site.sizes();
         let words = &mut scratch[..12 * n + 2 * site.k * (n + arcs)];
         settled = search(site, words);

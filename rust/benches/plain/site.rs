@@ -14,10 +14,10 @@ pub struct Site<'a> {
     pub k: usize,
 }
 
-/// The arrays that a search writes.
-pub struct Lent<'a> {
+/// The arrays that a search writes: scratch, and one for each of its lists.
+pub struct Lent<'a, const LISTS: usize> {
     pub scratch: &'a mut [u32],
-    pub answers: &'a mut [u32],
+    pub lists: [&'a mut [u32]; LISTS],
 }
 
 impl Site<'_> {
@@ -26,24 +26,24 @@ impl Site<'_> {
         (self.network.starts.len() - 1, self.network.neighbours.len())
     }
 
-    /// The checks, scratch against the least that the search asks for; then all of scratch is made
-    /// zero, and the search is handed it and the answers.
-    pub fn answer(
+    /// The checks, scratch against the least that the search asks for and each list against n; then
+    /// all of scratch is made zero, and the search is handed it and the lists.
+    pub fn answer<'a, const LISTS: usize>(
         self,
-        lent: Lent<'_>,
+        lent: Lent<'a, LISTS>,
         least: fn(Self) -> usize,
-        search: impl FnOnce(&mut [u32], &mut [u32]) -> Listing,
+        search: impl FnOnce(&'a mut [u32], [&'a mut [u32]; LISTS]) -> Listing,
     ) -> Listing {
-        let Lent { scratch, answers } = lent;
+        let Lent { scratch, lists } = lent;
         let mut number = self.number(scratch.len(), least);
-        if number == 0 && answers.len() < self.points.len() {
+        if number == 0 && lists.iter().any(|list| list.len() < self.points.len()) {
             number = 10;
         }
         if number != 0 {
             return refused(number);
         }
         scratch.fill(0);
-        search(scratch, answers)
+        search(scratch, lists)
     }
 
     /// S of a search, of nearest and of the table query.

@@ -1,13 +1,21 @@
 //! The calls of the other build, in the form of this one's. A request that changes a call's form
 //! says here how the other build is called.
+//!
+//! Ask 4 changes eager's. A build before it is lent no array for the visits and lists none: its number,
+//! list, count and scratch are compared with this one's, and the visits are not. This build is lent the
+//! array and timed with all that it does more: eager keeps the visits and copies them, the short query
+//! keeps them. A build since Ask 4, as this one is in a control, is lent the array too, and all is
+//! compared; `run` sees which form it has.
+//!
+//! Both are lent what they ask for, 12 × n words of scratch since Ask 5. A build before Ask 5 asks for
+//! more and is not called any more.
 
 use super::calls::Functions;
 use before::calls as old;
 use overlap::calls::{Listing, Network, Table, TableMut, Update, Verdict};
 
 pub const BEFORE: Functions = Functions {
-    // A build before Ask 5 asks for S; a later one takes it too, as 12 × n is never more.
-    eager_scratch: |n, k| old::scratch_len(network(n), k as usize),
+    eager_scratch: |n| old::eager_scratch_len(network(n)),
     network_check: |n| old::network_check(network(n)),
     distances: |n, node, s, a| old::distances(network(n), node, s, a),
     nearest: |n, points, node, e, k, s, found| {
@@ -18,9 +26,15 @@ pub const BEFORE: Functions = Functions {
         listing(old::nearest(network(n), points, node, e, k, s, found))
     },
     verify: |n, points, p, q, k, s| verdict(old::verify(network(n), points, p, q, k, s)),
-    eager: |n, points, q, k, limit, s, a| {
+    #[cfg(feature = "visits")]
+    eager: |n, points, q, k, limit, s, a, v| {
+        listing(old::eager(network(n), points, q, k, limit, s, a, v))
+    },
+    #[cfg(not(feature = "visits"))]
+    eager: |n, points, q, k, limit, s, a, _| {
         listing(old::eager(network(n), points, q, k, limit, s, a))
     },
+    lists_visits: cfg!(feature = "visits"),
     short_query: |n, points, q, s, a| listing(old::short_query(network(n), points, q, s, a)),
     lazy: |n, points, q, k, s, a| listing(old::lazy(network(n), points, q, k, s, a)),
     lazy_ep: |n, points, q, k, s, a| listing(old::lazy_ep(network(n), points, q, k, s, a)),

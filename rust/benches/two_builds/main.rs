@@ -1,6 +1,6 @@
 //! The time of every call, this tree's engine against another build of it, on the networks of
-//! docs/PERFORMANCE.md that have at most one locker to a node, as an older build refuses more. `run`
-//! beside this file says how it is used.
+//! docs/PERFORMANCE.md that have at most one locker to a node. `run` beside this file says how it is
+//! used.
 
 // The modules are the benchmark's and the tests'; a part of each is used here.
 mod before;
@@ -22,11 +22,10 @@ mod plain;
 mod roads;
 
 use before::BEFORE;
-use calls::{Call, Functions, Query, ENGINE};
+use calls::{Call, ENGINE};
 use lent::Lent;
 use measure::{measure, Budget};
 use networks::{limits, roads, streets, Subject};
-use overlap::calls::scratch_len;
 use std::time::Duration;
 
 const BUDGET: Budget = Budget {
@@ -35,44 +34,16 @@ const BUDGET: Budget = Budget {
     most_pairs: 256,
 };
 
-/// This build, lent S words for every call as the other one is: a call makes all that it is lent zero,
-/// so with less to clear it would be faster by that alone.
-const WITH_S: Functions = Functions {
-    eager_scratch: |network, k| scratch_len(network, k as usize),
-    ..ENGINE
-};
-
-/// The calls that ask for less than S since Ask 5. They are timed a second time, each build with what
-/// it asks for.
-const SMALLER: [Call; 3] = [calls::VERIFY, calls::EAGER, calls::SHORT_QUERY];
-
-/// Prints tables of these calls on a network, with k = 4 and a table of these places.
+/// Prints a table of these calls on a network, with k = 4 and a table of these places.
 fn print_times(subject: &Subject, calls: &[Call], places: u32) {
-    let title = format!("{}, K = {places}", subject.name);
+    println!(
+        "\n### {}, K = {places}\n\n| Call | Pairs | This build, ms | The other, ms | Ratio |\n|---|---|---|---|---|",
+        subject.name
+    );
     let queries = subject.queries(4);
     let mut lent = Lent::built(subject.network.lend(), &subject.points, places, places);
-    print_table(&title, calls, &WITH_S, &mut lent, &queries);
-    let is_smaller = |call: &Call| SMALLER.iter().any(|smaller| smaller.name == call.name);
-    let smaller: Vec<Call> = calls.iter().copied().filter(is_smaller).collect();
-    if !smaller.is_empty() {
-        let title = format!("{title}, this build with 12 × n words of scratch");
-        print_table(&title, &smaller, &ENGINE, &mut lent, &queries);
-    }
-}
-
-/// Prints a table of these calls by this build, with the one or the other scratch.
-fn print_table(
-    title: &str,
-    calls: &[Call],
-    this: &Functions,
-    lent: &mut Lent<'_>,
-    queries: &[Query],
-) {
-    println!(
-        "\n### {title}\n\n| Call | Pairs | This build, ms | The other, ms | Ratio |\n|---|---|---|---|---|"
-    );
     for &call in calls {
-        let pairs = measure(call, [this, &BEFORE], lent, queries, BUDGET);
+        let pairs = measure(call, [&ENGINE, &BEFORE], &mut lent, &queries, BUDGET);
         print!("{}", pairs.row(call.name, 3));
     }
 }
