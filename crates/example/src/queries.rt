@@ -97,5 +97,6 @@ pub fn show_verify() {
     show_verdict(4, 0, 1);
     show_verdict(4, 0, 2);
     show_verdict(5, 0, 2);
+    show_verdict(2, 2, 1);
     put(b"\n");
 }

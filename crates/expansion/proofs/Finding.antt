@@ -14,7 +14,7 @@ use Rattle.network.specs.Network.{Network, nodeCount, neighboursOf}
 use Rattle.network.specs.Accepted.{Accepted}
 use Rattle.network.specs.Distance.{NONE, dist}
 use Rattle.network.specs.Points.{lockers}
-use Rattle.network.specs.Nearest.{nearest, before}
+use Rattle.network.specs.Nearest.{nearest}
 use Rattle.network.proofs.Counts.{member-at}
 use Rattle.expansion.specs.Area.{LabelAt, Kept, Blank, Wiped, Moved, Took, Followed}
 use Rattle.expansion.specs.Found.{tallied, Noted, FoundIn, FindLeft, NodesLeft}
@@ -202,7 +202,7 @@ module _ {g : Network} (ok : Accepted g) {P : List ℕ} {s e k b found tally : �
     moved : Moved (nodeCount g) xs ys b
     moved = took-moved ok (p .area) (p .searched) t
 
-    -- the laws of the turns, where every node is seen
+    -- a law of the turns, where every node is seen
     earlier : (x : ℕ) → dist g s x ≢ NONE → (dist g s x < l) ⊎ ((dist g s x ≡ l) × (x < v)) → LabelAt (nodeCount g) xs b x (dist g s x)
     earlier x n h = turn-earlier ok (all-leads ok s) (λ x q. tt) p (w .turn) t x tt n h
 

@@ -1,7 +1,7 @@
 -- Verify counts the other lockers that an expansion from p settles: those at a label below the present one, and those at it. When an entry of
 -- label l is taken, every node nearer than l is settled, so the count below l is the rule's count of other lockers nearer than l.
 -- Assumes nothing.
-use Prim.Native.Nat.{ℕ, zero, suc, _+_, _-_, _≤_, _<_}
+use Prim.Native.Nat.{ℕ, suc, _+_, _-_, _≤_, _<_}
 use mathlib.Core.Path.{_≡_, refl, sym, ap, _∙_}
 use mathlib.Core.Bool.{Bool, true, false, not, _&&_}
 use mathlib.Core.Logic.{_≢_, _⊎_, ⊎-elim}
@@ -69,19 +69,25 @@ nearer-none g P p =
     others-are g P p 0
     ∙ sum-none (λ x. ltb (dist g p x) 0) (othersAt P p) (nodeCount g) (λ x i t. absurd (omega (arith, ltb-true (dist g p x) 0 t)))
 
--- the rule: q can't be reached; k other points are nearer; fewer are
+-- the rule: q can't be reached; k other points are nearer; fewer are, and p is not on q; it is
 not-reached : (g : Network) (P : List ℕ) (p q k : ℕ) → dist g p q ≡ NONE → false ≡ verified g P p q k
 unfolding verified
-not-reached g P p q k e = rw (eq-eqb (dist g p q) NONE e)
+not-reached g P p q k e = rw (eq-eqb (dist g p q) NONE e) (sym (and-right (not (eqb p q)) false refl))
 
-pub too-many : (g : Network) (P : List ℕ) (p q k : ℕ) → k ≤ othersNearer g P p (dist g p q) → false ≡ verified g P p q k
+too-many : (g : Network) (P : List ℕ) (p q k : ℕ) → k ≤ othersNearer g P p (dist g p q) → false ≡ verified g P p q k
 unfolding verified
 too-many g P p q k h =
-    sym (and-right (not (eqb (dist g p q) NONE)) (ltb (othersNearer g P p (dist g p q)) k) (le-ltb (othersNearer g P p (dist g p q)) k h))
+    sym
+    (and-right (not (eqb p q)) _
+    (and-right (not (eqb (dist g p q) NONE)) (ltb (othersNearer g P p (dist g p q)) k) (le-ltb (othersNearer g P p (dist g p q)) k h)))
 
-few-enough : (g : Network) (P : List ℕ) (p q k : ℕ) → dist g p q ≢ NONE → othersNearer g P p (dist g p q) < k → true ≡ verified g P p q k
+few-enough : (g : Network) (P : List ℕ) (p q k : ℕ) → p ≢ q → dist g p q ≢ NONE → othersNearer g P p (dist g p q) < k → true ≡ verified g P p q k
 unfolding verified
-few-enough g P p q k n h = rw (ne-eqb (dist g p q) NONE n, lt-ltb (othersNearer g P p (dist g p q)) k h)
+few-enough g P p q k m n h = rw (ne-eqb p q m, ne-eqb (dist g p q) NONE n, lt-ltb (othersNearer g P p (dist g p q)) k h)
+
+pub on-site : (g : Network) (P : List ℕ) (p q k : ℕ) → p ≡ q → false ≡ verified g P p q k
+unfolding verified
+on-site g P p q k e = rw (eq-eqb p q e)
 
 -- ---- The count under way.
 
@@ -310,16 +316,17 @@ module _ {g : Network} (ok : Accepted g) {p : ℕ} {xs ys : List ℕ} {b settled
             | no n ↦ omega arith
           ]
 
-  answer-few : {P : List ℕ} {q below level : ℕ} (k : ℕ) → Counted g P p q ys b l below level → v ≡ q → below < k → true ≡ verified g P p q k
-  answer-few {P} {q} k c y h =
+  answer-few : {P : List ℕ} {q below level : ℕ} (k : ℕ) → p ≢ q → Counted g P p q ys b l below level → v ≡ q → below < k → true ≡ verified g P p q k
+  answer-few {P} {q} k n c y h =
       let d : l ≡ dist g p q = taken-exact ∙ ap (dist g p) y in
-      few-enough g P p q k (λ z. omega (arith, taken-small)) (omega (arith, c .nearer, ap (othersNearer g P p) d))
+      few-enough g P p q k n (λ z. omega (arith, taken-small)) (omega (arith, c .nearer, ap (othersNearer g P p) d))
 
-  pub answer-taken : {P : List ℕ} {q below level : ℕ} (k : ℕ) → Counted g P p q ys b l below level → (k ≤ below) ⊎ (v ≡ q) → ltb below k ≡ verified g P p q k
-  answer-taken {below} k c known =
+  pub answer-taken : {P : List ℕ} {q below level : ℕ} (k : ℕ) → p ≢ q → Counted g P p q ys b l below level → (k ≤ below) ⊎ (v ≡ q)
+      → ltb below k ≡ verified g P p q k
+  answer-taken {below = below} k n c known =
       elim (decLt below k) [
-        | yes h ↦ lt-ltb below k h ∙ ⊎-elim (λ y. absurd (omega arith)) (λ y. answer-few k c y h) known
-        | no n ↦ le-ltb below k (omega arith) ∙ answer-many k c (omega arith)
+        | yes h ↦ lt-ltb below k h ∙ ⊎-elim (λ y. absurd (omega arith)) (λ y. answer-few k n c y h) known
+        | no m ↦ le-ltb below k (omega arith) ∙ answer-many k c (omega arith)
       ]
 
 -- no entry is left: q can't be reached

@@ -1,5 +1,6 @@
 -- The tag of a search's entry: its node and its parent, the node whose arc led there, in one word. Both are below 65,536, so tags go by node and
--- then by parent. (The table's offers have a point in place of the node, and the node of the row in place of the parent.)
+-- then by parent. (The table's offers, and those of lazy-EP's second expansion, have a point in place of the node, and the node of the row in place of
+-- the parent.)
 -- Assumes nothing.
 use Prim.Native.Nat.{ℕ, _+_, _*_, _/_, _%_}
 

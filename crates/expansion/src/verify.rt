@@ -1,4 +1,5 @@
-// Verify: document 01, 'What a site receives': whether fewer than k other lockers are strictly nearer to p than q, and q can be reached.
+// Verify: document 01, 'What a site receives': whether fewer than k other lockers are strictly nearer to p than q, and q can be reached. 'Verify of the
+// point on q says no' (Ask 6).
 ghost use mathlib.Core.Path.{_≡_};
 ghost use Prim.Native.Nat.{_+_, _≤_, _<_};
 ghost use Rattle.network.specs.Network.{network};
@@ -51,7 +52,8 @@ fn counts(points: &[u8], p: u32, node: u32) -> usize
     all - 1
 }
 
-// Expands from p until it is known whether fewer than k other points are strictly nearer to p than q, and leaves what it settled.
+// Expands from p until it is known whether fewer than k other lockers are strictly nearer to p than q, and leaves what it settled. From q itself the
+// first node ends it.
 pub fn visit(
     starts: &[u32],
     neighbours: &[u32],
@@ -93,7 +95,7 @@ pub fn visit(
         tally = come_to(tally, label);
         if k <= tally.below || node == q {
             return Verdict {
-                yes: tally.below < k,
+                yes: p != q && tally.below < k,
                 settled,
                 len: left,
             };

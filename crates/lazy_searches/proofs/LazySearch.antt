@@ -18,6 +18,7 @@ use Rattle.network.specs.Accepted.{Accepted}
 use Rattle.network.specs.Distance.{NONE, dist}
 use Rattle.network.specs.Count.{select}
 use Rattle.network.proofs.Tests.{bool-cases}
+use Rattle.network.proofs.Counts.{select-same}
 use Rattle.network.proofs.Distances.{dist-symmetric}
 use Rattle.network.specs.Points.{lockers, marked, isListed, listed}
 use Rattle.expansion.specs.Queue.{keyOf}
@@ -39,7 +40,6 @@ use Rattle.searches.proofs.Listed.{listed-parts, lazy-open}
 use Rattle.searches.proofs.FlagLaws.{flag-right}
 use Rattle.network.proofs.Lends.{first-part}
 use Rattle.expansion.proofs.Stopping.{progress-stopped, took-beside}
-use Rattle.searches.proofs.Selected.{select-same}
 use Rattle.lazy_searches.proofs.Parents.{AllCame, came-start, came-beside, came-took, came-stopped, came-followed, parent-seen}
 
 -- a flagged node is listed, and a listed one of M is flagged

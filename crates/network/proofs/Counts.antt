@@ -92,6 +92,12 @@ without-not t a x h e = false≢true (sym (without-self t a) ∙ ap (without t a
 pub count-without : (t : ℕ → Bool) (a n : ℕ) → a < n → t a ≡ true → suc (count (without t a) n) ≡ count t n
 count-without t a n h f = sym (count-more (without t a) t a n h (without-self t a) f (λ x m. sym (without-other t a x m)))
 
+-- tests that agree below n select the same
+pub select-same : (t u : ℕ → Bool) (n : ℕ) → ((x : ℕ) → x < n → t x ≡ u x) → select t n ≡ select u n
+unfolding select
+select-same t u zero e = refl
+select-same t u (suc n) e = rw (select-same t u n (λ x l. e x (omega arith)), e n (omega arith))
+
 -- members of `select`
 pub selected : (t : ℕ → Bool) (n x : ℕ) → x < n → t x ≡ true → List·Memᴰ x (select t n)
 unfolding select

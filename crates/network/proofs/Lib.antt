@@ -21,5 +21,6 @@ pub mod Insert
 pub mod Rank
 pub mod Rows
 pub mod Visits
+pub mod OwnLockers
 pub mod Prefix
 pub mod Cases

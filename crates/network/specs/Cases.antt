@@ -60,12 +60,12 @@ pub record Cases : Type 0 where
   pub P3 : listed (roads 7) points 1 1 ≡ 2 ∷ []
   pub P3-expanded : expanded (roads 7) points 1 1 ≡ 2
   pub P3-visits : visits (roads 7) points 1 1 ≡ 1 ∷ 0 ∷ []
-  -- P4: q 2, k 1
-  pub P4 : listed (roads 7) points 2 1 ≡ 2 ∷ 4 ∷ []
+  -- P4: q 2, k 1; 'In P4 the list becomes 4, in P5 it becomes empty. Expanded counts are untouched' (Ask 6)
+  pub P4 : listed (roads 7) points 2 1 ≡ 4 ∷ []
   pub P4-expanded : expanded (roads 7) points 2 1 ≡ 3
   pub P4-visits : visits (roads 7) points 2 1 ≡ 2 ∷ 1 ∷ 0 ∷ []
   -- P5: q 5, k 1
-  pub P5 : listed (roads 7) points 5 1 ≡ 5 ∷ []
+  pub P5 : listed (roads 7) points 5 1 ≡ []
   pub P5-expanded : expanded (roads 7) points 5 1 ≡ 1
   pub P5-visits : visits (roads 7) points 5 1 ≡ 5 ∷ []
   -- P6: q 0, k 1, no points
@@ -116,8 +116,9 @@ pub record Cases : Type 0 where
   pub fifteen-k14 : listed (roads 7) fifteenAt4 3 14 ≡ []
   pub fifteen-k15 : listed (roads 7) fifteenAt4 3 15 ≡ 4 ∷ []
   pub fifteen-k16 : listed (roads 7) fifteenAt4 3 16 ≡ 2 ∷ 4 ∷ []
-  -- a point on q is listed, whatever its companions (before Ask 6)
-  pub fifteen-own : listed (roads 7) fifteenAt4 4 1 ≡ 2 ∷ 4 ∷ []
+  -- Ask 6: of several lockers on q none is listed, whatever k; from 2, those on 4 are no nearer than q
+  pub fifteen-on-q : listed (roads 7) fifteenAt4 4 1 ≡ 2 ∷ []
+  pub fifteen-on-q-k16 : listed (roads 7) fifteenAt4 4 16 ≡ 2 ∷ []
   pub fifteen-nearest : nearest (roads 7) fifteenAt4 3 10 16 ≡ replicate 15 (4, 3)
   pub fifteen-cut : nearest (roads 7) fifteenAt4 3 10 4 ≡ replicate 4 (4, 3)
   pub fifteen-row4 : row (roads 7) fifteenAt4 17 4 ≡ replicate 15 (4, 0) ++ (2, 7) ∷ (NONE, NONE) ∷ []

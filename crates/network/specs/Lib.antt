@@ -12,5 +12,6 @@ pub mod Nearest
 pub mod Visits
 pub mod Rows
 pub mod Single
+pub mod OwnLockers
 pub mod Answers
 pub mod Cases

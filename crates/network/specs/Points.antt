@@ -30,14 +30,15 @@ othersAt P p x = lockers P x - bit (eqb x p)
 unfoldable pub othersNearer : Network → List ℕ → ℕ → ℕ → ℕ
 othersNearer g P p e = sumOver (isNearer g P p e) (othersAt P p) (nodeCount g)
 
--- Verify: 'it can be reached from q and fewer than k other points p' have d(p, p') < d(p, q)'. Roads run both ways, so p can be reached from q
--- exactly if q can be from p (`dist-symmetric`).
+-- Verify: 'Verify of the point on q says no' (Ask 6), and else 'it can be reached from q and fewer than k other points p' have d(p, p') < d(p, q)'.
+-- Roads run both ways, so p can be reached from q exactly if q can be from p (`dist-symmetric`).
 unfoldable pub verified : Network → List ℕ → ℕ → ℕ → ℕ → Bool
 verified g P p q k =
     let d = dist g p q in
-    not (eqb d NONE) && ltb (othersNearer g P p d) k
+    not (eqb p q) && (not (eqb d NONE) && ltb (othersNearer g P p d) k)
 
--- 'For query node q and k, point p is listed if' so. 'Lists are ascending by node'; 'a node is listed once, as its lockers fare alike'.
+-- 'For query node q and k, point p is listed if' so: 'a point on q isn't listed' (Ask 6), nor one of several there. 'Lists are ascending by node'; 'a
+-- node is listed once, as its lockers fare alike'.
 unfoldable pub isListed : Network → List ℕ → ℕ → ℕ → ℕ → Bool
 isListed g P q k p = marked P p && verified g P p q k
 

@@ -34,8 +34,8 @@ use Rattle.overlap.specs.declared.updated.Kind.{Kind}
 use Rattle.overlap.specs.declared.updated.Kind.the-variants.{Insert, Remove}
 use Rattle.overlap.specs.Numbers.{firstNumber, badByteAt, pointsNumber, nodeNumber, kNumber, tableNumber, tableKNumber, scratchWords, shortNumber, networkPointsNumber, siteNumber, queryNumber, tableCheckNumber, tableNodeNumber, buildNumber, tableQueryNumber}
 use Rattle.overlap.specs.Listed.{searchNumber}
-use Rattle.overlap.specs.Eager.{limitedNumber, eagerNumber, limitedOutcome, eagerOutcome, shortOutcome}
-use Rattle.overlap.specs.Exported.{SearchExported, EagerExported}
+use Rattle.overlap.specs.Eager.{limitedNumber, eagerNumber, limitedOutcome, shortOutcome}
+use Rattle.overlap.specs.Exported.{SearchExported}
 use Rattle.overlap.specs.Build.{BuildOutcome, buildOutcome}
 use Rattle.overlap.specs.Updated.{kindMarks, kindNumber, changeNumber, Arrays, ChangeLeft}
 use Rattle.overlap.specs.Book.{Call, bookNumber, bookCall, bookAnswers, bookMarks}

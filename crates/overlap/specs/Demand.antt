@@ -57,7 +57,8 @@ pub record Quotes (g : Network) (P : List ℕ) (q k : ℕ) (old new : List ℕ) 
 
 -- 'The searches are then lent this network, these marks and arrays that 10 lets pass; the table query also the table with the build's K, eager a limit
 -- of at least its expanded count.' What 10 lets pass is 12 × n entries of scratch for eager (Ask 5), S for the others. Whatever they leave by their
--- contracts is the one list, and eager's count and visits are the definitions'. Each clause is read alone, over any arrays.
+-- contracts is the one list, 'judged by the new wording' (Ask 6): `listed`, without a point on q; and eager's count and visits are the definitions'. Each
+-- clause is read alone, over any arrays.
 pub record Agree (g : Network) (P : List ℕ) (K : ℕ) (ids distances : List ℕ) (q k : ℕ) (scratch old scratch′ new : List ℕ) (r : Listing) : Type 0 where
   pub eager :
       eagerWords g ≤ length scratch → (limit : ℕ) → expanded g P q k ≤ limit → (seen seen′ : List ℕ) → nodeCount g ≤ length seen

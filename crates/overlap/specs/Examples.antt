@@ -116,12 +116,14 @@ pub record Examples : Type 0 where
       ≡ record { answer = found.Points 0; scratch = replicate 352 0; ids = old; distances = old }
   pub by-node : nearestOutcome star (0 ∷ 1 ∷ 1 ∷ []) 0 NONE 1 (replicate 104 9) (9 ∷ 9 ∷ []) (9 ∷ [])
       ≡ record { answer = found.Points 1; scratch = replicate 104 0; ids = 1 ∷ 9 ∷ []; distances = 5 ∷ [] }
-  -- Ask 8: 'Rows and the nearest call repeat a node for each locker'; 'a locker has its companions on the node as others at distance 0', but an equal
-  -- distance is not nearer
+  -- Ask 8: 'Rows and the nearest call repeat a node for each locker'; 'a locker has its companions on the node as others at distance 0'
   pub repeats : nearestOutcome N (0 ∷ 0 ∷ 2 ∷ 0 ∷ 1 ∷ 1 ∷ []) 0 NONE 2 scratch old old
       ≡ record { answer = found.Points 2; scratch = replicate 352 0; ids = 2 ∷ 2 ∷ 9 ∷ 9 ∷ 9 ∷ 9 ∷ []; distances = 7 ∷ 7 ∷ 9 ∷ 9 ∷ 9 ∷ 9 ∷ [] }
   pub companion : verifyOutcome N (0 ∷ 0 ∷ 2 ∷ 0 ∷ 1 ∷ 1 ∷ []) 2 0 1 scratch ≡ record { answer = rule.Answer false; scratch = replicate 352 0 }
-  pub on-site : verifyOutcome N (0 ∷ 0 ∷ 2 ∷ 0 ∷ 1 ∷ 1 ∷ []) 2 2 1 scratch ≡ record { answer = rule.Answer true; scratch = replicate 352 0 }
+  -- Ask 6: 'Verify of the point on q says no', and of several there; where none is, 11 as before
+  pub on-site : verifyOutcome N points 2 2 1 scratch ≡ record { answer = rule.Answer false; scratch = replicate 352 0 }
+  pub two-on-site : verifyOutcome N (0 ∷ 0 ∷ 2 ∷ 0 ∷ 1 ∷ 1 ∷ []) 2 2 16 (replicate 72 9) ≡ record { answer = rule.Answer false; scratch = replicate 72 0 }
+  pub none-on-site : verifyOutcome N points 0 0 1 scratch ≡ record { answer = rule.Refused 11; scratch = scratch }
   -- Verify, of P1: 4 is no nearer to 2 than site 0; of P7's road it is
   pub equal : verifyOutcome N points 2 0 1 scratch ≡ record { answer = rule.Answer true; scratch = replicate 352 0 }
   pub nearer : verifyOutcome (roads 6) points 2 0 1 scratch ≡ record { answer = rule.Answer false; scratch = replicate 352 0 }

@@ -1,7 +1,7 @@
 -- The nearest call: 1 to 5, 6, 7, 9, 10; m is k. Document 01, 'What a site receives': 'Nearest: the points p with d(node, p) < e, e any 32-bit
 -- number, by distance then node, cut after the first k; ids and distances in two arrays.'
 -- Assumes nothing.
-use Prim.Native.Nat.{ℕ, _≤_, _<_}
+use Prim.Native.Nat.{ℕ, _≤_}
 use mathlib.Core.Path.{_≡_}
 use mathlib.Core.List.{List, [], _∷_, map}
 use lib.ListN.{length, replicate}

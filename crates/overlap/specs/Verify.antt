@@ -1,5 +1,5 @@
 -- The verify call: 1 to 5, 6, 7 (p, then q), 9, 10 (12 × n: Ask 5), 11. Document 01, 'What a site receives': 'Verify: for a marked p and q, yes or
--- no by the rule above.'
+-- no by the rule above'; document 02, Ask 6: 'Verify of the point on q says no', behind 11 as any other answer.
 -- Assumes nothing.
 use Prim.Native.Nat.{ℕ}
 use mathlib.Core.Bool.{cond}

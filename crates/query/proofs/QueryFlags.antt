@@ -15,7 +15,7 @@ use borrow.Rule.Slice.PartMut.{midOf, mid-len}
 use Rattle.network.specs.Network.{Network, nodeCount}
 use Rattle.network.specs.Accepted.{Accepted}
 use Rattle.network.specs.Walk.{Walk}
-use Rattle.network.specs.Distance.{NONE, dist, Upto}
+use Rattle.network.specs.Distance.{NONE}
 use Rattle.network.specs.Points.{marked, isListed}
 use Rattle.network.specs.Rows.{tableDistances}
 use Rattle.network.proofs.Lends.{mid-at, row-fits}
@@ -26,7 +26,7 @@ use Rattle.expansion.proofs.AreaLaws.{kept-same}
 use Rattle.searches.proofs.Listed.{listed-parts}
 use Rattle.searches.proofs.FlagLaws.{listed-verified, verified-listed, changed-grows, changed-flags}
 use Rattle.rows.specs.Flat.{IsTable}
-use Rattle.query.specs.Query.{Grown, CanDecide, Decided, CanVerify, Verified, CanVerifyRow, Ways, ToldAll, RowVerified, CanLook, LookedLeft}
+use Rattle.query.specs.Query.{Grown, CanDecide, Decided, Way, CanVerify, Verified, CanVerifyRow, Ways, ToldAll, RowVerified, Exact, CanLook, LookedLeft}
 use Rattle.query.proofs.RowNearest.{listed-at-once, row-count, row-stands, row-way}
 
 -- part of an array: `&xs[a..e]`
@@ -121,7 +121,7 @@ module _ {g : Network} {P dists : List ℕ} {q k K : ℕ} {xs : List ℕ} (c : C
               grows = changed-grows g p xs ws inside other keeps;
             }
 
-        changed : (dists ≡ tableDistances g P K → Upto (dist g p q) sum → Flags g P q k xs → getD ws (nodeCount g + p) 0 ≢ 0 → isListed g P q k p ≡ true)
+        changed : (dists ≡ tableDistances g P K → Way g p q sum → Flags g P q k xs → getD ws (nodeCount g + p) 0 ≢ 0 → isListed g P q k p ≡ true)
             → (isListed g P q k p ≡ true → getD ws (nodeCount g + p) 0 ≢ 0) → Verified g P dists q k K xs ws p sum
         changed sound told =
             record {
@@ -252,8 +252,8 @@ module _ {g : Network} {P ids dists : List ℕ} {q k K : ℕ} {xs : List ℕ} {v
     dist-at : (j : ℕ) → j < k → getD (part (v * K) (v * K + K) dists) j 0 ≡ getD dists (v * K + j) 0
     dist-at j h = mid-at (v * K) ((v * K + K) - v * K) dists j (omega (arith, c .verify .asked .few))
 
-    looked : IsTable g P K ids dists → Walk g q v l → Flags g P q k xs → Looked g P q k xs ys v l r
-    looked t walk f =
+    looked : IsTable g P K ids dists → Walk g q v l → Exact g P q k v l → Flags g P q k xs → Looked g P q k xs ys v l r
+    looked t walk exact f =
         record {
           size = w .grown .size;
           stays = λ i h m. w .grown .words i h;
@@ -282,7 +282,7 @@ module _ {g : Network} {P ids dists : List ℕ} {q k K : ℕ} {xs : List ℕ} {v
 
         ways : Ways g q k (part (v * K) (v * K + K) ids) (part (v * K) (v * K + K) dists) l
         ways i h m =
-            rw (id-at i h, dist-at i h) (row-way ok t v k (c .inside) below most walk i h (omega (arith, dist-at i h)))
+            rw (id-at i h, dist-at i h) (row-way ok t v k (c .inside) below most walk exact i h (omega (arith, dist-at i h)))
 
         all : ToldAll g P q k (part (v * K) (v * K + K) ids) ys r
         all = w .right (t .same-dists) ways f

@@ -1,42 +1,27 @@
--- Where the table query begins: all words 0 but the site's own flag. And where it ends: the answers are the nodes with a found flag, and all words
--- are 0 again.
+-- Where the table query ends: the answers are the nodes with a found flag, and all words are 0 again.
 -- Assumes nothing.
-use Prim.Native.Nat.{ℕ, _+_, _*_, _<_}
+use Prim.Native.Nat.{ℕ, _+_, _*_}
 use mathlib.Core.Path.{_≡_, ap, _∙_}
 use mathlib.Core.List.{List}
 use native.Mathlib.Omega.{arith}
 use lib.Dec.{eqb}
-use lib.ListN.{length, getD, set, replicate, length-set, length-replicate}
+use lib.ListN.{length, getD, replicate, length-replicate}
 use borrow.Author.Tests.{eqb-false, not-true}
 use Rattle.network.specs.Network.{Network, nodeCount}
-use Rattle.network.specs.Count.{bit, select}
-use Rattle.network.specs.Points.{marked, isListed, listed}
+use Rattle.network.specs.Count.{select}
+use Rattle.network.specs.Points.{isListed, listed}
 use Rattle.network.specs.Answers.{answered}
+use Rattle.network.proofs.Counts.{select-same}
 use Rattle.expansion.proofs.Settled.{zero-blank}
 use Rattle.searches.specs.Eager.{isFound}
-use Rattle.searches.proofs.EagerLaws.{first-other, first-only, first-flags, first-own}
-use Rattle.searches.proofs.Selected.{select-same}
 use Rattle.rows.specs.Flat.{IsTable}
 use Rattle.query.specs.Query.{CanExplore, ExploreLeft, CanQuery, QueryLeft}
 
 module _ {g : Network} {P ids dists xs old : List ℕ} {q k K : ℕ} (c : CanQuery g P ids dists xs old q k K) where
-  fits : nodeCount g + q < length xs
-  fits = omega (arith, c .size, c .asked .site)
+  pub begun : CanExplore g P ids dists xs (6 * nodeCount g) q k K
+  begun = record { asked = c .asked; all-ids = c .all-ids; base = omega arith; blank = c .blank; size = omega (arith, c .size) }
 
-  pub begun : CanExplore g P ids dists (set xs (nodeCount g + q) (bit (marked P q))) (6 * nodeCount g) q k K
-  begun =
-      record {
-        asked = c .asked;
-        all-ids = c .all-ids;
-        base = omega arith;
-        only = λ p h n. let s = first-only (c .asked .accepted) P q (c .blank) fits p n in rw (s .0) (s .1);
-        flags = first-flags (c .asked .accepted) P q (c .blank) fits k (c .asked .some);
-        own = first-own (c .asked .accepted) P q (c .blank) fits k (c .asked .some);
-        blank = record { zero = λ j h. first-other (c .asked .accepted) P q (c .blank) fits j (omega (arith, c .asked .site)) };
-        size = simp length-set (omega (arith, c .size));
-      }
-
-  module _ {us zs : List ℕ} (e : ExploreLeft g P ids dists q k K us zs) (same : length zs ≡ length xs) where
+  module _ {zs : List ℕ} (e : ExploreLeft g P ids dists q k K xs zs) where
     exactly : IsTable g P K ids dists → select (isFound (nodeCount g) zs) (nodeCount g) ≡ listed g P q k
     unfolding listed
     exactly t = select-same (isFound (nodeCount g) zs) (isListed g P q k) (nodeCount g) (e .right t)
@@ -59,7 +44,7 @@ module _ {g : Network} {P ids dists xs old : List ℕ} {q k K : ℕ} (c : CanQue
           sized = λ t. sized ∙ ap length (exactly t);
           area =
               record {
-                frame = record { size = ap length wiped ∙ length-replicate (length zs) 0 ∙ same; words = λ i h. absurd (omega arith) };
+                frame = record { size = ap length wiped ∙ length-replicate (length zs) 0 ∙ e .size; words = λ i h. absurd (omega arith) };
                 blank = zero-blank (length zs) 0 wiped;
               };
         }

@@ -36,7 +36,7 @@ use Rattle.searches.proofs.Finds.{Met, met-leads}
 use Rattle.searches.proofs.Answers.{listed-flagged}
 use Rattle.network.proofs.Lends.{first-part}
 use Rattle.searches.proofs.LookLaws.{flags-same}
-use Rattle.searches.proofs.FlagLaws.{flag-right}
+use Rattle.searches.proofs.FlagLaws.{no-flags, flag-right}
 use Rattle.expansion.proofs.Stopping.{progress-stopped, took-beside}
 use Rattle.rows.specs.Flat.{IsTable}
 use Rattle.query.specs.Query.{Only, Grown, CanLook, LookedLeft, CanExplore}
@@ -59,7 +59,6 @@ follows-lead T ok P q k some =
 -- the found flags where T holds: as eager's
 pub record Answering (g : Network) (P : List ℕ) (q k : ℕ) (xs : List ℕ) (b : ℕ) : Type 0 where
   pub flags : Flags g P q k xs
-  pub own : isListed g P q k q ≡ true → getD xs (nodeCount g + q) 0 ≢ 0
   pub told :
       (v l p : ℕ) → LabelAt (nodeCount g) xs b v l → Near g P v l k p → isListed g P q k p ≡ true
       → getD xs (nodeCount g + p) 0 ≢ 0
@@ -116,13 +115,12 @@ module _ {g : Network} {P ids dists s₀ : List ℕ} {b q k K : ℕ} (c : CanExp
   querying-start {xs} t =
       record {
         progress = progress-start ok can-expand t;
-        only = λ p h n. c .only p h (rw (word (nodeCount g + p) (omega (arith, low))) at n);
-        blank = λ j h m. word j m ∙ c .blank .zero j h;
+        only = λ p h n. absurd (n (word (nodeCount g + p) (omega (arith, low)) ∙ c .blank .zero (nodeCount g + p) (omega arith)));
+        blank = λ j h m. word j m ∙ c .blank .zero j (omega arith);
         right =
             λ _.
             record {
-              flags = flags-same (λ i h. word i (omega (arith, low))) (c .flags);
-              own = λ a. rw (word (nodeCount g + q) (omega (arith, low, site))) (c .own a);
+              flags = flags-same (λ i h. word i (omega (arith, low))) (no-flags g P q k (c .blank));
               told =
                   λ v l p h near a.
                   absurd (omega (arith, label-back (progress-begun ok can-expand t) v l h .is, c .blank .zero (b + v) (omega (arith, low))));
@@ -196,7 +194,10 @@ module _ {g : Network} {P ids dists s₀ : List ℕ} {b q k K : ℕ} (c : CanExp
       grows p h n = rw (set (nodeCount g + p) (omega (arith, low))) (grown .grows p h (rw (front (nodeCount g + p) (omega (arith, low))) n))
 
       seen : T → Looked g P q k (take b ys) zs v l r
-      seen y = look .right y (took-walk ok (e .progress) t) (flags-same (λ i h. front i (omega (arith, low))) (e .right y .flags))
+      seen y =
+          look .right y (took-walk ok (e .progress) t)
+          (λ f. took-exact ok (e .progress .area) (e .progress .searched) t leads (y, inl (λ b. omega arith)))
+          (flags-same (λ i h. front i (omega (arith, low))) (e .right y .flags))
 
       pub arrived-size : length (zs ++ drop b ys) ≡ length xs
       arrived-size = new .size ∙ t .popped .frame .size
@@ -216,7 +217,6 @@ module _ {g : Network} {P ids dists s₀ : List ℕ} {b q k K : ℕ} (c : CanExp
                       λ y.
                       record {
                         flags = flags-same (λ i h. set i (omega (arith, low))) (seen y .flags);
-                        own = λ a. grows q site (e .right y .own a);
                         told = λ x m p h near a. grows p (near .nearer .inside) (e .right y .told x m p (beside-label-at old h) near a);
                       };
                 };
@@ -263,7 +263,6 @@ module _ {g : Network} {P ids dists s₀ : List ℕ} {b q k K : ℕ} (c : CanExp
                 λ y.
                 record {
                   flags = flags-same (λ i h. word i (omega (arith, low))) (a .querying .right y .flags);
-                  own = λ h. rw (word (nodeCount g + q) (omega (arith, low, site))) (a .querying .right y .own h);
                   told = told y;
                 };
           }
@@ -294,7 +293,7 @@ module _ {g : Network} {P ids dists s₀ : List ℕ} {b q k K : ℕ} (c : CanExp
     listed-flag y =
         listed-flagged ok P q k (LabelAt (nodeCount g) xs b)
         (λ v m r. search-finished ok (e .progress .area) (e .progress .searched) z leads v (y, m) r)
-        (λ p. getD xs (nodeCount g + p) 0 ≢ 0) (e .right y .own) (e .right y .told)
+        (λ p. getD xs (nodeCount g + p) 0 ≢ 0) (e .right y .told)
 
     pub ended-found : IsTable g P K ids dists → (p : ℕ) → p < nodeCount g → isFound (nodeCount g) xs p ≡ isListed g P q k p
     ended-found y p h =

@@ -4,6 +4,7 @@
 use Prim.Native.Nat.{ℕ, suc, _+_, _*_, _≤_, _<_, min}
 use mathlib.Core.Path.{_≡_, refl, sym, ap, _∙_}
 use mathlib.Core.Bool.{true}
+use mathlib.Core.Logic.{_≢_}
 use mathlib.Core.List.{List, List·Memᴰ}
 use native.Mathlib.Decide.{decLt, ℕ-discrete}
 use native.Mathlib.Omega.{arith}
@@ -12,7 +13,7 @@ use lib.Seq.{getD-take, length-take-le}
 use Rattle.network.specs.Network.{Network, nodeCount}
 use Rattle.network.specs.Accepted.{Accepted}
 use Rattle.network.specs.Walk.{Walk}
-use Rattle.network.specs.Distance.{NONE, dist, Upto}
+use Rattle.network.specs.Distance.{NONE, dist}
 use Rattle.network.specs.Points.{marked, countNearer, othersNearer, verified}
 use Rattle.network.specs.Nearest.{key, byDistance, nearest, Ordered, before, Nearer}
 use Rattle.network.specs.Rows.{tableIds, tableDistances}
@@ -26,6 +27,7 @@ use Rattle.searches.proofs.Listed.{verified-parts}
 use Rattle.searches.proofs.LookLaws.{place-of}
 use Rattle.rows.specs.Flat.{place, IsTable}
 use Rattle.rows.proofs.Laid.{table-entry, table-padding}
+use Rattle.query.specs.Query.{Way, Exact}
 
 -- Within l: a key below l × 2^32 is one of a distance below l.
 module _ {g : Network} (ok : Accepted g) (P : List ℕ) (v l : ℕ) (most : l ≤ NONE) where
@@ -188,10 +190,26 @@ module _ {g : Network} (ok : Accepted g) {P : List ℕ} {K : ℕ} {ids dists : L
               (place-entry (i .0) (omega arith) (omega (arith, fits)) ∙ sym (taken (i .0) a) ∙ i .1 .is);
         }
 
+  -- the j-th of the k nearest is not on the site, where it is nearer than an exact label: k lockers that are nearer to v than the site come before it
+  nearest-other : {q l : ℕ} → Exact g P q k v l → (j : ℕ) → (m : j < length (nearest g P v NONE k))
+      → getD (nearest g P v NONE k) j (0, 0) .1 < l → getD (nearest g P v NONE k) j (0, 0) .0 ≢ q
+  nearest-other {q} {l} exact j m b e =
+      let z = getD (nearest g P v NONE k) j (0, 0) in
+      let n = listed-near ok P v NONE k (z .0) (z .1) (member-at (0, 0) (nearest g P v NONE k) j m) in
+      elim (decLt (countNearer g P v (dist g v q)) k) [
+        | yes f ↦ omega (arith, b, exact f, n .far, ap (dist g v) e, dist-symmetric ok v q)
+        | no y ↦
+            omega (
+              arith,
+              n .near .few,
+              nearer-before ok P v (dist g v q) (dist-at-most g v q) (key (z .0, dist g v (z .0))) (omega (arith, ap (dist g v) e)),
+            )
+      ]
+
   -- a place that is nearer than the sum of a walk from the site to v: the way from its point over v
-  pub row-way : {q l : ℕ} → l ≤ NONE → Walk g q v l → (j : ℕ) → j < k → getD dists (v * K + j) 0 < l
-      → Upto (dist g (getD ids (v * K + j) 0) q) (l + getD dists (v * K + j) 0)
-  row-way {q} {l} most walk j a b =
+  pub row-way : {q l : ℕ} → l ≤ NONE → Walk g q v l → Exact g P q k v l → (j : ℕ) → j < k → getD dists (v * K + j) 0 < l
+      → Way g (getD ids (v * K + j) 0) q (l + getD dists (v * K + j) 0)
+  row-way {q} {l} most walk exact j a b =
       let m = entered most j a b in
       let e = place-entry j a m in
       let z = getD (nearest g P v NONE k) j (0, 0) in
@@ -202,17 +220,21 @@ module _ {g : Network} (ok : Accepted g) {P : List ℕ} {K : ℕ} {ids dists : L
       in
       rw (ap (λ (x : ℕ × ℕ). x .0) e)
       (record {
-        some = u .some;
-        most =
-            omega (
-              arith,
-              u .most,
-              w .most,
-              n .far,
-              ap (λ (x : ℕ × ℕ). x .1) e,
-              dist-symmetric ok (z .0) v,
-              dist-symmetric ok v q,
-            );
+        other = nearest-other exact j m (omega (arith, b, ap (λ (x : ℕ × ℕ). x .1) e));
+        upto =
+            record {
+              some = u .some;
+              most =
+                  omega (
+                    arith,
+                    u .most,
+                    w .most,
+                    n .far,
+                    ap (λ (x : ℕ × ℕ). x .1) e,
+                    dist-symmetric ok (z .0) v,
+                    dist-symmetric ok v q,
+                  );
+            };
       })
 
 -- a point p and the others that are nearer to it than e
@@ -260,9 +282,11 @@ module _ {g : Network} (ok : Accepted g) (P : List ℕ) (p e : ℕ) (low : p < n
 
 -- a point lists a site that is no farther than its k-th other point
 pub listed-at-once : {g : Network} → Accepted g → (P : List ℕ) (p q k : ℕ) {K : ℕ} {dists : List ℕ} → dists ≡ tableDistances g P K → p < nodeCount g
-    → marked P p ≡ true → 1 ≤ k → k < K → {s : ℕ} → Upto (dist g p q) s → s ≤ getD dists (p * K + k) 0 → verified g P p q k ≡ true
-listed-at-once {g} ok P p q k same low mark some few u h =
+    → marked P p ≡ true → 1 ≤ k → k < K → {s : ℕ} → Way g p q s → s ≤ getD dists (p * K + k) 0 → verified g P p q k ≡ true
+listed-at-once {g} ok P p q k same low mark some few w h =
+    let u = w .upto in
     verified-parts g P p q k .1 (
+      w .other,
       u .some,
       others-few ok P p (dist g p q) low mark same k some few (omega (arith, u .most)) (omega (arith, u .some, dist-at-most g p q)),
     )

@@ -12,7 +12,7 @@ use Rattle.network.specs.Accepted.{Accepted}
 use Rattle.network.specs.Walk.{Walk}
 use Rattle.network.specs.Distance.{dist, Upto}
 use Rattle.network.specs.Count.{select}
-use Rattle.network.specs.Points.{marked, verified, isListed, listed}
+use Rattle.network.specs.Points.{marked, countNearer, verified, isListed, listed}
 use Rattle.network.specs.Rows.{tableDistances}
 use Rattle.network.specs.Answers.{answered}
 use Rattle.expansion.specs.Area.{queueBase, Blank, Wiped}
@@ -63,6 +63,11 @@ pub record Decided (g : Network) (P others : List ℕ) (p q k sum : ℕ) (xs ys 
   pub answer : ((sum ≤ getD others (k - 1) 0) × (yes ≡ true)) ⊎ (yes ≡ verified g P p q k)
   pub area : Wiped xs ys (flagsEnd g)
 
+-- a way of the given sum from p to the site, which is another node
+pub record Way (g : Network) (p q sum : ℕ) : Type 0 where
+  pub other : p ≢ q
+  pub upto : Upto (dist g p q) sum
+
 -- p, which is any word, is verified where it is a point; `sum` is that of a way from p to the site, where the table is right
 pub record CanVerify (g : Network) (P dists : List ℕ) (q k K : ℕ) (xs : List ℕ) : Type 0 where
   pub asked : Asked g P dists q k K
@@ -74,7 +79,7 @@ pub record Told (g : Network) (P : List ℕ) (q k : ℕ) (ys : List ℕ) (p : �
 
 pub record Verified (g : Network) (P dists : List ℕ) (q k K : ℕ) (xs ys : List ℕ) (p sum : ℕ) : Type 0 where
   pub grown : Grown g P xs ys
-  pub right : dists ≡ tableDistances g P K → Upto (dist g p q) sum → Flags g P q k xs → Told g P q k ys p
+  pub right : dists ≡ tableDistances g P K → Way g p q sum → Flags g P q k xs → Told g P q k ys p
 
 -- the points of a row, its ids zs and its distances ws, that are nearer than l, cut after the first k
 pub record CanVerifyRow (g : Network) (P dists : List ℕ) (q k K : ℕ) (xs zs ws : List ℕ) : Type 0 where
@@ -94,14 +99,18 @@ pub record ToldAll (g : Network) (P : List ℕ) (q k : ℕ) (zs ys : List ℕ) (
 
 -- each place of the row that is nearer than l says the end of a way to the site
 abbrev pub Ways : Network → ℕ → ℕ → List ℕ → List ℕ → ℕ → Type 0
-Ways g q k zs ws l = (i : ℕ) → i < k → getD ws i 0 < l → Upto (dist g (getD zs i 0) q) (l + getD ws i 0)
+Ways g q k zs ws l = (i : ℕ) → i < k → getD ws i 0 < l → Way g (getD zs i 0) q (l + getD ws i 0)
 
 pub record RowVerified (g : Network) (P dists : List ℕ) (q k K : ℕ) (xs ys zs ws : List ℕ) (l r : ℕ) : Type 0 where
   pub grown : Grown g P xs ys
   pub nearer : Nearer ws l k r
   pub right : dists ≡ tableDistances g P K → Ways g q k zs ws l → Flags g P q k xs → ToldAll g P q k zs ys r
 
--- node v is looked at from label l. On the table of P, where l is the sum of a walk from the site, it is as if eager had looked at it
+-- the label of v is its distance, where fewer than k lockers are nearer to it than the site
+abbrev pub Exact : Network → List ℕ → ℕ → ℕ → ℕ → ℕ → Type 0
+Exact g P q k v l = countNearer g P v (dist g v q) < k → l ≡ dist g q v
+
+-- node v is looked at from label l. On the table of P, where l is the sum of a walk from the site and exact, it is as if eager had looked at it
 pub record CanLook (g : Network) (P ids dists : List ℕ) (q k K : ℕ) (xs : List ℕ) (v : ℕ) : Type 0 where
   pub verify : CanVerify g P dists q k K xs
   pub all-ids : length ids ≡ nodeCount g * K
@@ -109,17 +118,14 @@ pub record CanLook (g : Network) (P ids dists : List ℕ) (q k K : ℕ) (xs : Li
 
 pub record LookedLeft (g : Network) (P ids dists : List ℕ) (q k K : ℕ) (xs ys : List ℕ) (v l r : ℕ) : Type 0 where
   pub grown : Grown g P xs ys
-  pub right : IsTable g P K ids dists → Walk g q v l → Flags g P q k xs → Looked g P q k xs ys v l r
+  pub right : IsTable g P K ids dists → Walk g q v l → Exact g P q k v l → Flags g P q k xs → Looked g P q k xs ys v l r
 
--- the site has its found flag where it is listed, and no other flag is set
+-- no flag is set, and all words are 0
 pub record CanExplore (g : Network) (P ids dists xs : List ℕ) (b q k K : ℕ) : Type 0 where
   pub asked : Asked g P dists q k K
   pub all-ids : length ids ≡ nodeCount g * K
   pub base : b ≡ outerBase g
-  pub only : Only g P xs
-  pub flags : Flags g P q k xs
-  pub own : isListed g P q k q ≡ true → getD xs (nodeCount g + q) 0 ≢ 0
-  pub blank : Blank xs (flagsEnd g)
+  pub blank : Blank xs 0
   pub size : queueBase (nodeCount g) b + 2 * nodeCount g ≤ length xs
 
 pub record ExploreLeft (g : Network) (P ids dists : List ℕ) (q k K : ℕ) (xs ys : List ℕ) : Type 0 where

@@ -1,6 +1,7 @@
 // The table query, eager-M: source 000, section 4.1. Eager's expansion from the site, with the rows of the table in place of the nearest points.
 // Document 01, 'The table': 'the list, k from 1 to K - 1, since a point's row spends one place on itself'. A lent table may hold anything: an id is
-// compared with n and the marks before it is used, and sums are made in 64 bits.
+// compared with n and the marks before it is used, and sums are made in 64 bits. 'A point on q isn't listed' (Ask 6): in the table of the points, no row
+// has it among the first k that are nearer than the label.
 ghost use mathlib.Core.Path.{_≡_};
 ghost use Prim.Native.Nat.{_+_};
 ghost use lib.Dec.{leb};
@@ -11,7 +12,6 @@ use expansion::step::Taken;
 use expansion::verify;
 use expansion::words;
 use network::arcs::wide;
-use searches::eager;
 use searches::flags;
 
 // Whether a label and a distance are together no more than a distance.
@@ -254,8 +254,6 @@ pub fn query(
 {
     let n = starts.len() - 1;
     let b = 6 * n;
-    let own = n + wide(q);
-    s[own] = eager::own_flag(points, q);
     explore(
         starts,
         neighbours,

@@ -6,7 +6,6 @@ use mathlib.Core.Bool.{true, false}
 use mathlib.Core.Logic.{_≢_}
 use mathlib.Core.List.{List}
 use native.Mathlib.Omega.{arith}
-use native.Mathlib.Decide.{ℕ-discrete}
 use Rattle.network.specs.Network.{Network, nodeCount}
 use Rattle.network.specs.Accepted.{Accepted}
 use Rattle.network.specs.Walk.{Walk}
@@ -32,7 +31,7 @@ before-less {g} ok {P} {i} {e} {p} h =
       ltb-true 0 (lockers P p) (h .point),
     )
 
--- with the marks P: each point that is listed, but for one on q, is among the k that are found from a node that is settled at its distance
+-- with the marks P: each point that is listed is among the k that are found from a node that is settled at its distance
 pub record Found (g : Network) (P : List ℕ) (Settled : ℕ → ℕ → Type 0) (q k p : ℕ) : Type 0 where
   pub node : ℕ
   pub settled : Settled node (dist g q node)
@@ -40,9 +39,9 @@ pub record Found (g : Network) (P : List ℕ) (Settled : ℕ → ℕ → Type 0)
 
 module _ {g : Network} (ok : Accepted g) (P : List ℕ) (q k : ℕ) (Settled : ℕ → ℕ → Type 0)
     (all : (v : ℕ) → Met g P q k v → dist g q v ≢ NONE → Settled v (dist g q v)) where
-  pub eager-finished : (p : ℕ) → p < nodeCount g → isListed g P q k p ≡ true → p ≢ q → Found g P Settled q k p
-  eager-finished p low h ne =
-      let f = eager-finds ok P q k p h ne in
+  eager-finished : (p : ℕ) → p < nodeCount g → isListed g P q k p ≡ true → Found g P Settled q k p
+  eager-finished p low h =
+      let f = eager-finds ok P q k p h in
       let e = dist-symmetric ok q (f .node) in
       let n : Nearer g P (f .node) (dist g q (f .node)) p = record { inside = low; point = listed-parts g P q k p .0 h .mark; less = omega (arith, f .nearer) } in
       record {
@@ -51,15 +50,12 @@ module _ {g : Network} (ok : Accepted g) (P : List ℕ) (q k : ℕ) (Settled : �
         near = record { nearer = n; few = omega (arith, before-less ok n, rw (← e) at (f .few)) };
       }
 
-  -- so each listed point is flagged, where the site's own is, and those that are found from a settled node are
-  pub listed-flagged : (Flagged : ℕ → Type 0) → (isListed g P q k q ≡ true → Flagged q)
-      → ((v m p : ℕ) → Settled v m → Near g P v m k p → isListed g P q k p ≡ true → Flagged p)
+  -- so each listed point is flagged, where those that are found from a settled node are
+  pub listed-flagged : (Flagged : ℕ → Type 0) → ((v m p : ℕ) → Settled v m → Near g P v m k p → isListed g P q k p ≡ true → Flagged p)
       → (p : ℕ) → p < nodeCount g → isListed g P q k p ≡ true → Flagged p
-  listed-flagged Flagged own told p low h =
-      elim (ℕ-discrete p q) [
-        | yes e ↦ rw e (own (rw e at h))
-        | no n ↦ let f = eager-finished p low h n in told (f .node) (dist g q (f .node)) p (f .settled) (f .near) h
-      ]
+  listed-flagged Flagged told p low h =
+      let f = eager-finished p low h in
+      told (f .node) (dist g q (f .node)) p (f .settled) (f .near) h
 
 -- the nodes come to that are unbeaten are those that the search goes through
 pub come-expanded : {g : Network} → Accepted g → (P : List ℕ) (q k m : ℕ) {l : ℕ} → Walk g q m l → Unbeaten g P q k m → isExpanded g P q k m ≡ true

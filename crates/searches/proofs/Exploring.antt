@@ -42,7 +42,7 @@ use Rattle.searches.specs.Eager.{CanExplore, isFound, Visited}
 use Rattle.searches.proofs.Beaten.{Beaten, Unbeaten, stops, goes-on, expanded-unbeaten}
 use Rattle.searches.proofs.Finds.{Met, met-leads}
 use Rattle.searches.proofs.Answers.{listed-flagged, come-expanded}
-use Rattle.searches.proofs.FlagLaws.{flag-right}
+use Rattle.searches.proofs.FlagLaws.{no-flags, flag-right}
 use Rattle.searches.proofs.LookLaws.{flags-same}
 
 -- the counted nodes as points, all of them wanted
@@ -52,7 +52,6 @@ CountedInTurn g P q k xs b count = InTurn g (counted g P q k) q NONE (suc (lengt
 pub record Exploring (g : Network) (P : List ℕ) (q k limit : ℕ) (xs : List ℕ) (b settled len count : ℕ) : Type 0 where
   pub progress : Progress g (one g q) (Unbeaten g P q k) (Met g P q k) xs b settled len
   pub flags : Flags g P q k xs
-  pub own : isListed g P q k q ≡ true → getD xs (nodeCount g + q) 0 ≢ 0
   pub blank : (j : ℕ) → idsBase g ≤ j → j < b → getD xs j 0 ≡ 0
   pub told :
       (v l p : ℕ) → LabelAt (nodeCount g) xs b v l → Near g P v l k p → isListed g P q k p ≡ true
@@ -62,13 +61,13 @@ pub record Exploring (g : Network) (P : List ℕ) (q k limit : ℕ) (xs : List �
 
 module _ {g : Network} {P : List ℕ} {q k b : ℕ} {s₀ : List ℕ} (c : CanExplore g P s₀ b q k) where
   ok : Accepted g
-  ok = c .accepted
+  ok = c .search .accepted
 
   low : idsBase g ≤ b
   low = omega (arith, c .base)
 
   leads : Leads g (one g q) (Unbeaten g P q k) (Met g P q k)
-  leads = met-leads ok P q k (c .some)
+  leads = met-leads ok P q k (c .search .some)
 
   -- the search answers for the counted nodes
   sees : (x : ℕ) → Nearer g (counted g P q k) q NONE x → Met g P q k x
@@ -78,9 +77,9 @@ module _ {g : Network} {P : List ℕ} {q k b : ℕ} {s₀ : List ℕ} (c : CanEx
   can-expand =
       record {
         accepted = ok;
-        inside = c .site;
-        blank = record { zero = λ j h. c .blank .zero j (omega (arith, low)) };
-        size = omega (arith, c .size, c .base);
+        inside = c .search .site;
+        blank = record { zero = λ j h. c .search .blank .zero j (omega (arith, low)) };
+        size = omega (arith, c .search .size, c .base);
       }
 
   -- no more are counted than there are nodes
@@ -97,16 +96,15 @@ module _ {g : Network} {P : List ℕ} {q k b : ℕ} {s₀ : List ℕ} (c : CanEx
   exploring-start {xs} limit t =
       record {
         progress = progress-start ok can-expand t;
-        flags = flags-same (λ i h. t .frame .before i (omega (arith, low))) (c .flags);
-        own = λ a. rw (t .frame .before (nodeCount g + q) (omega (arith, low, c .site))) (c .own a);
-        blank = λ j h m. t .frame .before j m ∙ c .blank .zero j h;
+        flags = flags-same (λ i h. t .frame .before i (omega (arith, low))) (no-flags g P q k (c .search .blank));
+        blank = λ j h m. t .frame .before j m ∙ c .search .blank .zero j (omega arith);
         told = λ v l p h near a. absurd (omega (arith, h .is, word v (h .inside)));
         turn = turn-start (λ v l h. omega (arith, h .is, word v (h .inside)));
         within = omega arith;
       }
     where
       word : (v : ℕ) → v < nodeCount g → getD xs (b + v) 0 ≤ nodeCount g
-      word v h = progress-begun ok can-expand t .others v h (omega (arith, c .blank .zero (b + v) (omega (arith, low))))
+      word v h = progress-begun ok can-expand t .others v h (omega (arith, c .search .blank .zero (b + v) (omega (arith, low))))
 
   module _ {limit : ℕ} {xs : List ℕ} {settled len count : ℕ} (e : Exploring g P q k limit xs b settled len count)
       {ys : List ℕ} {left l v u : ℕ} (t : Took (nodeCount g) xs ys b len left l v u) where
@@ -123,8 +121,8 @@ module _ {g : Network} {P : List ℕ} {q k b : ℕ} {s₀ : List ℕ} (c : CanEx
           front =
               record {
                 accepted = ok;
-                points = c .points;
-                site = c .site;
+                points = c .search .points;
+                site = c .search .site;
                 flags = flags-same (λ i h. getD-take b ys i 0 (omega (arith, low)) ∙ t .popped .frame .before i (omega (arith, low))) (e .flags);
                 blank = record { zero = λ j h. zeros j (omega arith) };
                 size = omega (arith, length-take-le b ys fits, c .base);
@@ -169,7 +167,6 @@ module _ {g : Network} {P : List ℕ} {q k b : ℕ} {s₀ : List ℕ} (c : CanEx
           record {
             progress = progress-beside beside-old ok (e .progress);
             flags = flags-same (λ i h. first-part b xs zs fits-old same-old i (omega (arith, low))) (seen .flags);
-            own = λ a. grows q (c .site) (e .own a);
             blank = λ j h m. first-part b xs zs fits-old same-old j m ∙ seen .blank .zero j h;
             told = λ x m p h near a. grows p (near .nearer .inside) (e .told x m p (beside-label-at beside-old h) near a);
             turn = turn-beside beside-old (e .turn);
@@ -264,7 +261,6 @@ module _ {g : Network} {P : List ℕ} {q k b : ℕ} {s₀ : List ℕ} (c : CanEx
             record {
               progress = progress;
               flags = flags-same (λ i h. front i (omega (arith, low))) (e .flags);
-              own = λ a. rw (front (nodeCount g + q) (omega (arith, low, c .site))) (e .own a);
               blank = λ j h m. front j m ∙ e .blank j h m;
               told = told-next;
               turn = turn;
@@ -303,7 +299,6 @@ module _ {g : Network} {P : List ℕ} {q k b : ℕ} {s₀ : List ℕ} (c : CanEx
         record {
           progress = progress-beside kept-beside ok (e .progress);
           flags = flags-same (λ j l. kept j (omega arith)) (e .flags);
-          own = λ a. rw (kept (nodeCount g + q) (omega (arith, c .site))) (e .own a);
           blank = λ j l m. kept j (omega arith) ∙ e .blank j l m;
           told = λ x m p l near a. rw (kept (nodeCount g + p) (omega (arith, near .nearer .inside))) (e .told x m p (beside-label-at kept-beside l) near a);
           turn = turn-beside kept-beside (e .turn);
@@ -332,7 +327,7 @@ module _ {g : Network} {P : List ℕ} {q k b : ℕ} {s₀ : List ℕ} (c : CanEx
         (turn-all (e .turn) (λ x r. all x (sees x r) (λ z. omega (arith, r .less))))
 
     listed-flag : (p : ℕ) → p < nodeCount g → isListed g P q k p ≡ true → getD xs (nodeCount g + p) 0 ≢ 0
-    listed-flag = listed-flagged ok P q k (LabelAt (nodeCount g) xs b) all (λ p. getD xs (nodeCount g + p) 0 ≢ 0) (e .own) (e .told)
+    listed-flag = listed-flagged ok P q k (LabelAt (nodeCount g) xs b) all (λ p. getD xs (nodeCount g + p) 0 ≢ 0) (e .told)
 
     pub found-all : (p : ℕ) → p < nodeCount g → isFound (nodeCount g) xs p ≡ isListed g P q k p
     found-all p h =

@@ -128,18 +128,18 @@ module _ {g : Network} (ok : Accepted g) (P : List ℕ) (q k p : ℕ) (h : Lists
           ]
 
   -- p itself, where it is unbeaten
-  itself : p ≢ q → Unbeaten g P q k p → Finds g P q k p
-  itself ne n =
-      let r = dist-next ok p q ne (h .reach) in
+  itself : Unbeaten g P q k p → Finds g P q k p
+  itself n =
+      let r = dist-next ok p q (h .other) (h .reach) in
       let z = dist-self ok p in
       record { node = p; reach = h .reach; met = inl n; nearer = omega (arith, r .sum, ok .weight-low (r .arc)); few = omega arith }
 
-  finds : p ≢ q → Finds g P q k p
-  finds ne =
+  finds : Finds g P q k p
+  finds =
       elim (decBeaten g P q k p) [
         | yes b ↦ back-from (suc (dist g q p)) p (omega arith) (record { reach = omega (arith, h .reach, dist-symmetric ok p q); rest = omega (arith, dist-self ok p); sum = omega (arith, dist-self ok p) }) b
-        | no n ↦ itself ne n
+        | no n ↦ itself n
       ]
 
-pub eager-finds : {g : Network} → Accepted g → (P : List ℕ) (q k p : ℕ) → isListed g P q k p ≡ true → p ≢ q → Finds g P q k p
-eager-finds {g} ok P q k p e ne = finds ok P q k p (listed-parts g P q k p .0 e) ne
+pub eager-finds : {g : Network} → Accepted g → (P : List ℕ) (q k p : ℕ) → isListed g P q k p ≡ true → Finds g P q k p
+eager-finds {g} ok P q k p e = finds ok P q k p (listed-parts g P q k p .0 e)

@@ -39,6 +39,14 @@ module _ (g : Network) (P : List ℕ) (q k p : ℕ) where
   unfolding isListed
   verified-listed m e = and-intro (marked P p) _ m e
 
+-- a search begins with no flag
+pub no-flags : (g : Network) (P : List ℕ) (q k : ℕ) {xs : List ℕ} → Blank xs 0 → Flags g P q k xs
+no-flags g P q k b =
+    record {
+      sound = λ p h n. absurd (n (b .zero (nodeCount g + p) (omega arith)));
+      once = λ p h n a. absurd (n (b .zero p (omega arith)));
+    }
+
 -- only p's flags change
 module _ (g : Network) (p : ℕ) (xs ws : List ℕ) (inside : p < nodeCount g) (other : (i : ℕ) → i ≢ p → i ≢ nodeCount g + p → getD ws i 0 ≡ getD xs i 0) where
   pub changed-grows : (getD xs (nodeCount g + p) 0 ≢ 0 → getD ws (nodeCount g + p) 0 ≢ 0) → Grows g xs ws

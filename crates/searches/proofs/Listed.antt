@@ -1,4 +1,4 @@
--- The test that lists a point, in its parts: what it says of the site's own point, and of a search that prunes by some of the marks.
+-- The test that lists a point, in its parts, and what it says of a search that prunes by some of the marks.
 -- Assumes nothing.
 use Prim.Native.Nat.{ℕ, _≤_, _<_}
 use mathlib.Core.Path.{_≡_, sym, ap, _∙_}
@@ -13,7 +13,7 @@ use Rattle.network.specs.Accepted.{Accepted}
 use Rattle.network.specs.Distance.{NONE, dist}
 use Rattle.network.proofs.Tests.{and-parts, and-intro}
 use Rattle.network.proofs.Distances.{dist-self}
-use Rattle.network.specs.Points.{lockers, marked, isNearer, countNearer, othersAt, othersNearer, verified, isListed}
+use Rattle.network.specs.Points.{lockers, marked, isNearer, countNearer, othersNearer, verified, isListed}
 use Rattle.network.proofs.Totals.{sum-none}
 use Rattle.network.proofs.Rank.{others-part}
 use Rattle.searches.proofs.Beaten.{Unbeaten, Part, part-marked}
@@ -21,19 +21,27 @@ use Rattle.searches.proofs.Beaten.{Unbeaten, Part, part-marked}
 -- the parts of the test
 pub record Lists (g : Network) (P : List ℕ) (q k p : ℕ) : Type 0 where
   pub mark : marked P p ≡ true
+  pub other : p ≢ q
   pub reach : dist g p q ≢ NONE
   pub few : othersNearer g P p (dist g p q) < k
 
--- the rule's test: q is reached, and few others are nearer
-pub verified-parts : (g : Network) (P : List ℕ) (p q k : ℕ) → (verified g P p q k ≡ true) ↔ ((dist g p q ≢ NONE) × (othersNearer g P p (dist g p q) < k))
+-- the rule's test: p is not on q, q is reached, and few others are nearer
+pub verified-parts : (g : Network) (P : List ℕ) (p q k : ℕ)
+    → (verified g P p q k ≡ true) ↔ ((p ≢ q) × (dist g p q ≢ NONE) × (othersNearer g P p (dist g p q) < k))
 unfolding verified
 verified-parts g P p q k = (
   λ e.
-      let a = and-parts (not (eqb (dist g p q) NONE)) _ e in
-      (eqb-false (dist g p q) NONE (not-true (eqb (dist g p q) NONE) (a .0)), ltb-true (othersNearer g P p (dist g p q)) k (a .1)),
-  λ h.
-      and-intro (not (eqb (dist g p q) NONE)) _ (ap not (ne-eqb (dist g p q) NONE (h .0))) (lt-ltb (othersNearer g P p (dist g p q)) k (h .1)),
+      let o = and-parts (not (eqb p q)) _ e in
+      let a = and-parts (not (eqb (dist g p q) NONE)) _ (o .1) in (
+        test-off p q (o .0),
+        test-off (dist g p q) NONE (a .0),
+        ltb-true (othersNearer g P p (dist g p q)) k (a .1),
+      ),
+  λ h. rw (ne-eqb p q (h .0), ne-eqb (dist g p q) NONE (h .1)) (lt-ltb (othersNearer g P p (dist g p q)) k (h .2)),
 )
+  where
+    test-off : (a b : ℕ) → not (eqb a b) ≡ true → a ≢ b
+    test-off a b t = eqb-false a b (not-true (eqb a b) t)
 
 pub listed-parts : (g : Network) (P : List ℕ) (q k p : ℕ) → (isListed g P q k p ≡ true) ↔ Lists g P q k p
 unfolding isListed
@@ -41,8 +49,8 @@ listed-parts g P q k p = (
   λ e.
       let a = and-parts (marked P p) _ e in
       let b = verified-parts g P p q k .0 (a .1) in
-      record { mark = a .0; reach = b .0; few = b .1 },
-  λ h. and-intro (marked P p) _ (h .mark) (verified-parts g P p q k .1 (h .reach, h .few)),
+      record { mark = a .0; other = b .0; reach = b .1; few = b .2 },
+  λ h. and-intro (marked P p) _ (h .mark) (verified-parts g P p q k .1 (h .other, h .reach, h .few)),
 )
 
 -- a listed point that is not among the marks M is not beaten by M
@@ -70,17 +78,3 @@ module _ {g : Network} (ok : Accepted g) (P : List ℕ) (q k : ℕ) (some : 1 �
         sum-none (isNearer g P q (dist g q q)) (lockers P) (nodeCount g)
             (λ x l a. absurd (omega (arith, ltb-true (dist g q x) (dist g q q) (and-parts (marked P x) _ a .1)))),
       )
-
-  no-others : othersNearer g P q (dist g q q) ≡ 0
-  unfolding othersNearer isNearer
-  no-others =
-      let z = dist-self ok q in
-      sum-none (isNearer g P q (dist g q q)) (othersAt P q) (nodeCount g)
-      (λ x l a. absurd (omega (arith, ltb-true (dist g q x) (dist g q q) (and-parts (marked P x) _ a .1))))
-
-  -- a site that is a point is listed for itself
-  pub own-listed : (isListed g P q k q ≡ true) ↔ (marked P q ≡ true)
-  own-listed = (
-    λ e. listed-parts g P q k q .0 e .mark,
-    λ a. listed-parts g P q k q .1 (record { mark = a; reach = omega (arith, dist-self ok q); few = omega (arith, no-others) }),
-  )

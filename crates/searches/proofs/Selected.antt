@@ -1,6 +1,6 @@
 -- The loop that writes the numbers below n that pass a test, ascending, over the start of an array.
 -- Assumes nothing.
-use Prim.Native.Nat.{ℕ, zero, suc, _+_, _≤_, _<_}
+use Prim.Native.Nat.{ℕ, suc, _+_, _≤_, _<_}
 use mathlib.Core.Path.{_≡_, refl, sym, _∙_}
 use mathlib.Core.Bool.{Bool, true, false}
 use mathlib.Core.List.{List, [], _∷_, _++_, append-assoc, append-nil}
@@ -10,12 +10,6 @@ use lib.ListN.{length, getD, set, drop, length-append, length-set}
 use lib.Seq.{set-at, drop-cons}
 use Rattle.network.specs.Count.{select}
 use Rattle.network.specs.Answers.{answered}
-
--- tests that agree below n select the same
-pub select-same : (t u : ℕ → Bool) (n : ℕ) → ((x : ℕ) → x < n → t x ≡ u x) → select t n ≡ select u n
-unfolding select
-select-same t u zero e = refl
-select-same t u (suc n) e = rw (select-same t u n (λ x l. e x (omega arith)), e n (omega arith))
 
 select-yes : (t : ℕ → Bool) (n : ℕ) → t n ≡ true → select t (suc n) ≡ select t n ++ n ∷ []
 unfolding select

@@ -3,7 +3,6 @@
 -- Assumes nothing.
 use Prim.Native.Nat.{ℕ, _+_, _*_, _≤_, _<_}
 use mathlib.Core.Path.{_≡_}
-use mathlib.Core.Logic.{_≢_}
 use mathlib.Core.Bool.{Bool, true, false, not}
 use mathlib.Core.List.{List}
 use lib.Dec.{eqb}
@@ -18,7 +17,7 @@ use Rattle.expansion.specs.Area.{queueBase, Blank, Wiped, Area}
 use Rattle.searches.specs.declared.eager.Answer.{Answer}
 use Rattle.searches.specs.declared.eager.Answer.the-variants.{Refused, Listed}
 use Rattle.searches.specs.declared.eager.End.{End}
-use Rattle.searches.specs.Flags.{flagsEnd, idsBase, innerBase, Flags}
+use Rattle.searches.specs.Flags.{flagsEnd, idsBase, innerBase}
 
 -- how many words eager works with, for every k and every number of arcs
 abbrev pub eagerWords : Network → ℕ
@@ -41,17 +40,10 @@ pub record CanSearch (g : Network) (P xs : List ℕ) (q k : ℕ) : Type 0 where
 abbrev pub HasPlaces : Network → List ℕ → Type 0
 HasPlaces g old = nodeCount g ≤ length old
 
--- the same as CanSearch, with the flags: the site has its found flag where it is listed
+-- the same, with the place of the outer area
 pub record CanExplore (g : Network) (P xs : List ℕ) (b q k : ℕ) : Type 0 where
-  pub accepted : Accepted g
-  pub points : length P ≡ nodeCount g
-  pub site : q < nodeCount g
-  pub some : 1 ≤ k
+  pub search : CanSearch g P xs q k
   pub base : b ≡ outerBase g
-  pub flags : Flags g P q k xs
-  pub own : isListed g P q k q ≡ true → getD xs (nodeCount g + q) 0 ≢ 0
-  pub blank : Blank xs (idsBase g)
-  pub size : eagerWords g ≤ length xs
 
 -- the found flag of p, as a test
 abbrev pub isFound : ℕ → List ℕ → ℕ → Bool

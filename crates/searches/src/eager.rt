@@ -1,12 +1,9 @@
 // Eager: source 000, Fig. 4. An expansion from the site that stops behind a node with k points strictly nearer to it than the site, and verifies
-// each point that it finds once. Document 01, 'What a site receives'. It lists the nodes that it counts, by distance and then by node (Ask 4).
+// each point that it finds once. Document 01, 'What a site receives'. It lists the nodes that it counts, by distance and then by node (Ask 4). 'A point on q
+// isn't listed' (Ask 6): verify says no of it.
 ghost use mathlib.Core.Path.{_≡_};
 ghost use mathlib.Core.Bool.{true, false};
-ghost use Prim.Native.Nat.{_<_, _*_};
-ghost use lib.ListN.{length};
-ghost use Rattle.network.specs.Network.{network, nodeCount};
-ghost use Rattle.network.specs.Count.{bit};
-ghost use Rattle.network.specs.Points.{marked};
+ghost use Rattle.network.specs.Network.{network};
 ghost use Rattle.expansion.specs.Area.{Wiped};
 ghost use Rattle.searches.specs.Flags.{CanVerify, Verified, CanVerifyAll, VerifiedAll, CanLook, Looked};
 ghost use Rattle.searches.specs.Eager.{CanSearch, HasPlaces, CanExplore, ExploreLeft, CanWipe, CanFinish, FinishLeft, LimitedLeft, VisitsLeft};
@@ -56,19 +53,6 @@ impl End {
             count,
         }
     }
-}
-
-// The site's own flag: 1 where it is a point.
-pub fn own_flag(points: &[u8], q: u32) -> u32
-    requires { ⌜ q < length (now points) ⌝ }
-    ensures { λ r. ⌜ r ≡ bit (marked (now (points .entry)) q) ⌝ }
-{
-    let at = wide(q);
-    let mark = points[at];
-    if 0 < mark {
-        return 1;
-    }
-    0
 }
 
 // Verifies a point, where it was not verified before, and flags it where it is listed.
@@ -218,27 +202,6 @@ fn wipe(s: &mut [u32], n: usize, b: usize, settled: usize, len: usize)
     words::zero(&mut s[..e]);
 }
 
-// The expansion from a site with its own flag. All words are 0 before.
-fn search(
-    starts: &[u32],
-    neighbours: &[u32],
-    weights: &[u32],
-    points: &[u8],
-    s: &mut [u32],
-    q: u32,
-    k: usize,
-    limit: u32,
-) -> End
-    requires { ⌜ CanSearch (network (now starts) (now neighbours) (now weights)) (now points) (now s) q k ⌝ }
-    ensures { λ r. ⌜ ExploreLeft (network (now (starts .entry)) (now (neighbours .entry)) (now (weights .entry))) (now (points .entry)) q k limit (now (s .entry)) (now (s .exit)) (8 * nodeCount (network (now (starts .entry)) (now (neighbours .entry)) (now (weights .entry)))) r ⌝ }
-{
-    let n = starts.len() - 1;
-    let own = n + wide(q);
-    s[own] = own_flag(points, q);
-    let b = 8 * n;
-    explore(starts, neighbours, weights, points, s, b, q, k, limit)
-}
-
 // Writes the list, unless the search is refused, and clears the words.
 fn finish(s: &mut [u32], answers: &mut [u32], n: usize, end: End) -> Answer
     requires { ⌜ CanFinish n (now s) (now answers) end ⌝ }
@@ -278,7 +241,8 @@ pub fn eager(
     ensures { λ r. ⌜ VisitsLeft (network (now (starts .entry)) (now (neighbours .entry)) (now (weights .entry))) (now (points .entry)) q k (now (visits .entry)) (now (visits .exit)) r ⌝ }
 {
     let n = starts.len() - 1;
-    let end = search(starts, neighbours, weights, points, s, q, k, limit);
+    let b = 8 * n;
+    let end = explore(starts, neighbours, weights, points, s, b, q, k, limit);
     let refused = end.refused;
     let at = 2 * n;
     let count = wide(end.count);
@@ -305,6 +269,7 @@ pub fn without_visits(
     ensures { λ r. ⌜ LimitedLeft (network (now (starts .entry)) (now (neighbours .entry)) (now (weights .entry))) (now (points .entry)) q k limit (now (s .entry)) (now (s .exit)) (now (answers .entry)) (now (answers .exit)) r ⌝ }
 {
     let n = starts.len() - 1;
-    let end = search(starts, neighbours, weights, points, s, q, k, limit);
+    let b = 8 * n;
+    let end = explore(starts, neighbours, weights, points, s, b, q, k, limit);
     finish(s, answers, n, end)
 }

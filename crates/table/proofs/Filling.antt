@@ -2,7 +2,7 @@
 -- entries, the places behind a row's entries are empty, and the queue has room. An offer that is popped is refused or taken by its row; both
 -- keep all this, and the room falls. When the queue is empty, the arrays are the table.
 -- Assumes nothing.
-use Prim.Native.Nat.{ℕ, zero, _+_, _-_, _*_, _≤_, _<_}
+use Prim.Native.Nat.{ℕ, _+_, _-_, _*_, _≤_, _<_}
 use mathlib.Core.Path.{_≡_, sym, ap, _∙_}
 use mathlib.Core.Logic.{_≢_, _⊎_, inl, inr, ⊎-elim}
 use mathlib.Core.Bool.{true}

@@ -1,7 +1,7 @@
 -- Filling under way, for a table of any contents: what waits has room, since each short row takes once at the most; and a table that is being mended
 -- stays so. What `remove` leaves.
 -- Assumes nothing.
-use Prim.Native.Nat.{ℕ, zero, _+_, _-_, _*_, _≤_, _<_}
+use Prim.Native.Nat.{ℕ, _+_, _-_, _*_, _≤_, _<_}
 use mathlib.Core.Path.{_≡_, refl, sym, ap, _∙_}
 use mathlib.Core.Logic.{⊎-elim}
 use mathlib.Core.Bool.{Bool, true, false}

@@ -2,21 +2,24 @@
 -- way; and the tally counts the other points that it has settled, below the present label and at it, where every node nearer than the present
 -- label is settled, and q is not. The measure is the number of nodes that are not settled.
 -- Assumes nothing.
-use mathlib.Core.Path.{refl}
+use mathlib.Core.Path.{_≡_, refl, ap, _∙_}
+use mathlib.Core.Bool.{Bool, not}
 use Prim.Native.Nat.{_+_, _-_, _*_, _≤_}
 use native.Mathlib.Omega.{arith}
 use lib.ListN.{length}
 use mathlib.Core.Logic.{inl, inr, ⊎-elim}
 use Rattle.expansion.proofs.Origins.{one}
 use borrow.Author.Needs.{needs}
-use borrow.Author.Tests.{eqb-true, eqb-false}
+use borrow.Author.Tests.{eqb-true, eqb-false, eq-eqb}
 use Rattle.network.specs.Network.{Network, network, nodeCount, neighboursOf}
 use Rattle.network.specs.Accepted.{Accepted}
+use Rattle.network.specs.Points.{verified}
 use Rattle.expansion.specs.Area.{Kept, Took, Followed}
+use Rattle.expansion.specs.Visited.{Visited}
 use Rattle.expansion.proofs.AreaLaws.{kept-trans, settledAs}
 use Rattle.expansion.proofs.AreaSearch.{took-area}
 use Rattle.expansion.proofs.Progress.{All, all-leads, Progress, progress-begun, progress-start, took-place, took-fits, took-follow, frame-settled, progress-settled}
-use Rattle.expansion.proofs.VisitLaws.{Counted, came-sum, counted-start, labels-exact, came, came-label, counted-next, answer-taken, answer-none}
+use Rattle.expansion.proofs.VisitLaws.{Counted, came-sum, counted-start, labels-exact, came, came-label, counted-next, on-site, answer-taken, answer-none}
 use Rattle.expansion.proofs.verify.visit.Statement.{statement}
 use Rattle.expansion.proofs.verify.visit.Tie as tie
 
@@ -41,7 +44,7 @@ abbrev taken-of : tie.After-come-to Inv-loop μ-loop → tie.After-taken Inv-loo
 taken-of c = c .before .before
 
 abbrev came-of : tie.After-open Inv-loop μ-loop → tie.After-come-to Inv-loop μ-loop
-came-of c = c .before .before .before .before .before .before .before .before .before .before .before
+came-of c = c .before .before .before .before .before .before .before .before .before
 
 abbrev G : tie.At-loop Inv-loop μ-loop → Network
 G l = let s = start-of l in network (s .args .starts .now) (s .args .neighbours .now) (s .args .weights .now)
@@ -134,27 +137,46 @@ come-to-requires c κs =
 same-length-2 : tie.Need-same-length-2 Inv-loop μ-loop
 same-length-2 c = search needs
 
-returns-2 : tie.Need-returns-2 Inv-loop μ-loop
-returns-2 c =
-    let d = c .before .before .before in
+-- the expansion has come to q, or counted k: what it leaves, with the answer
+left : (d : tie.After-come-to Inv-loop μ-loop) (y : Bool)
+    → let l = loop-of (taken-of d) in
+    let a = start-of l .args in
+    y ≡ verified (G l) (a .points .now) (a .p) (a .q) (a .k)
+    → Visited (G l) (a .points .now) (a .p) (a .q) (a .k) (a .s .now) (taken-of d .before .before .before .before .next .last .0) (a .b)
+    (record { yes = y; settled = l .loop .settled; len = taken-of d .taken .given .0 .1 .1 .1 .0 })
+left d y answer =
     let l = loop-of (taken-of d) in
     let t = took (taken-of d) in
     let e = l .loop .inv .1 in
     record {
-      answer =
-          answer-taken (accepted l) e t (start-of l .args .k) (counted d)
-          (⊎-elim (λ a. inl (a .taken)) (λ a. inr (eqb-true (taken-of d .taken .given .0 .1 .0) (start-of l .args .q) (a .1 .taken))) (c .before .if1 .came));
+      answer = answer;
       frame = kept-trans (frame l) (record { size = t .popped .frame .size; words = t .popped .frame .before });
       area = took-area (accepted l) (e .area) (e .searched) t;
       exact = labels-exact (accepted l) e t;
     }
+
+-- p is not on q, and the tally decides
+returns-2 : tie.Need-returns-2 Inv-loop μ-loop
+returns-2 c =
+    let d = c .before .before in
+    let l = loop-of (taken-of d) in
+    left d _
+    (answer-taken (accepted l) (l .loop .inv .1) (took (taken-of d)) (start-of l .args .k) (c .if3 .taken) (counted d)
+    (⊎-elim (λ a. inl (a .taken)) (λ a. inr (eqb-true (taken-of d .taken .given .0 .1 .0) (start-of l .args .q) (a .1 .taken))) (c .before .if1 .came)))
+
+same-length-3 : tie.Need-same-length-3 Inv-loop μ-loop
+same-length-3 c = search needs
+
+-- it is
+returns-3 : tie.Need-returns-3 Inv-loop μ-loop
+returns-3 c = left (c .before .before) _ (ap not (eq-eqb _ _ (c .if3 .left)) ∙ on-site _ _ _ _ _ (c .if3 .left))
 
 counts-requires : tie.Need-counts-requires Inv-loop μ-loop
 counts-requires c κs = search needs
 
 add-tally : tie.Need-add-tally Inv-loop μ-loop
 add-tally c =
-    let d = c .before .before .before .before .before in
+    let d = c .before .before .before in
     let l = loop-of (taken-of d) in
     record {
       fits =
@@ -164,26 +186,26 @@ add-tally c =
             came-sum (d .come-to .ensures),
             took-place (accepted l) (l .loop .inv .1) (took (taken-of d)),
             accepted l .few,
-            c .before .counts .ensures .1,
+            c .counts .ensures .1,
           );
     }
 
 settle-requires : tie.Need-settle-requires Inv-loop μ-loop
 settle-requires c κs =
-    let d = c .before .before .before .before .before .before in
+    let d = c .before .before .before .before in
     let t = took (taken-of d) in
     let l = loop-of (taken-of d) in
     took-fits (accepted l) (l .loop .inv .1) t
 
 add-settled : tie.Need-add-settled Inv-loop μ-loop
 add-settled c =
-    let d = c .before .before .before .before .before .before .before .before .before in
+    let d = c .before .before .before .before .before .before .before in
     let l = loop-of (taken-of d) in
     record { fits = omega (arith, took-place (accepted l) (l .loop .inv .1) (took (taken-of d)), accepted l .few) }
 
 open-requires : tie.Need-open-requires Inv-loop μ-loop
 open-requires c κs =
-    let d = c .before .before .before .before .before .before .before .before .before .before in
+    let d = c .before .before .before .before .before .before .before .before in
     let l = loop-of (taken-of d) in
     rw (c .before .before .before .settle .ensures) (took-follow (accepted l) (l .loop .inv .1) (took (taken-of d)))
 
@@ -202,7 +224,7 @@ loop-again c =
     let l = loop-of t in
     let ok = accepted l in
     let e = l .loop .inv .1 in
-    let r = o .before .before .before .before .before .before .before in (
+    let r = o .before .before .before .before .before .before in (
       kept-trans (l .loop .inv .0) (frame-settled ok e (took t) (all-leads ok _) (followed o)),
       progress-settled ok e (took t) (all-leads ok _) (followed o),
       counted-next ok e (took t) (start-of l .pre .inside) (eqb-false (t .taken .given .0 .1 .0) (start-of l .args .q) (r .before .if2 .left)) (counted d) (followed o)
@@ -227,6 +249,8 @@ visit-spec =
     come-to-requires
     same-length-2
     returns-2
+    same-length-3
+    returns-3
     counts-requires
     add-tally
     settle-requires

@@ -12,17 +12,20 @@ use borrow.Author.Needs.{needs}
 use Rattle.searches.proofs.eager.eager.Statement.{statement}
 use Rattle.searches.proofs.eager.eager.Tie as tie
 
-abbrev search-of : tie.After-wide → tie.After-search
-search-of w = w .before .before .before
+abbrev explore-of : tie.After-wide → tie.After-explore
+explore-of w = w .before .before .before
 
-abbrev start-of : tie.After-search → tie.Start
+abbrev start-of : tie.After-explore → tie.Start
 start-of e = e .before .before .before .before .before .before .before .before .before
 
 sub-n : tie.Need-sub-n
 sub-n c = search needs
 
-search-requires : tie.Need-search-requires
-search-requires c κs = c .before .before .before .before .before .before .before .before .pre .0
+mul-b : tie.Need-mul-b
+mul-b c = search needs
+
+explore-requires : tie.Need-explore-requires
+explore-requires c κs = record { search = c .before .before .before .before .before .before .before .before .pre .0; base = omega arith }
 
 mul-at : tie.Need-mul-at
 mul-at c = search needs
@@ -33,18 +36,18 @@ wide-requires c κs = search needs
 copy-requires : tie.Need-copy-requires
 copy-requires c κs =
     let w = c .before .before .before in
-    let e = search-of w in
+    let e = explore-of w in
     let p = start-of e .pre in
-    let n = e .search .ensures .few in (
-      omega (arith, n, w .wide .ensures, e .search .ensures .size, p .0 .size),
+    let n = e .explore .ensures .few in (
+      omega (arith, n, w .wide .ensures, e .explore .ensures .size, p .0 .size),
       omega (arith, n, w .wide .ensures, p .1 .1),
     )
 
 finish-requires : tie.Need-finish-requires
 finish-requires c κs =
-    let e = search-of (c .before .before .before) in
+    let e = explore-of (c .before .before .before) in
     let p = start-of e .pre in
-    can-finish (p .0 .accepted) (e .search .ensures) (p .1 .0)
+    can-finish (p .0 .accepted) (e .explore .ensures) (p .1 .0)
 
 same-length : tie.Need-same-length
 same-length c = search needs
@@ -56,8 +59,8 @@ same-length-3 : tie.Need-same-length-3
 same-length-3 c =
     let j = c .before .before .before .before .before .before .before in
     let w = j .before in
-    let e = search-of w in
-    let few = e .search .ensures .few in
+    let e = explore-of w in
+    let few = e .explore .ensures .few in
     ⊎-elim
     (λ a. answered-length _ _ _ (a .6 ∙ a .3 .ensures) (omega (arith, few, w .wide .ensures, start-of e .pre .1 .1)))
     (λ a. ap length (a .1))
@@ -68,10 +71,10 @@ returns c =
     let f = c .before .before .before .before in
     let j = f .before .before .before in
     let w = j .before in
-    let e = search-of w in
+    let e = explore-of w in
     let ok = start-of e .pre .0 .accepted in (
-      limited-left ok (e .search .ensures) (f .finish .ensures),
-      visits-left ok (e .search .ensures) (f .finish .ensures)
+      limited-left ok (e .explore .ensures) (f .finish .ensures),
+      visits-left ok (e .explore .ensures) (f .finish .ensures)
           (λ h.
           ⊎-elim
           (λ a. absurd (true≢false (sym h ∙ not-true _ (a .0 .taken))))
@@ -89,7 +92,8 @@ eager-spec =
     tie.close
     (tie.spec
     sub-n
-    search-requires
+    mul-b
+    explore-requires
     mul-at
     wide-requires
     copy-requires

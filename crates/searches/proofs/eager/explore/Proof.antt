@@ -122,7 +122,7 @@ mul-visits c = search needs
 start-requires : tie.Need-start-requires Inv-loop μ-loop
 start-requires c κs =
     let p = c .before .before .before .before .before .before .pre in
-    (can-expand p .blank, (can-expand p .size, p .site, p .accepted .few))
+    (can-expand p .blank, (can-expand p .size, p .search .site, p .search .accepted .few))
 
 loop-holds : tie.Need-loop-holds Inv-loop μ-loop
 loop-holds c =
@@ -193,7 +193,7 @@ returns-2 c =
     rw (c .beyond .ensures)
     record {
       size = t .popped .frame .size ∙ flags-set k .size ∙ l .loop .inv .0 ∙ l .before .before .before .start .ensures .frame .size;
-      area = took-area (start-of l .pre .accepted) (e .progress .area) (e .progress .searched) t;
+      area = took-area (start-of l .pre .search .accepted) (e .progress .area) (e .progress .searched) t;
       blank = λ j h m. t .popped .frame .before j m ∙ e .blank j h m;
       few = few-counted (start-of l .pre) e;
       complete = λ a. absurd (true≢false a);
@@ -210,19 +210,19 @@ settle-requires : tie.Need-settle-requires Inv-loop μ-loop
 settle-requires c κs =
     let k = c .before .before .before .before in
     let l = loop-of (taken-of k) in
-    took-fits (start-of l .pre .accepted) (exploring k .progress) (took-after k)
+    took-fits (start-of l .pre .search .accepted) (exploring k .progress) (took-after k)
 
 add-settled : tie.Need-add-settled Inv-loop μ-loop
 add-settled c =
     let k = look-of (c .before .before) in
-    let ok = start-of (loop-of (taken-of k)) .pre .accepted in
+    let ok = start-of (loop-of (taken-of k)) .pre .search .accepted in
     record { fits = omega (arith, took-place ok (exploring k .progress) (took-after k), ok .few) }
 
 loop-less : tie.Need-loop-less Inv-loop μ-loop
 loop-less c =
     let k = look-of (c .before .before .before) in
     let l = loop-of (taken-of k) in
-    omega (arith, took-place (start-of l .pre .accepted) (exploring k .progress) (took-after k))
+    omega (arith, took-place (start-of l .pre .search .accepted) (exploring k .progress) (took-after k))
 
 loop-again : tie.Need-loop-again Inv-loop μ-loop
 loop-again c =
@@ -243,7 +243,7 @@ open-requires : tie.Need-open-requires Inv-loop μ-loop
 open-requires c κs =
     let s = c .before .before .before .before in
     let k = look-of s in
-    rw (s .settle .ensures) (took-follow (start-of (loop-of (taken-of k)) .pre .accepted) (exploring k .progress) (took-after k))
+    rw (s .settle .ensures) (took-follow (start-of (loop-of (taken-of k)) .pre .search .accepted) (exploring k .progress) (took-after k))
 
 -- the place of the visit
 abbrev open-of : tie.After-wide Inv-loop μ-loop → tie.After-open Inv-loop μ-loop
@@ -268,19 +268,19 @@ wide-requires c κs = search needs
 add-at : tie.Need-add-at Inv-loop μ-loop
 add-at c =
     let l = loop-of (taken-of (look-of (settle-of (open-of c)))) in
-    record { fits = omega (arith, place c .0, place c .1, start-of l .pre .accepted .few) }
+    record { fits = omega (arith, place c .0, place c .1, start-of l .pre .search .accepted .few) }
 
 mul-s : tie.Need-mul-s Inv-loop μ-loop
 mul-s c =
     let l = loop-of (taken-of (look-of (settle-of (open-of c)))) in
-    record { fits = omega (arith, place c .0, place c .1, start-of l .pre .accepted .few) }
+    record { fits = omega (arith, place c .0, place c .1, start-of l .pre .search .accepted .few) }
 
 slice-write-s : tie.Need-slice-write-s Inv-loop μ-loop
 slice-write-s c =
     let k = look-of (settle-of (open-of c)) in
     let l = loop-of (taken-of k) in
     let p = start-of l .pre in
-    let size = frame-settled (p .accepted) (exploring k .progress) (took-after k) (met-leads (p .accepted) _ _ _ (p .some)) (followed (open-of c)) .size in
+    let size = frame-settled (p .search .accepted) (exploring k .progress) (took-after k) (met-leads (p .search .accepted) _ _ _ (p .search .some)) (followed (open-of c)) .size in
     omega (arith, place c .0, place c .1, size, flags-set k .size, l .loop .inv .1 .progress .area .queue .room, p .base)
 
 add-count : tie.Need-add-count Inv-loop μ-loop
@@ -293,7 +293,7 @@ loop-less-2 c =
     let k = look-of (settle-of (open-of c)) in
     let l = loop-of (taken-of k) in
     let p = start-of l .pre in
-    omega (arith, took-place (p .accepted) (exploring k .progress) (took-after k))
+    omega (arith, took-place (p .search .accepted) (exploring k .progress) (took-after k))
 
 loop-again-2 : tie.Need-loop-again-2 Inv-loop μ-loop
 loop-again-2 c =
@@ -309,7 +309,7 @@ loop-again-2 c =
     let x = exploring-opened p e t (told k) y (below s few) (followed o) in
     let v = visited-kept p e t (followed o .frame) (visited k) in
     let at = place c in (
-      simp length-set (frame-settled (p .accepted) (e .progress) t (met-leads (p .accepted) _ _ _ (p .some)) (followed o) .size ∙ flags-set k .size ∙ l .loop .inv .0),
+      simp length-set (frame-settled (p .search .accepted) (e .progress) t (met-leads (p .search .accepted) _ _ _ (p .search .some)) (followed o) .size ∙ flags-set k .size ∙ l .loop .inv .0),
       rw (at .0) (exploring-kept p x (l .loop .count) _ (at .1)),
       rw (at .0) (visited-more p x (l .loop .count) _ (at .1) v (next-visit p e t y)),
     )
