@@ -5,7 +5,7 @@
  *     cc -std=c11 -Wall -Wextra -Wpedantic -Werror -Iinclude c/network_n.c target/staticlib/liboverlap.a -o target/network_n
  *     target/network_n
  *
- * The gate compares the output with network_n.expected, which is worked out from document 01 and Asks 4 and 8 of document 02.
+ * The gate compares the output with network_n.expected, which is worked out from document 01 and Asks 4, 6 and 8 of document 02.
  *
  * What a caller lends, by the names of overlap.h. n is the number of nodes, A that of arcs; a road is two arcs, one from each end:
  *
@@ -14,7 +14,7 @@
  *     points                n bytes: the number of points (lockers) on each node, 0 to 15
  *     scratch               SCRATCH_LEN (below) words or more, for eager, verify and the short query EAGER_SCRATCH_LEN, of any contents; a call
  *                           that is accepted leaves them all 0
- *     answers               n words or more; the list stands in the first `length`, distances fill n
+ *     answers               n words or more; the list stands in the first `length`, without the points on q itself; distances fill n
  *     visits                n words or more; the nodes that eager's count counts stand in the first `count`, by distance from q and then by
  *                           node
  *     ids, distances        of nearest k words each or more; of a table n x K words each, row i from i x K on, and `places` is K; a node with
@@ -176,20 +176,21 @@ static void print_nearest(void)
     print_nearest_of(0, 8);
 }
 
-static const char *verdict_of(uint32_t p, uint32_t k)
+static const char *verdict_of(uint32_t p, uint32_t q, uint32_t k)
 {
-    overlap_verdict verdict = overlap_verify(LEND_NETWORK(n), LEND(n_points), p, 0, k, LEND_EAGER_SCRATCH);
+    overlap_verdict verdict = overlap_verify(LEND_NETWORK(n), LEND(n_points), p, q, k, LEND_EAGER_SCRATCH);
     expect_accepted(verdict.number);
     return verdict.yes ? "yes" : "no";
 }
 
 static void print_verdicts(void)
 {
-    static const uint32_t points[] = { 2, 4, 5 };
-    printf("\nVerify: is a site on 0 among the k nearest of the point?\n");
-    for (size_t i = 0; i < 3; i++) {
-        uint32_t p = points[i];
-        printf("point %u: k = 1 %s, k = 2 %s\n", (unsigned)p, verdict_of(p, 1), verdict_of(p, 2));
+    /* A point and a site each; the last point is on the site itself. */
+    static const uint32_t pairs[][2] = { { 2, 0 }, { 4, 0 }, { 5, 0 }, { 2, 2 } };
+    printf("\nVerify: is the point on the list of the site?\n");
+    for (size_t i = 0; i < 4; i++) {
+        uint32_t p = pairs[i][0], q = pairs[i][1];
+        printf("point %u, site %u: k = 1 %s, k = 2 %s\n", (unsigned)p, (unsigned)q, verdict_of(p, q, 1), verdict_of(p, q, 2));
     }
 }
 

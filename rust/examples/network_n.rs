@@ -1,6 +1,6 @@
 //! Network N of document 01 through every call. It prints what `c/network_n.c` prints, and
 //! `tests/network_n.rs` compares the output with `c/network_n.expected`, which is worked out from
-//! document 01 and Asks 4 and 8 of document 02.
+//! document 01 and Asks 4, 6 and 8 of document 02.
 //!
 //! Run it with `cargo run --release --example network_n`.
 
@@ -71,17 +71,15 @@ fn print_nearest(engine: &mut Engine, points: &Points, out: &mut impl Write) -> 
 }
 
 fn print_verdicts(engine: &mut Engine, points: &Points, out: &mut impl Write) -> Done {
-    writeln!(
-        out,
-        "\nVerify: is a site on 0 among the k nearest of the point?"
-    )?;
-    for p in points.iter() {
+    writeln!(out, "\nVerify: is the point on the list of the site?")?;
+    // The last one is on the site itself.
+    for (p, q) in [(2, 0), (4, 0), (5, 0), (2, 2)] {
         let mut verdict = |k| {
-            let yes = engine.verify(points, p, 0, k)?;
+            let yes = engine.verify(points, p, q, k)?;
             Ok::<_, Refusal>(if yes { "yes" } else { "no" })
         };
         let (one, two) = (verdict(1)?, verdict(2)?);
-        writeln!(out, "point {p}: k = 1 {one}, k = 2 {two}")?;
+        writeln!(out, "point {p}, site {q}: k = 1 {one}, k = 2 {two}")?;
     }
     Ok(())
 }

@@ -221,10 +221,10 @@ impl<'a> IntoIterator for Nearest<'a> {
 /// // Network N of document 01.
 /// let network = Network::from_roads(6, &[(0, 1, 4), (0, 3, 5), (1, 2, 3), (2, 4, 7), (3, 4, 3)])?;
 /// let mut engine = Engine::new(&network);
-/// // P4: the site's own point is listed.
+/// // P4: the site's own point isn't listed. Its node is expanded all the same.
 /// let points = Points::on(&network, [2, 4, 5])?;
 /// let expansion = engine.eager(&points, 2, 1, 65_535)?;
-/// assert_eq!((expansion.points, expansion.expanded), (&[2, 4][..], 3));
+/// assert_eq!((expansion.points, expansion.expanded), (&[4][..], 3));
 /// assert_eq!(expansion.visits, [2, 1, 0]);
 ///
 /// // Without points all that can be reached is expanded. Nodes 0 and 4 are both 7 from node 2.
@@ -255,16 +255,16 @@ pub struct Expansion<'a> {
 /// let network = Network::from_roads(6, &[(0, 1, 4), (0, 3, 5), (1, 2, 3), (2, 4, 7), (3, 4, 3)])?;
 /// let points = Points::on(&network, [2, 4, 5])?;
 /// let mut engine = Engine::new(&network);
-/// // P4: the site's own point is listed.
+/// // P4: the site's own point isn't listed.
 /// let listed = engine.short_query(&points, 2)?;
-/// assert_eq!((listed.points, listed.expanded), (&[2, 4][..], 3));
+/// assert_eq!((listed.points, listed.expanded), (&[4][..], 3));
 /// # Ok(())
 /// # }
 /// ```
 #[derive(Clone, Copy, Debug, PartialEq, Eq)]
 pub struct Listed<'a> {
-    /// The nodes whose points are listed. "Lists are ascending by node." Document 02 (Ask 8): "A
-    /// node is listed once, as its lockers fare alike."
+    /// The nodes whose points are listed. "Lists are ascending by node." Document 02 (Ask 6): "a point
+    /// on q isn't listed". (Ask 8): "A node is listed once, as its lockers fare alike."
     pub points: &'a [u32],
     /// "the number of nodes m that can be reached from q and have fewer than k points p (one on m
     /// included) with d(m, p) < d(m, q)". Each locker of a node is a point here.

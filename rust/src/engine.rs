@@ -13,10 +13,10 @@ use crate::{Distances, Expansion, Listed, Nearest, Network, Points, Refusal};
 /// call.
 ///
 /// Document 01: "For query node q and k, point p is listed if it can be reached from q and fewer
-/// than k other points p' have d(p, p') < d(p, q). The point p itself doesn't count. A point on q
-/// is listed. Lists are ascending by node." Document 02 (Ask 8): "Each counts, so a locker has its
-/// companions on the node as others at distance 0. A node is listed once, as its lockers fare
-/// alike."
+/// than k other points p' have d(p, p') < d(p, q). The point p itself doesn't count. [...] Lists are
+/// ascending by node." Document 02 (Ask 6): "The lease edition now says that a point on q isn't
+/// listed." (Ask 8): "Each counts, so a locker has its companions on the node as others at distance
+/// 0. A node is listed once, as its lockers fare alike."
 ///
 /// ```
 /// use overlap::{Engine, Network, Points};
@@ -161,6 +161,7 @@ impl Engine {
 
     /// Document 01: "Verify: for a marked p and q, yes or no by the rule above", the rule of the
     /// list for q and k. p is marked where it has a locker; the answer is the same for each there.
+    /// Document 02 (Ask 6): "Verify of the point on q says no."
     ///
     /// ```
     /// use overlap::{Engine, Network, Points, Refusal};
@@ -181,11 +182,12 @@ impl Engine {
     /// assert!(engine.verify(&points, 2, 0, 1)?);
     /// assert!(!engine.verify(&two, 2, 0, 1)?);
     /// assert!(engine.verify(&two, 2, 0, 2)?);
-    /// // No locker is nearer to them than a site on node 2 itself.
-    /// assert!(engine.verify(&two, 2, 2, 1)?);
+    /// // From a site on node 2 itself both get no.
+    /// assert!(!engine.verify(&two, 2, 2, 16)?);
     ///
-    /// // Node 3 has no locker.
+    /// // Node 3 has no locker, whether or not the site is on it.
     /// assert_eq!(engine.verify(&points, 3, 0, 1), Err(Refusal::Mark));
+    /// assert_eq!(engine.verify(&points, 3, 3, 1), Err(Refusal::Mark));
     /// # Ok(())
     /// # }
     /// ```
@@ -261,8 +263,9 @@ impl Engine {
     /// let network = Network::from_roads(6, &roads)?;
     /// let points = Points::on(&network, [2, 4, 5])?;
     /// let mut engine = Engine::new(&network);
+    /// // The locker on node 2 itself isn't listed for a site there.
     /// let listed = engine.short_query(&points, 2)?;
-    /// assert_eq!((listed.points, listed.expanded), (&[2, 4][..], 3));
+    /// assert_eq!((listed.points, listed.expanded), (&[4][..], 3));
     /// # Ok(())
     /// # }
     /// ```
@@ -314,7 +317,8 @@ impl Engine {
     /// let roads = [(0, 1, 4), (0, 3, 5), (1, 2, 3), (2, 4, 7), (3, 4, 3)];
     /// let network = Network::from_roads(6, &roads)?;
     /// let points = Points::on(&network, [2, 4, 5])?;
-    /// assert_eq!(Engine::new(&network).lazy_ep(&points, 5, 1)?, [5]);
+    /// // The locker on node 4 itself isn't listed for a site there.
+    /// assert_eq!(Engine::new(&network).lazy_ep(&points, 4, 1)?, [2]);
     /// # Ok(())
     /// # }
     /// ```

@@ -4,8 +4,8 @@
 //! lockers have a new site among their k nearest, by road distance. It is written in Rattle and
 //! proved: each call of it meets a contract that says what document 01, the requirements of the
 //! build, says, with what document 02 changed: several lockers at one junction (Ask 8), less scratch
-//! for eager, verify and the short query (Ask 5), and eager's visits (Ask 4). Each item of this crate
-//! quotes the sentence that it is.
+//! for eager, verify and the short query (Ask 5), eager's visits (Ask 4), and no locker on the list of
+//! a site at its own junction (Ask 6). Each item of this crate quotes the sentence that it is.
 //!
 //! | Type | What it is |
 //! |---|---|

@@ -230,6 +230,9 @@ impl Table {
     /// let mut table = Table::build(&network, Points::on(&network, [2, 4, 5])?, 2)?;
     /// assert_eq!(table.query(0, 1)?, [2]);
     ///
+    /// // P4: the point on node 2 itself isn't listed.
+    /// assert_eq!(table.query(2, 1)?, [4]);
+    ///
     /// // k is at most K - 1.
     /// assert_eq!(table.query(0, 2), Err(Refusal::K));
     /// # Ok(())

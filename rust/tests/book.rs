@@ -5,7 +5,9 @@ mod common;
 
 use common::all_pairs::AllPairs;
 use common::book::{Book, Deed, Line};
+use common::call::assert_outcome;
 use common::change::ChangeCall;
+use common::eager::Short;
 use common::inputs::{no_node, no_places, some_node, some_places, some_points, too_short};
 use common::lent::Lent;
 use common::network::{network_n, OwnedNetwork};
@@ -182,14 +184,22 @@ fn tally_table(table: &PlainTable, points: &[u8], tally: &mut Tally) {
 
 const REPEATED: &str = "a row that holds a node several times";
 const CUT: &str = "a row cut in the midst of a node's lockers";
+const ON_A_POINT: &str = "a site on a point";
 
 /// "The searches are then lent this network, these marks and arrays that 10 lets pass": all four
-/// list the same for each site and each k from 1 to K - 1.
-fn assert_searches(state: &State, pairs: &AllPairs, random: &mut Random) {
+/// list the same for each site and each k from 1 to K - 1, and so does the short query. Ask 6: "their
+/// agreement after any updates is judged by the new wording."
+fn assert_searches(state: &State, pairs: &AllPairs, random: &mut Random, tally: &mut Tally) {
     for k in 1..state.table.places {
         for q in 0..state.points.len() as u32 {
             let mut site = Site::exact(&state.network, &state.points, (q, k), random);
             let list = site.list(pairs);
+            tally.add_if(state.points[q as usize] > 0, ON_A_POINT);
+            if k == 1 {
+                let short = Short::exact(&state.network, &state.points, q, random);
+                let outcome = short.accepted(&list, site.expanded(pairs));
+                assert_outcome(short, &outcome);
+            }
             let mut by_eager = site.for_eager(random);
             let listing = by_eager.run(EAGER);
             assert_listing(listing, &by_eager, &list);
@@ -225,7 +235,7 @@ fn try_list(network: &OwnedNetwork, length: u32, random: &mut Random, tally: &mu
         assert_line(&mut state, &mut book, random, tally);
     }
     if random.once_in(8) {
-        assert_searches(&state, &pairs, random);
+        assert_searches(&state, &pairs, random, tally);
     }
 }
 
@@ -251,7 +261,7 @@ fn lists_of_random_networks() {
     for deed in [Deed::Insert, Deed::Remove] {
         tally.assert_at_least(500, &refusal_name(deed));
     }
-    for name in [REPEATED, CUT] {
+    for name in [REPEATED, CUT, ON_A_POINT] {
         tally.assert_at_least(2_000, name);
     }
 }

@@ -8,24 +8,15 @@ use common::damage;
 use common::inputs::{
     no_k, no_node, no_places, some_e, some_k, some_node, some_places, some_points,
 };
-use common::network::{network_n, OwnedNetwork, N_NODES, N_POINTS, N_ROADS};
+use common::network::{accepted, network_n, N_NODES, N_POINTS, N_ROADS};
 use common::plain::plain_check;
 use common::random::Random;
+use common::searches::assert_site;
 use common::shapes::{belt, grid, random_network, weight_by_product, weighted};
 use common::table::PlainTable;
 use common::table_damage;
 use overlap::calls::{self, eager_scratch_len, scratch_len};
 use overlap::{Engine, Expansion, Network, Points, Refusal, Table, NONE};
-
-/// The network of these arrays.
-fn accepted(arrays: &OwnedNetwork) -> Result<Network, Refusal> {
-    let OwnedNetwork {
-        starts,
-        neighbours,
-        weights,
-    } = arrays.clone();
-    Network::new(starts, neighbours, weights)
-}
 
 /// The answer of eager that has this list and these visits.
 fn expansion<'a>(points: &'a [u32], visits: &'a [u32]) -> Expansion<'a> {
@@ -54,18 +45,11 @@ mod network_n {
             (0, 1, &[2][..], &[0][..]),
             (0, 2, &[2, 4], &[0, 1, 3, 2]),
             (1, 1, &[2], &[1, 0]),
-            (2, 1, &[2, 4], &[2, 1, 0]),
-            (5, 1, &[5], &[5]),
+            (2, 1, &[4], &[2, 1, 0]),
+            (5, 1, &[], &[5]),
         ] {
-            let expansion = expansion(list, visits);
-            let expanded = expansion.expanded;
-            assert_eq!(engine.eager(&points, q, k, expanded), Ok(expansion));
-            assert_eq!(engine.lazy(&points, q, k), Ok(list));
-            assert_eq!(engine.lazy_ep(&points, q, k), Ok(list));
-            let refusal = engine.eager(&points, q, k, expanded - 1);
-            assert_eq!(refusal, Err(Refusal::Limit));
             let mut table = Table::build(&network, points.clone(), k + 1).unwrap();
-            assert_eq!(table.query(q, k), Ok(list));
+            assert_site(&mut engine, &mut table, (q, k), list, visits);
         }
     }
 

@@ -22,12 +22,13 @@ mod cases {
     /// A case: q, k, the list, the expanded count and the visits.
     type Case = (u32, u32, &'static [u32], u32, &'static [u32]);
 
+    /// Ask 6: "In P4 the list becomes 4, in P5 it becomes empty. Expanded counts are untouched."
     const P1_TO_P5: [Case; 5] = [
         (0, 1, &[2], 1, &[0]),
         (0, 2, &[2, 4], 4, &[0, 1, 3, 2]),
         (1, 1, &[2], 2, &[1, 0]),
-        (2, 1, &[2, 4], 3, &[2, 1, 0]),
-        (5, 1, &[5], 1, &[5]),
+        (2, 1, &[4], 3, &[2, 1, 0]),
+        (5, 1, &[], 1, &[5]),
     ];
 
     fn pairs_of_n() -> AllPairs {
@@ -99,7 +100,8 @@ mod lockers {
         (0..).zip(points).flat_map(of_node).collect()
     }
 
-    /// The nodes of the lockers that are listed, and those of all that are not.
+    /// The nodes of the lockers that are listed, and those of all that are not. Ask 6: "a point on q
+    /// isn't listed".
     fn listed(pairs: &AllPairs, lockers: &[u32], q: u32, k: u32) -> [Vec<u32>; 2] {
         let mut lists = [vec![], vec![]];
         for (at, &p) in lockers.iter().enumerate() {
@@ -108,7 +110,7 @@ mod lockers {
                 |&p: &u32| row[p as usize].is_some() && row[p as usize] < row[q as usize];
             let others = [&lockers[..at], &lockers[at + 1..]].concat();
             let nearer = others.iter().filter(|p| is_nearer(p)).count();
-            let yes = row[q as usize].is_some() && nearer < k as usize;
+            let yes = p != q && row[q as usize].is_some() && nearer < k as usize;
             lists[usize::from(!yes)].push(p);
         }
         lists
@@ -128,7 +130,7 @@ mod lockers {
     /// "A node is listed once, as its lockers fare alike."
     #[test]
     fn fare_alike_and_give_the_lists() {
-        let mut several = 0;
+        let (mut several, mut on_q) = (0, 0);
         try_random(|pairs, points, q, k| {
             let [mut yes, no] = listed(pairs, &all(points), q, k);
             assert!(yes.iter().all(|p| !no.contains(p)));
@@ -136,8 +138,9 @@ mod lockers {
             yes.dedup();
             assert_eq!(pairs.plain_listed(points, q, k), yes);
             several += usize::from(lockers > yes.len());
+            on_q += usize::from(points[q as usize] > 1);
         });
-        assert!(several >= 400, "{several}");
+        assert!(several >= 300 && on_q >= 300, "{several}, {on_q}");
     }
 
     /// "[...] the expanded count now count lockers". Ask 4: "the nodes that its count counts, by

@@ -140,7 +140,8 @@ mod samples {
     fn chosen_sites_only() {
         let (status, out, _) = run_sample("n", &["--site", "5", "--site", "0"]);
         assert_eq!(status, 0);
-        assert!(out.contains("list for k = 1\n5      1          5\n0      1          2\n\ntable"));
+        let lists = "list for k = 1\n5      1          none\n0      1          2\n\ntable";
+        assert!(out.contains(lists), "{out}");
         let (status, out, _) = run_sample("n", &["--site", "4", "--visits", "--site", "2"]);
         assert_eq!(status, 0);
         assert!(out.contains("visits for k = 1\n4      4, 3\n2      2, 1, 0\n\ntable"));

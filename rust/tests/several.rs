@@ -1,5 +1,5 @@
-//! Several lockers on a node of network N, worked out by hand from document 01 and Ask 8 of document
-//! 02, through every call, and two nodes with every number of lockers.
+//! Several lockers on a node of network N, worked out by hand from document 01 and Asks 6 and 8 of
+//! document 02, through every call, and two nodes with every number of lockers.
 //!
 //! The distances of N, of which node 5 is alone:
 //!
@@ -15,6 +15,7 @@ mod common;
 
 use common::all_pairs::AllPairs;
 use common::network::{N_NODES, N_ROADS};
+use common::searches::assert_site;
 use common::table::PlainTable;
 use overlap::{Engine, Network, Points, Refusal, Table, NONE};
 
@@ -183,10 +184,12 @@ mod verify {
         assert_verdicts([0, 0, 15, 0, 1, 1], (2, 0), 15);
     }
 
+    /// Ask 6: "Verify of the point on q says no", of any number there and for every k.
     #[test]
-    fn no_companion_is_nearer_than_a_site_on_the_node_itself() {
-        assert_verdicts(TWO_ON_2, (2, 2), 1);
-        assert_verdicts([0, 0, 15, 0, 15, 1], (2, 2), 1);
+    fn no_locker_on_q_is_listed() {
+        assert_verdicts([0, 0, 1, 0, 1, 1], (2, 2), 17);
+        assert_verdicts(TWO_ON_2, (2, 2), 17);
+        assert_verdicts([0, 0, 15, 0, 15, 1], (2, 2), 17);
     }
 
     /// Both lockers on 2 are nearer to 4 (7) than site 0 is (8).
@@ -211,21 +214,10 @@ mod searches {
     use super::*;
 
     fn assert_list(lockers: [u8; 6], (q, k): (u32, u32), list: &[u32], visits: &[u32]) {
-        let (mut engine, points) = n_with(lockers);
-        let expanded = visits.len() as u32;
-        let expansion = engine.eager(&points, q, k, expanded).unwrap();
-        assert_eq!((expansion.points, expansion.expanded), (list, expanded));
-        assert_eq!(expansion.visits, visits);
-        let beyond = engine.eager(&points, q, k, expanded - 1);
-        assert_eq!(beyond, Err(Refusal::Limit));
-        assert_eq!(engine.lazy(&points, q, k), Ok(list));
-        assert_eq!(engine.lazy_ep(&points, q, k), Ok(list));
-        if k == 1 {
-            let short = engine.short_query(&points, q).unwrap();
-            assert_eq!((short.points, short.expanded), (list, expanded));
-        }
+        let (mut engine, _) = n_with(lockers);
         for places in k + 1..=17 {
-            assert_eq!(table_with(lockers, places).query(q, k), Ok(list));
+            let mut table = table_with(lockers, places);
+            assert_site(&mut engine, &mut table, (q, k), list, visits);
         }
     }
 
@@ -245,18 +237,30 @@ mod searches {
         assert_list(TWO_ON_2, (0, 3), &[2, 4], &[0, 1, 3, 2]);
     }
 
-    /// P4 with a second locker on 2, where the site is: both are listed, as one node.
+    /// P4 with further lockers on 2, where the site is: none is listed, and none is nearer to 4 than
+    /// the site.
     #[test]
-    fn the_lockers_on_q_are_listed_once() {
-        assert_list(TWO_ON_2, (2, 1), &[2, 4], &[2, 1, 0]);
-        assert_list([0, 0, 15, 0, 1, 1], (2, 1), &[2, 4], &[2, 1, 0]);
+    fn no_locker_on_q_is_listed() {
+        assert_list(TWO_ON_2, (2, 1), &[4], &[2, 1, 0]);
+        assert_list([0, 0, 15, 0, 1, 1], (2, 1), &[4], &[2, 1, 0]);
+    }
+
+    /// P4 with two lockers on 4: each has the other nearer than the site, and those on 2 are no nearer
+    /// to it than the site.
+    #[test]
+    fn companions_on_another_node_count_as_before() {
+        for on_2 in [1, 2, 15] {
+            assert_list([0, 0, on_2, 0, 2, 1], (2, 1), &[], &[2, 1, 0]);
+            assert_list([0, 0, on_2, 0, 2, 1], (2, 2), &[4], &[2, 1, 0]);
+            assert_list([0, 0, on_2, 0, 2, 1], (2, 3), &[4], &[2, 1, 0, 4, 3]);
+        }
     }
 
     /// P5 with 15 lockers on the node that is alone.
     #[test]
     fn a_node_alone() {
         for k in [1, 14, 15, 16] {
-            assert_list([0, 0, 0, 0, 0, 15], (5, k), &[5], &[5]);
+            assert_list([0, 0, 0, 0, 0, 15], (5, k), &[], &[5]);
         }
     }
 }

@@ -146,17 +146,16 @@ mod few_nodes {
         }
     }
 
-    /// 12 words for every k up to 16, and for up to 15 lockers. By hand, they are listed, and the
-    /// node is expanded.
+    /// 12 words for every k up to 16, and for up to 15 lockers. By hand, none is listed, as the site
+    /// is on their node, and the node is expanded.
     #[test]
     fn one_node_alone() {
         let mut random = Random::new(2);
         let town = Town::of(OwnedNetwork::from_roads(1, &[]));
         for lockers in 0..=15 {
-            let list = &[0][..usize::from(lockers.min(1))];
             for k in 1..=16 {
                 let call = Eager::exact(&town.network, &[lockers], (0, k, 1), &mut random);
-                town.try_call(call, &mut random, |c| c.accepted(list, &[0]));
+                town.try_call(call, &mut random, |c| c.accepted(&[], &[0]));
                 town.try_site(&[lockers], (0, k), &mut random);
             }
         }
@@ -202,10 +201,10 @@ mod fifteen_lockers_on_one_of_two_nodes {
         assert_site((0, 3), &[], &[0]);
     }
 
-    /// From site 1, no locker has another nearer, and node 0 has all 15 as far as the site.
+    /// From site 1, the lockers are on the site, and node 0 has all 15 as far as the site.
     #[test]
     fn k_of_3_from_the_node_itself() {
-        assert_site((1, 3), &[1], &[1, 0]);
+        assert_site((1, 3), &[], &[1, 0]);
     }
 
     #[test]
@@ -215,7 +214,7 @@ mod fifteen_lockers_on_one_of_two_nodes {
             let list: &[u32] = if k >= 15 { &[1] } else { &[] };
             let visits: &[u32] = if k == 16 { &[0, 1] } else { &[0] };
             assert_site((0, k), list, visits);
-            assert_site((1, k), &[1], &[1, 0]);
+            assert_site((1, k), &[], &[1, 0]);
         }
     }
 }

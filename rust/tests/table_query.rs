@@ -175,8 +175,8 @@ mod network_n {
             (0, 1, &[2][..]),
             (0, 2, &[2, 4]),
             (1, 1, &[2]),
-            (2, 1, &[2, 4]),
-            (5, 1, &[5]),
+            (2, 1, &[4]),
+            (5, 1, &[]),
         ] {
             assert_list(&site(q, k), &pairs, list, &mut random);
         }
@@ -336,7 +336,8 @@ mod exhaustive {
 mod damaged_tables {
     use super::*;
 
-    /// Sees that the list is of marked nodes, ascending, and all else as document 01 says.
+    /// Sees that the list is of marked nodes, ascending, a point on q perhaps among them, and all else
+    /// as document 01 says.
     fn assert_free_outcome(mut call: Query) {
         let before = call.clone();
         let listing = call.run();
@@ -429,8 +430,8 @@ mod limits {
     #[test]
     fn a_grid_of_255_by_257_nodes() {
         let network = largest_grid(weight_by_product);
-        assert_lists(&network, &each(100), &[0, 12_345, MOST_NODES / 2], 1);
-        assert_lists(&network, &each(100), &[100, LAST], 16);
+        assert_lists(&network, &each(100), &[100, 12_345, MOST_NODES / 2], 1);
+        assert_lists(&network, &each(100), &[0, LAST], 16);
         assert_lists(&network, &several_on_each(100), &[1_000, 30_000], 16);
     }
 }

@@ -36,8 +36,8 @@ mod network_n {
             (0, 1, &[2][..]),
             (0, 2, &[2, 4]),
             (1, 1, &[2]),
-            (2, 1, &[2, 4]),
-            (5, 1, &[5]),
+            (2, 1, &[4]),
+            (5, 1, &[]),
         ] {
             for p in N_POINTS {
                 assert_verdict(call(p, q, k), listed.contains(&p));
@@ -66,11 +66,15 @@ mod network_n {
         assert_verdict(turned, true);
     }
 
+    /// "Verify of the point on q says no." Where there is none, 11 refuses as before.
     #[test]
-    fn a_point_on_q_is_listed() {
-        for p in N_POINTS {
-            for k in 1..=16 {
-                assert_verdict(call(p, p, k), true);
+    fn a_point_on_q_is_not_listed() {
+        for k in 1..=16 {
+            for p in N_POINTS {
+                assert_verdict(call(p, p, k), false);
+            }
+            for p in [0, 1, 3] {
+                assert_refused(call(p, p, k), 11);
             }
         }
     }
@@ -83,12 +87,15 @@ mod network_n {
         }
     }
 
+    /// Of a point on another node, and of the point on q.
     #[test]
     fn each_condition_of_its_own() {
         let assert_number = |number, change: fn(&mut Verify)| {
-            let mut call = call(2, 0, 2);
-            change(&mut call);
-            assert_refused(call, number);
+            for q in [0, 2] {
+                let mut call = call(2, q, 2);
+                change(&mut call);
+                assert_refused(call, number);
+            }
         };
         assert_number(6, |c| c.points[3] = 16);
         assert_number(6, |c| c.points[2] = 255);
@@ -112,6 +119,7 @@ mod network_n {
         for k in 1..=16 {
             for _ in 0..20 {
                 assert_scratch_lengths(&call(2, 0, k), &mut random, |c| c.accepted(true));
+                assert_scratch_lengths(&call(2, 2, k), &mut random, |c| c.accepted(false));
                 // Node 3 has no locker.
                 assert_scratch_lengths(&call(3, 0, k), &mut random, |c| c.refused(11));
             }
@@ -244,7 +252,7 @@ mod limits {
         let network = OwnedNetwork::from_roads(1, &[]);
         for k in [1, 16] {
             for lockers in 1..=15 {
-                assert_verdict(&network, &[lockers], (0, 0, k), true);
+                assert_verdict(&network, &[lockers], (0, 0, k), false);
             }
             let call = Verify::exact(&network, &[0], (0, 0, k), &mut Random::new(7));
             assert_refused(call, 11);
@@ -256,7 +264,7 @@ mod limits {
         let network = OwnedNetwork::from_roads(MOST_NODES, &[]);
         let points = vec![1; MOST_NODES as usize];
         assert_verdict(&network, &points, (LAST, 0, 2), false);
-        assert_verdict(&network, &points, (LAST, LAST, 1), true);
+        assert_verdict(&network, &points, (LAST, LAST, 1), false);
     }
 
     /// A long chain leads from p to a grid. The other points have distances above 2^31, where the
@@ -288,7 +296,7 @@ mod limits {
         let row = relaxed_row(network.lend(), p);
         for (points, k) in [(each(100), 2), (several_on_each(100), 16)] {
             let mut verdicts = [0, 0];
-            for q in (p - 60..=p + 60).step_by(10) {
+            for q in (p - 60..=p + 60).step_by(5) {
                 let yes = verify_in(&row, &points, p, q, k);
                 verdicts[usize::from(yes)] += 1;
                 assert_verdict(&network, &points, (p, q, k), yes);

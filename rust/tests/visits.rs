@@ -85,7 +85,7 @@ mod lengths {
         let mut random = Random::new(1);
         let call = Eager::exact(&network, &[1; 60], (59, 1, 1), &mut random);
         assert_refused(call.with_visits(1, &mut random), 10);
-        let outcome = call.accepted(&[0, 59], &[59]);
+        let outcome = call.accepted(&[0], &[59]);
         assert_outcome(call, &outcome);
     }
 }

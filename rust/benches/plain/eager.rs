@@ -72,7 +72,6 @@ fn search(
     let (visits, rest) = rest.split_at_mut(n);
     let (nodes, areas) = rest.split_at_mut(n);
     let (inner, outer) = areas.split_at_mut(4 * n);
-    flags[n + site.q as usize] = u32::from(site.points[site.q as usize] > 0);
     let mut looks = Looks {
         flags,
         nodes,

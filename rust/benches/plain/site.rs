@@ -90,7 +90,8 @@ impl Site<'_> {
     }
 
     /// Expands from point p until it is known whether fewer than k other lockers are strictly nearer
-    /// to p than the site. What it settles stays in the area.
+    /// to p than the site. A point on the site gets no, by the first node. What it settles stays in
+    /// the area.
     pub fn visit<'a>(self, p: u32, words: &'a mut [u32]) -> (bool, Area<'a>) {
         let mut area = Area::start(words, self.network, p);
         let (mut label, mut below, mut level) = (0, 0, 0);
@@ -99,7 +100,7 @@ impl Site<'_> {
                 (label, below, level) = (entry.distance, below + level, 0);
             }
             if below >= self.k || entry.node() == self.q as usize {
-                return (below < self.k, area);
+                return (p != self.q && below < self.k, area);
             }
             level += self.others_at(entry.node(), p);
             area.settle(entry);

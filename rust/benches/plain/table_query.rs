@@ -57,7 +57,6 @@ fn search(site: Site<'_>, table: Table<'_>, words: &mut [u32]) {
     let n = site.points.len();
     let (flags, areas) = words.split_at_mut(2 * n);
     let (inner, outer) = areas.split_at_mut(4 * n);
-    flags[n + site.q as usize] = u32::from(site.points[site.q as usize] > 0);
     let mut area = Area::start(outer, site.network, site.q);
     while let Some(entry) = area.next() {
         let found = look(site, table, entry.node(), entry.distance, flags, inner);

@@ -1,4 +1,4 @@
-//! Verify: whether fewer than k other lockers are strictly nearer to point p than q.
+//! Verify: whether fewer than k other lockers are strictly nearer to point p than q, and p is not on q.
 //!
 //! Words of scratch: an area.
 

@@ -7,6 +7,9 @@
 //! keeps them. A build since Ask 4, as this one is in a control, is lent the array too, and all is
 //! compared; `run` sees which form it has.
 //!
+//! Ask 6 changes no form, and answers only where the site is a point. No site is one here, which
+//! `main.rs` sees to, so the answers of a build before it are compared whole.
+//!
 //! Both are lent what they ask for, 12 × n words of scratch since Ask 5. A build before Ask 5 asks for
 //! more and is not called any more.
 

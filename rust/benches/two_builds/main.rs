@@ -22,7 +22,7 @@ mod plain;
 mod roads;
 
 use before::BEFORE;
-use calls::{Call, ENGINE};
+use calls::{Call, Query, ENGINE};
 use lent::Lent;
 use measure::{measure, Budget};
 use networks::{limits, roads, streets, Subject};
@@ -41,6 +41,9 @@ fn print_times(subject: &Subject, calls: &[Call], places: u32) {
         subject.name
     );
     let queries = subject.queries(4);
+    let is_on_a_point = |query: &Query| subject.points[query.site as usize] > 0;
+    let differs = "a build before Ask 6 lists a point on its own site";
+    assert!(!queries.iter().any(is_on_a_point), "{differs}");
     let mut lent = Lent::built(subject.network.lend(), &subject.points, places, places);
     for &call in calls {
         let pairs = measure(call, [&ENGINE, &BEFORE], &mut lent, &queries, BUDGET);

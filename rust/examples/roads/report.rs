@@ -12,7 +12,8 @@ const USAGE: &str = "usage: roads ROADS POINTS [--site q].. [--k k] [--K K] [--v
 const HELP: &str = "
 ROADS    a file of one road a line: a b weight
 POINTS   a file of one locker a line: its junction, which comes up to 15 times
---site   a site to ask about; without it, every junction is asked about
+--site   a site to ask about; without it, every junction is asked about. A locker on the site's own
+         junction is not on its list
 --k      the k of the lists, 1 to 16; 1 unless it is given
 --K      the places of a row of the table, above k and at most 17; k + 1 unless it is given
 --visits also prints the junctions that eager expands for a site, by distance and then by number";

@@ -6,8 +6,8 @@ use super::{ffi, Listing, Network};
 /// strictly nearer than q. It takes a 32-bit limit and returns the list and the count of nodes
 /// expanded."
 ///
-/// Document 02 (Ask 8): "A node is listed once, as its lockers fare alike." Each locker of a node
-/// is a point that counts.
+/// Document 02 (Ask 6): "The lease edition now says that a point on q isn't listed." (Ask 8): "A node
+/// is listed once, as its lockers fare alike." Each locker of a node is a point that counts.
 ///
 /// Document 02 (Ask 4): "Map editors step through an expansion and want the same steps on both
 /// machines. Eager also lists the nodes that its count counts, by distance from the site and then by
@@ -113,7 +113,8 @@ pub fn eager(
 /// let mut answers = [0; 6];
 /// let points = [0, 0, 1, 0, 1, 1];
 /// let listing = short_query(network, &points, 2, &mut scratch, &mut answers).accepted()?;
-/// assert_eq!(answers[..listing.length], [2, 4]);
+/// // P4: the point on node 2 itself isn't listed.
+/// assert_eq!(answers[..listing.length], [4]);
 /// assert_eq!(listing.count, 3);
 /// # Ok(())
 /// # }

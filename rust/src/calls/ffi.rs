@@ -36,11 +36,15 @@ pub struct Listing {
 /// ```
 /// use overlap::calls::{eager_scratch_len, verify, Network, Verdict};
 ///
-/// // One node with a point and a site on it: "A point on q is listed."
-/// let one_node = Network { starts: &[0, 0], neighbours: &[], weights: &[] };
-/// let mut scratch = vec![0; eager_scratch_len(one_node)];
-/// let verdict = verify(one_node, &[1], 0, 0, 1, &mut scratch);
+/// // Two nodes and one road of weight 4 between them; a point on node 1, and a site on node 0.
+/// let network = Network { starts: &[0, 1, 2], neighbours: &[1, 0], weights: &[4, 4] };
+/// let mut scratch = vec![0; eager_scratch_len(network)];
+/// let verdict = verify(network, &[0, 1], 1, 0, 1, &mut scratch);
 /// assert_eq!(verdict, Verdict { number: 0, yes: 1 });
+///
+/// // The site on node 1 too. Document 02 (Ask 6): "Verify of the point on q says no."
+/// let verdict = verify(network, &[0, 1], 1, 1, 1, &mut scratch);
+/// assert_eq!(verdict, Verdict { number: 0, yes: 0 });
 /// ```
 #[repr(C)]
 #[must_use]

@@ -71,8 +71,9 @@ pub fn lazy(
 /// let mut scratch = vec![0; scratch_len(network, 1)];
 /// let mut answers = [0; 6];
 ///
+/// // P4: the point on node 2 itself isn't listed.
 /// let listing = lazy_ep(network, &points, 2, 1, &mut scratch, &mut answers).accepted()?;
-/// assert_eq!(answers[..listing.length], [2, 4]);
+/// assert_eq!(answers[..listing.length], [4]);
 /// assert_eq!(listing.count, 0);
 ///
 /// // Node 6 is none of N.

@@ -13,9 +13,10 @@ use super::{ffi, Listing, Network, Table};
 /// contents, and `answers` at least n.
 ///
 /// "Insert, remove and table query don't test a lent table. On one that the check would deny, the
-/// list (marked nodes, ascending) [...] are free". "Lists are ascending by node." "An accepted call
-/// with scratch leaves it all zero. Answer arrays hold the answer, then their old entries." "A refusal
-/// returns its number, count 0 and no, and changes no buffer".
+/// list (marked nodes, ascending) [...] are free": there it may even have a point on q. "Lists are
+/// ascending by node." "An accepted call with scratch leaves it all zero. Answer arrays hold the
+/// answer, then their old entries." "A refusal returns its number, count 0 and no, and changes no
+/// buffer".
 ///
 /// ```
 /// use overlap::calls::{table_query, scratch_len, Network, Table, NONE};

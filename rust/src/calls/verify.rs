@@ -5,9 +5,10 @@ use super::{ffi, Network, Verdict};
 /// Document 01: "Verify: for a marked p and q, yes or no by the rule above."
 ///
 /// The rule: "For query node q and k, point p is listed if it can be reached from q and fewer than
-/// k other points p' have d(p, p') < d(p, q). The point p itself doesn't count. A point on q is
-/// listed." Document 02 (Ask 8): "Each counts, so a locker has its companions on the node as others
-/// at distance 0." p is marked where it has a locker.
+/// k other points p' have d(p, p') < d(p, q). The point p itself doesn't count." Document 02 (Ask 6):
+/// "The lease edition now says that a point on q isn't listed." "Verify of the point on q says no."
+/// (Ask 8): "Each counts, so a locker has its companions on the node as others at distance 0." p is
+/// marked where it has a locker.
 ///
 /// The answer is number 0 with yes or no, or the first condition met of 1 to 7 and 9 to 11. Document
 /// 02 (Ask 5): "Eager, verify and the short query shall work with 12 × n entries for every k." So
@@ -42,8 +43,15 @@ use super::{ffi, Network, Verdict};
 /// assert!(!verify(network, &two, 2, 0, 1, &mut scratch).accepted()?);
 /// assert!(verify(network, &two, 2, 0, 2, &mut scratch).accepted()?);
 ///
-/// // Node 3 has no locker.
-/// assert_eq!(verify(network, &points, 3, 0, 1, &mut scratch).number, 11);
+/// // The point on q, for every k. That is an answer and no refusal.
+/// for k in 1..=16 {
+///     assert!(!verify(network, &points, 2, 2, k, &mut scratch).accepted()?);
+/// }
+///
+/// // Node 3 has no locker, whether or not the site is on it.
+/// for q in [0, 3] {
+///     assert_eq!(verify(network, &points, 3, q, 1, &mut scratch).number, 11);
+/// }
 /// # Ok(())
 /// # }
 /// ```

@@ -1,5 +1,5 @@
 //! What the test programs and the benchmarks share. All of it is written from document 01, with what
-//! Asks 4, 5 and 8 of document 02 change, and knows nothing of how the engine works.
+//! Asks 4, 5, 6 and 8 of document 02 change, and knows nothing of how the engine works.
 
 // Each program uses a part of this.
 #![allow(dead_code)]
@@ -21,6 +21,7 @@ pub mod numbers;
 pub mod plain;
 pub mod random;
 pub mod rows;
+pub mod searches;
 pub mod shapes;
 pub mod site;
 pub mod table;

@@ -71,14 +71,15 @@ impl NearestRows {
     }
 
     /// The points that are listed for q, whose row of distances is given, and k: "it can be reached
-    /// from q and fewer than k other points p' have d(p, p') < d(p, q)".
+    /// from q and fewer than k other points p' have d(p, p') < d(p, q)". Ask 6: "a point on q isn't
+    /// listed", and no other is at distance 0.
     pub fn listed(&self, from_q: &Row, k: u32) -> Vec<u32> {
         assert!(self.most > k as usize);
         let is_listed = |&p: &u32| {
-            // One locker on p is no other, and it is nearer unless q is on p.
-            let others = |to_q| self.nearer(p, to_q) - usize::from(to_q > 0);
-            let reached = from_q[p as usize];
-            self.lockers(p) > 0 && reached.is_some_and(|to_q| others(to_q) < k as usize)
+            // One locker on p is nearer than q and is no other.
+            let others = |to_q| self.nearer(p, to_q) - 1;
+            let apart = from_q[p as usize].filter(|&to_q| to_q > 0);
+            self.lockers(p) > 0 && apart.is_some_and(|to_q| others(to_q) < k as usize)
         };
         self.nodes().filter(is_listed).collect()
     }

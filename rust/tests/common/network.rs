@@ -1,6 +1,7 @@
 //! A network that owns its arrays, and network N of document 01.
 
 use overlap::calls::Network;
+use overlap::Refusal;
 
 /// A road between two nodes and its weight.
 pub type Road = (u32, u32, u32);
@@ -64,6 +65,16 @@ impl OwnedNetwork {
             weights: &self.weights,
         }
     }
+}
+
+/// The crate's own network of these arrays, or why they are refused.
+pub fn accepted(arrays: &OwnedNetwork) -> Result<overlap::Network, Refusal> {
+    let OwnedNetwork {
+        starts,
+        neighbours,
+        weights,
+    } = arrays.clone();
+    overlap::Network::new(starts, neighbours, weights)
 }
 
 /// A network in words for the message of a failed test; of a large one the lengths alone.

@@ -58,9 +58,15 @@ pub fn is_cut_in_a_node(found: &[Near], points: &[u8]) -> bool {
 /// points p' have d(p, p') < d(p, q). The point p itself doesn't count." Each road is two arcs, so
 /// p can be reached from q where q can be from p.
 ///
+/// Ask 6: "The lease edition now says that a point on q isn't listed." "Verify of the point on q says
+/// no."
+///
 /// Ask 8: "Each counts, so a locker has its companions on the node as others at distance 0": the
 /// others are all lockers but one on p.
 pub fn verify_in(row: &Row, points: &[u8], p: u32, q: u32, k: u32) -> bool {
+    if p == q {
+        return false;
+    }
     let Some(to_q) = row[q as usize] else {
         return false;
     };

@@ -175,10 +175,11 @@ impl Site {
             list.is_empty(),
             list.len() > 1,
             list.len() < marked,
-            list.contains(&self.q),
+            self.points[self.q as usize] > 0,
+            self.points[self.q as usize] > 1,
             self.answers.len() > self.points.len(),
-            list.iter().any(has_several),
             list != single.list(pairs),
+            list.iter().any(has_several),
             self.expanded(pairs) != single.expanded(pairs),
         ];
         tally.add_k(self.k);
@@ -188,15 +189,16 @@ impl Site {
     }
 
     /// The names under which things are counted.
-    pub const TALLIED: [&'static str; 9] = [
+    pub const TALLIED: [&'static str; 10] = [
         "a node with k points nearer than q",
         "an empty list",
         "two points or more",
         "a point that is not listed",
         "a point on q",
+        "several lockers on q",
         "longer answers",
-        "a node with several lockers that is listed",
         "several lockers that change the list",
+        "a node with several lockers that is listed",
         "several lockers that change the count",
     ];
 }

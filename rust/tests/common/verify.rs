@@ -140,7 +140,7 @@ impl Call for Verify {
         tally.add_k(k);
         tally.add_if(yes, "yes");
         tally.add_if(!reached, "no, as q can't be reached");
-        tally.add_if(reached && !yes, "no, as k others are nearer");
+        tally.add_if(p != q && reached && !yes, "no, as k others are nearer");
         tally.add_if(p == q, "p on q");
         let companions = self.points[p as usize] > 1;
         tally.add_if(p == q && companions, "p on q, with companions");
@@ -148,12 +148,9 @@ impl Call for Verify {
         alone[p as usize] = 1;
         let by_companions = reached && !yes && pairs.plain_verify(&alone, p, q, k);
         tally.add_if(by_companions, "no, as companions are nearer");
-        tally.add_if(p != q && yes && companions, "yes, with companions");
-        tally.add_if(
-            p != q && yes && equal,
-            "yes, as equal distances don't count",
-        );
-        let without_place = p != q && yes && !verdict(p, q, k - 1);
+        tally.add_if(yes && companions, "yes, with companions");
+        tally.add_if(yes && equal, "yes, as equal distances don't count");
+        let without_place = yes && !verdict(p, q, k - 1);
         tally.add_if(without_place, "yes, as p doesn't count");
         tally.add_if(yes != verdict(q, p, k), "another answer from q");
     }
