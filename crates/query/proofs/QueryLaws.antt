@@ -1,4 +1,4 @@
--- Where the table query ends: the answers are the nodes with a found flag, and all words are 0 again.
+-- Where the table query begins, with all words 0, and where it ends: the answers are the nodes with a found flag, and all words are 0 again.
 -- Assumes nothing.
 use Prim.Native.Nat.{ℕ, _+_, _*_}
 use mathlib.Core.Path.{_≡_, ap, _∙_}

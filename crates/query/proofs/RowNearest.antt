@@ -190,7 +190,8 @@ module _ {g : Network} (ok : Accepted g) {P : List ℕ} {K : ℕ} {ids dists : L
               (place-entry (i .0) (omega arith) (omega (arith, fits)) ∙ sym (taken (i .0) a) ∙ i .1 .is);
         }
 
-  -- the j-th of the k nearest is not on the site, where it is nearer than an exact label: k lockers that are nearer to v than the site come before it
+  -- one of the k nearest that is nearer than the label is not on the site: where fewer than k are nearer to v than the site the label is the distance, and
+  -- else those come first
   nearest-other : {q l : ℕ} → Exact g P q k v l → (j : ℕ) → (m : j < length (nearest g P v NONE k))
       → getD (nearest g P v NONE k) j (0, 0) .1 < l → getD (nearest g P v NONE k) j (0, 0) .0 ≢ q
   nearest-other {q} {l} exact j m b e =

@@ -167,7 +167,7 @@ returns-2 c =
 same-length-3 : tie.Need-same-length-3 Inv-loop μ-loop
 same-length-3 c = search needs
 
--- it is
+-- p is on q
 returns-3 : tie.Need-returns-3 Inv-loop μ-loop
 returns-3 c = left (c .before .before) _ (ap not (eq-eqb _ _ (c .if3 .left)) ∙ on-site _ _ _ _ _ (c .if3 .left))
 

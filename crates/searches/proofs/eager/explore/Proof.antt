@@ -122,7 +122,7 @@ mul-visits c = search needs
 start-requires : tie.Need-start-requires Inv-loop μ-loop
 start-requires c κs =
     let p = c .before .before .before .before .before .before .pre in
-    (can-expand p .blank, (can-expand p .size, p .search .site, p .search .accepted .few))
+    (can-expand p .blank, (can-expand p .size, omega (arith, p .search .site), p .search .accepted .few))
 
 loop-holds : tie.Need-loop-holds Inv-loop μ-loop
 loop-holds c =
