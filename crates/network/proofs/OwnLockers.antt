@@ -28,9 +28,9 @@ module _ (g : Network) (P : List ℕ) (q k w : ℕ) where
   P′ = set P q w
 
   -- a locker on q is not nearer to m than q is
-  not-nearer : (P : List ℕ) (m : ℕ) → isNearer g P m (dist g m q) q ≡ false
+  not-nearer : (M : List ℕ) (m : ℕ) → isNearer g M m (dist g m q) q ≡ false
   unfolding isNearer
-  not-nearer P m = and-right (marked P q) _ (le-ltb (dist g m q) (dist g m q) (omega arith))
+  not-nearer M m = and-right (marked M q) _ (le-ltb (dist g m q) (dist g m q) (omega arith))
 
   elsewhere : (x : ℕ) → x ≢ q → lockers P′ x ≡ lockers P x
   elsewhere x n = getD-set-other P q x w 0 n

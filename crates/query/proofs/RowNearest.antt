@@ -1,5 +1,5 @@
 -- What a row of the table says. Its first places that are nearer than e, cut after k, are the k nearest within e; each is the end of a way from the
--- site, through the row's node. And the place of a point's k-th other point tells that the point lists a site which is no farther.
+-- site, through the row's node, and none is the site itself. And the place of a point's k-th other point tells that the point lists a site which is no farther.
 -- Assumes nothing.
 use Prim.Native.Nat.{ℕ, suc, _+_, _*_, _≤_, _<_, min}
 use mathlib.Core.Path.{_≡_, refl, sym, ap, _∙_}

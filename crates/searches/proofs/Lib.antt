@@ -1,6 +1,6 @@
 -- The laws of the searches, from the bottom up. Of pruning: beaten nodes; who is listed; where the listed points are found; what a search has found
--- at its end. Of lists: the loop that writes what passes a test. Of eager: its flags; looking at a node; the expansion under way; where it begins
--- and ends; clearing.
+-- at its end. Of lists: the loop that writes what passes a test. Of eager: its flags; looking at a node; the expansion under way; where it ends;
+-- clearing.
 pub mod Beaten
 pub mod Listed
 pub mod Finds

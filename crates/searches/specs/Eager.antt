@@ -40,7 +40,7 @@ pub record CanSearch (g : Network) (P xs : List ℕ) (q k : ℕ) : Type 0 where
 abbrev pub HasPlaces : Network → List ℕ → Type 0
 HasPlaces g old = nodeCount g ≤ length old
 
--- the same, with the place of the outer area
+-- as CanSearch, with the place of the outer area
 pub record CanExplore (g : Network) (P xs : List ℕ) (b q k : ℕ) : Type 0 where
   pub search : CanSearch g P xs q k
   pub base : b ≡ outerBase g

@@ -2,7 +2,7 @@
 
 use overlap::{Engine, Refusal, Table};
 
-/// Sees that all four searches give this list for q and k, and eager these visits, so many as its count
+/// Sees that all four searches give this list for q and k, and eager these visits, as many as its count
 /// and no more than its limit; for k = 1 that the short query gives the list and the count as well. The
 /// points are the table's.
 pub fn assert_site(

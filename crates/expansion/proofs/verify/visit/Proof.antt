@@ -138,13 +138,13 @@ same-length-2 : tie.Need-same-length-2 Inv-loop μ-loop
 same-length-2 c = search needs
 
 -- the expansion has come to q, or counted k: what it leaves, with the answer
-left : (d : tie.After-come-to Inv-loop μ-loop) (y : Bool)
+ended-with : (d : tie.After-come-to Inv-loop μ-loop) (y : Bool)
     → let l = loop-of (taken-of d) in
     let a = start-of l .args in
     y ≡ verified (G l) (a .points .now) (a .p) (a .q) (a .k)
     → Visited (G l) (a .points .now) (a .p) (a .q) (a .k) (a .s .now) (taken-of d .before .before .before .before .next .last .0) (a .b)
     (record { yes = y; settled = l .loop .settled; len = taken-of d .taken .given .0 .1 .1 .1 .0 })
-left d y answer =
+ended-with d y answer =
     let l = loop-of (taken-of d) in
     let t = took (taken-of d) in
     let e = l .loop .inv .1 in
@@ -160,7 +160,7 @@ returns-2 : tie.Need-returns-2 Inv-loop μ-loop
 returns-2 c =
     let d = c .before .before in
     let l = loop-of (taken-of d) in
-    left d _
+    ended-with d _
     (answer-taken (accepted l) (l .loop .inv .1) (took (taken-of d)) (start-of l .args .k) (c .if3 .taken) (counted d)
     (⊎-elim (λ a. inl (a .taken)) (λ a. inr (eqb-true (taken-of d .taken .given .0 .1 .0) (start-of l .args .q) (a .1 .taken))) (c .before .if1 .came)))
 
@@ -169,7 +169,7 @@ same-length-3 c = search needs
 
 -- p is on q
 returns-3 : tie.Need-returns-3 Inv-loop μ-loop
-returns-3 c = left (c .before .before) _ (ap not (eq-eqb _ _ (c .if3 .left)) ∙ on-site _ _ _ _ _ (c .if3 .left))
+returns-3 c = ended-with (c .before .before) _ (ap not (eq-eqb _ _ (c .if3 .left)) ∙ on-site _ _ _ _ _ (c .if3 .left))
 
 counts-requires : tie.Need-counts-requires Inv-loop μ-loop
 counts-requires c κs = search needs

@@ -121,6 +121,7 @@ mul-visits c = search needs
 
 start-requires : tie.Need-start-requires Inv-loop μ-loop
 start-requires c κs =
+    -- by omega, as from node 0 one could be made too: must-fail/one_list_for_all_sites is refused where it is none from q
     let p = c .before .before .before .before .before .before .pre in
     (can-expand p .blank, (can-expand p .size, omega (arith, p .search .site), p .search .accepted .few))
 
