@@ -2,60 +2,36 @@
 ghost use mathlib.Core.Path.{_≡_};
 ghost use Rattle.network.specs.Network.{network};
 ghost use Rattle.network.specs.Check.{networkNumber};
-ghost use Rattle.overlap.specs.Distances.{distancesOutcome};
-ghost use Rattle.overlap.specs.Nearest.{nearestOutcome};
-ghost use Rattle.overlap.specs.Verify.{verifyOutcome, ruleVerdict};
-ghost use Rattle.overlap.specs.Eager.{eagerOutcome, shortOutcome};
-ghost use Rattle.overlap.specs.Lazy.{lazyOutcome};
-ghost use Rattle.overlap.specs.Listed.{listedListing};
-ghost use Rattle.overlap.specs.Numbers.{tableQueryNumber};
-ghost use Rattle.overlap.specs.TableCheck.{tableCheckAnswer};
-ghost use Rattle.overlap.specs.declared.updated.Kind.the-variants.{Insert, Remove};
-ghost use Rattle.overlap.specs.TableQuery.{QueryLeft};
-ghost use Rattle.overlap.specs.Build.{buildOutcome};
-ghost use Rattle.overlap.specs.Updated.{ChangeLeft, updatedUpdate};
-ghost use Rattle.overlap.specs.Exported.{NearestExported, VerifyExported, SearchExported, EagerExported};
-use lazy::Method;
-use listed::Listed;
-use nearest::Found;
-use updated::Kind;
-use updated::Updated;
-use verify::Rule;
-
-mod build;
-mod distances;
-mod eager;
-mod lazy;
-mod listed;
-mod nearest;
-mod numbers;
-mod short_query;
-mod table_check;
-mod table_query;
-mod updated;
-mod verify;
-
-// Number 0 and the length of a list; the count is 0 but for eager and the short query, which is eager.
-#[repr(C)]
-pub struct Listing {
-    pub number: u32,
-    pub count: u32,
-    pub length: usize,
-}
-
-// Number 0 and yes (1) or no (0).
-#[repr(C)]
-pub struct Verdict {
-    pub number: u32,
-    pub yes: u32,
-}
-
-// Number 0 and how many rows changed.
-#[repr(C)]
-pub struct Update {
-    pub number: u32,
-    pub changed: u32,
-}
+ghost use Rattle.site_calls.specs.Distances.{distancesOutcome};
+ghost use Rattle.site_calls.specs.Nearest.{nearestOutcome};
+ghost use Rattle.site_calls.specs.Verify.{verifyOutcome};
+ghost use Rattle.numbers.specs.Values.{ruleVerdict};
+ghost use Rattle.site_calls.specs.Eager.{eagerOutcome, shortOutcome};
+ghost use Rattle.site_calls.specs.Lazy.{lazyOutcome};
+ghost use Rattle.table_calls.specs.TableCheck.{tableCheckAnswer};
+ghost use Rattle.numbers.specs.declared.kind.Kind.the-variants.{Insert, Remove};
+ghost use Rattle.table_calls.specs.TableQuery.{QueryArrays, TableQueryExported};
+ghost use Rattle.table_calls.specs.Build.{buildOutcome};
+ghost use Rattle.table_calls.specs.Updated.{ChangeExported};
+ghost use Rattle.site_calls.specs.Exported.{NearestExported, VerifyExported, SearchExported, EagerExported};
+pub use numbers::answers::Listing;
+pub use numbers::answers::Update;
+pub use numbers::answers::Verdict;
+use numbers::answers::listing_of;
+use numbers::answers::update_of;
+use numbers::answers::verdict_of;
+use numbers::kind::Kind;
+use site_calls::distances;
+use site_calls::eager;
+use site_calls::lazy;
+use site_calls::lazy::Method;
+use site_calls::nearest;
+use site_calls::short_query;
+use site_calls::verify;
+use table_calls::build;
+use table_calls::table_check;
+use table_calls::table_query;
+use table_calls::updated;
 
 // The network check. Lent: the three network arrays, of any lengths and values, and nothing is written. Returned: 0 for an accepted network, or
 // the number of the first condition met, 1 to 5. Document 01: 'Network check: the three network arrays alone; the answer is its number, 0 or 1
@@ -103,7 +79,7 @@ pub extern "C" fn overlap_nearest(
 ) -> Listing
     ensures { λ r. ⌜ NearestExported (nearestOutcome (network (now (starts .entry)) (now (neighbours .entry)) (now (weights .entry))) (now (points .entry)) node e k (now (scratch .entry)) (now (ids .entry)) (now (distances .entry))) r (now (scratch .exit)) (now (ids .exit)) (now (distances .exit)) ⌝ }
 {
-    match nearest::answer(
+    listing_of(nearest::answer(
         starts,
         neighbours,
         weights,
@@ -114,34 +90,7 @@ pub extern "C" fn overlap_nearest(
         scratch,
         ids,
         distances,
-    ) {
-        Found::Refused(number) => Listing {
-            number,
-            count: 0,
-            length: 0,
-        },
-        Found::Points(length) => Listing {
-            number: 0,
-            count: 0,
-            length,
-        },
-    }
-}
-
-// The struct of an answer yes or no.
-fn verdict_of(rule: Rule) -> Verdict
-    ensures { λ r. ⌜ r ≡ ruleVerdict rule ⌝ }
-{
-    match rule {
-        Rule::Refused(number) => Verdict { number, yes: 0 },
-        Rule::Answer(yes) => {
-            if yes {
-                Verdict { number: 0, yes: 1 }
-            } else {
-                Verdict { number: 0, yes: 0 }
-            }
-        }
-    }
+    ))
 }
 
 // Verify. Lent: the network, the points and scratch of 12 × n entries (Ask 5). Returned: number 0 and yes or no, or 1 to 5, 6, 7, 9, 10, 11.
@@ -160,24 +109,6 @@ pub extern "C" fn overlap_verify(
     ensures { λ r. ⌜ VerifyExported (verifyOutcome (network (now (starts .entry)) (now (neighbours .entry)) (now (weights .entry))) (now (points .entry)) p q k (now (scratch .entry))) r (now (scratch .exit)) ⌝ }
 {
     verdict_of(verify::answer(starts, neighbours, weights, points, p, q, k, scratch))
-}
-
-// The struct of a search's answer.
-fn listing_of(answer: Listed) -> Listing
-    ensures { λ r. ⌜ r ≡ listedListing answer ⌝ }
-{
-    match answer {
-        Listed::Refused(number) => Listing {
-            number,
-            count: 0,
-            length: 0,
-        },
-        Listed::Points { length, count } => Listing {
-            number: 0,
-            count,
-            length,
-        },
-    }
 }
 
 // Eager. Lent: the network, the points, scratch of 12 × n entries (Ask 5), an array for n answers, and one for n visits (Ask 4). Returned: number 0, the
@@ -316,16 +247,6 @@ pub extern "C" fn overlap_build(
     )
 }
 
-// The struct of an update's answer.
-fn update_of(answer: Updated) -> Update
-    ensures { λ r. ⌜ r ≡ updatedUpdate answer ⌝ }
-{
-    match answer {
-        Updated::Refused(number) => Update { number, changed: 0 },
-        Updated::Changed(changed) => Update { number: 0, changed },
-    }
-}
-
 // Insert. Lent: the network, the points, scratch of S entries with m = K, and both table arrays. Returned: number 0 and how many rows changed, or 1
 // to 5, 6, 7, 8, 10, 11. Accepted: the node has one locker more, the table of the points before becomes the table of the points after, and the
 // whole scratch is zero; of a table that the check would deny nothing is said but its length and that the count is at most n. Refused: nothing is
@@ -343,7 +264,7 @@ pub extern "C" fn overlap_insert(
     ids: &mut [u32],
     distances: &mut [u32],
 ) -> Update
-    ensures { λ r. ⌜ ChangeLeft Insert (network (now (starts .entry)) (now (neighbours .entry)) (now (weights .entry))) node places (record { points = now (points .entry); scratch = now (scratch .entry); ids = now (ids .entry); distances = now (distances .entry) }) (record { points = now (points .exit); scratch = now (scratch .exit); ids = now (ids .exit); distances = now (distances .exit) }) r ⌝ }
+    ensures { λ r. ⌜ ChangeExported Insert (network (now (starts .entry)) (now (neighbours .entry)) (now (weights .entry))) node places (record { points = now (points .entry); scratch = now (scratch .entry); ids = now (ids .entry); distances = now (distances .entry) }) (record { points = now (points .exit); scratch = now (scratch .exit); ids = now (ids .exit); distances = now (distances .exit) }) r ⌝ }
 {
     update_of(updated::answer(
         Kind::Insert,
@@ -372,7 +293,7 @@ pub extern "C" fn overlap_remove(
     ids: &mut [u32],
     distances: &mut [u32],
 ) -> Update
-    ensures { λ r. ⌜ ChangeLeft Remove (network (now (starts .entry)) (now (neighbours .entry)) (now (weights .entry))) node places (record { points = now (points .entry); scratch = now (scratch .entry); ids = now (ids .entry); distances = now (distances .entry) }) (record { points = now (points .exit); scratch = now (scratch .exit); ids = now (ids .exit); distances = now (distances .exit) }) r ⌝ }
+    ensures { λ r. ⌜ ChangeExported Remove (network (now (starts .entry)) (now (neighbours .entry)) (now (weights .entry))) node places (record { points = now (points .entry); scratch = now (scratch .entry); ids = now (ids .entry); distances = now (distances .entry) }) (record { points = now (points .exit); scratch = now (scratch .exit); ids = now (ids .exit); distances = now (distances .exit) }) r ⌝ }
 {
     update_of(updated::answer(
         Kind::Remove,
@@ -423,7 +344,10 @@ pub extern "C" fn overlap_table_query(
     scratch: &mut [u32],
     answers: &mut [u32],
 ) -> Listing
-    ensures { λ r. ⌜ QueryLeft (tableQueryNumber (network (now (starts .entry)) (now (neighbours .entry)) (now (weights .entry))) (now (points .entry)) q k places (now (ids .entry)) (now (distances .entry)) (now (scratch .entry)) (now (answers .entry))) (network (now (starts .entry)) (now (neighbours .entry)) (now (weights .entry))) (now (points .entry)) q k places (now (ids .entry)) (now (distances .entry)) (now (scratch .entry)) (now (scratch .exit)) (now (answers .entry)) (now (answers .exit)) r ⌝ }
+    ensures { λ r.
+        let g = network (now (starts .entry)) (now (neighbours .entry)) (now (weights .entry)) in
+        let lent : QueryArrays = record { ids = now (ids .entry); distances = now (distances .entry); scratch = now (scratch .entry); answers = now (answers .entry) } in
+        ⌜ TableQueryExported g (now (points .entry)) q k places lent (now (scratch .exit)) (now (answers .exit)) r ⌝ }
 {
     listing_of(table_query::answer(
         starts,

@@ -10,12 +10,14 @@ use native.Mathlib.Omega.{arith}
 use lib.ListN.{length, getD, set, take, drop, replicate, length-append, length-map, length-replicate, length-set, take-append-drop}
 use lib.Seq.{set-at, drop-cons, length-take-le}
 use Rattle.network.specs.Network.{Network}
-use Rattle.overlap.specs.declared.Update.{Update}
-use Rattle.overlap.specs.declared.updated.Kind.{Kind}
-use Rattle.overlap.specs.declared.updated.Kind.the-variants.{Insert, Remove}
-use Rattle.overlap.specs.Updated.{changeNumber, Arrays, ChangeLeft}
-use Rattle.overlap.specs.Book.{Call}
-use Rattle.overlap.specs.Demand.{Run, ends, call, foreign}
+use Rattle.numbers.specs.declared.answers.Update.{Update}
+use Rattle.numbers.specs.declared.kind.Kind.{Kind}
+use Rattle.numbers.specs.declared.kind.Kind.the-variants.{Insert, Remove}
+use Rattle.numbers.specs.Numbers.{changeNumber}
+use Rattle.table_calls.specs.Updated.{Arrays, ChangeExported}
+use Rattle.table_calls.proofs.Outcomes.{change-refused, change-accepted}
+use Rattle.demands.specs.Book.{Call}
+use Rattle.demands.specs.Demand3.{Run, ends, call, foreign}
 use Rattle.replay.specs.declared.replay.Call as words
 use Rattle.replay.specs.Calls.{CallArrays, kindOf, callAt, callsBelow}
 use Rattle.replay.specs.Outcome.{Lent}
@@ -31,8 +33,8 @@ remove-word (suc w) n = refl
 
 -- a run goes on
 run-more : {g : Network} {P ids distances : List ℕ} {cs : List Call} {rs : List Update} {P′ ids′ distances′ : List ℕ}
-    → Run g P ids distances cs rs P′ ids′ distances′ → (c : Call) (r : Update) (scratch : List ℕ) (new : Arrays) → length scratch ≡ c .scratch
-    → ChangeLeft (c .kind) g (c .node) (c .places) (record { points = P′; scratch = scratch; ids = ids′; distances = distances′ }) new r
+    → Run g P ids distances cs rs P′ ids′ distances′ → (c : Call) (r : Update) (scratch : List ℕ) (new : Arrays) → length scratch ≡ c .scratchLength
+    → ChangeExported (c .kind) g (c .node) (c .places) (record { points = P′; scratch = scratch; ids = ids′; distances = distances′ }) new r
     → Run g P ids distances (cs ++ c ∷ []) (rs ++ r ∷ []) (new .points) (new .ids) (new .distances)
 run-more ends c r scratch new l h = call scratch new l h ends
 run-more (call s made q d rest) c r scratch new l h = call s made q d (run-more rest c r scratch new l h)
@@ -57,13 +59,13 @@ front-zero (suc k) zero = refl
 front-zero (suc k) (suc n) = ap (λ (xs : List ℕ). 0 ∷ xs) (front-zero k n)
 
 left-zero : (kind : Kind) (g : Network) (node K : ℕ) (old new : Arrays) (r : Update) (k n : ℕ) (scratch : List ℕ)
-    → ChangeLeft kind g node K old new r → old .scratch ≡ take k scratch → scratch ≡ replicate n 0 → new .scratch ++ drop k scratch ≡ replicate n 0
+    → ChangeExported kind g node K old new r → old .scratch ≡ take k scratch → scratch ≡ replicate n 0 → new .scratch ++ drop k scratch ≡ replicate n 0
 left-zero kind g node K old new r k n scratch h p z =
     elim (ℕ-discrete (changeNumber kind g (old .points) node K (old .scratch) (old .ids) (old .distances)) 0) [
       | yes e ↦
           let front : take k scratch ≡ replicate (length (take k scratch)) 0 = rw z (front-zero k n) in
-          back (h .accepted e .1 .zero ∙ ap (λ (xs : List ℕ). replicate (length xs) 0) p ∙ sym front)
-      | no e ↦ back (ap (λ (y : Arrays). y .scratch) (h .refused e .1) ∙ p)
+          back (change-accepted h e .1 .zero ∙ ap (λ (xs : List ℕ). replicate (length xs) 0) p ∙ sym front)
+      | no e ↦ back (ap (λ (y : Arrays). y .scratch) (change-refused h e .1) ∙ p)
     ]
   where
     back : new .scratch ≡ take k scratch → new .scratch ++ drop k scratch ≡ replicate n 0
@@ -97,7 +99,7 @@ none-before g list old fit =
 -- call j is made, with the words `w` that were read
 module _ {g : Network} {list : CallArrays} {j : ℕ} {old at : Lent} (fit : Fit list old) (b : Before g list j old at) (h : j < length (list .kinds))
     (w : words.Call) (read : w ≡ wordsAt list j) (made : Arrays) (r : Update)
-    (d : ChangeLeft (kindOf (w .kind)) g (w .node) (w .places) (record { points = at .points; scratch = take (w .length) (at .scratch); ids = at .ids; distances = at .distances }) made r) where
+    (d : ChangeExported (kindOf (w .kind)) g (w .node) (w .places) (record { points = at .points; scratch = take (w .length) (at .scratch); ids = at .ids; distances = at .distances }) made r) where
   -- the arrays behind it
   abbrev after : Lent
   after =
@@ -118,7 +120,7 @@ module _ {g : Network} {list : CallArrays} {j : ℕ} {old at : Lent} (fit : Fit 
       record {
         answers = f .answers ++ r ∷ [];
         each = simp length-append (omega (arith, f .each));
-        run = rw add-one (run-more (f .run) c r (take (c .scratch) (at .scratch)) made (length-take-le (c .scratch) (at .scratch) (omega (arith, fit .room j h, b .scratch))) (rw read at d));
+        run = rw add-one (run-more (f .run) c r (take (c .scratchLength) (at .scratch)) made (length-take-le (c .scratchLength) (at .scratch) (omega (arith, fit .room j h, b .scratch))) (rw read at d));
         numbers = rw (f .numbers) (stored-next (λ u. u .number) (f .answers) r (old .numbers) j (f .each) (omega (arith, fit .numbers)));
         counts = rw (f .counts) (stored-next (λ u. u .changed) (f .answers) r (old .counts) j (f .each) (omega (arith, fit .counts)));
         zero = left-zero (kindOf (w .kind)) g (w .node) (w .places) _ made r (w .length) (length (old .scratch)) (at .scratch) d refl (f .zero);

@@ -14,9 +14,9 @@ use Rattle.network.specs.Count.{any}
 use Rattle.network.specs.Network.{Network}
 use Rattle.network.specs.Rows.{tableIds, tableDistances}
 use Rattle.network.proofs.Tests.{or-parts, any-none}
-use Rattle.overlap.specs.declared.Update.{Update}
-use Rattle.overlap.specs.Build.{BuildOutcome, buildOutcome}
-use Rattle.overlap.proofs.Demand.{demand}
+use Rattle.numbers.specs.declared.answers.Update.{Update}
+use Rattle.table_calls.specs.Build.{BuildOutcome, buildOutcome}
+use Rattle.demands.proofs.Demand3.{demand}
 use Rattle.replay.specs.declared.replay.Answer.the-variants.{Unfit, Refused, Replayed}
 use Rattle.replay.specs.Calls.{CallArrays, callsOf}
 use Rattle.replay.specs.Outcome.{Lent, Outcome, asksMoreAt, isUnfit, unfitOf, buildOf, replayOutcome}

@@ -4,9 +4,9 @@
 use Prim.Native.Nat.{ℕ, zero, suc}
 use mathlib.Core.List.{List, [], _∷_, _++_}
 use lib.ListN.{length, getD}
-use Rattle.overlap.specs.declared.updated.Kind.{Kind}
-use Rattle.overlap.specs.declared.updated.Kind.the-variants.{Insert, Remove}
-use Rattle.overlap.specs.Book.{Call}
+use Rattle.numbers.specs.declared.kind.Kind.{Kind}
+use Rattle.numbers.specs.declared.kind.Kind.the-variants.{Insert, Remove}
+use Rattle.demands.specs.Book.{Call}
 
 -- entry j of each array is of call j
 pub record CallArrays : Type 0 where
@@ -26,7 +26,7 @@ callAt list j =
       kind = kindOf (getD (list .kinds) j 0);
       node = getD (list .nodes) j 0;
       places = getD (list .places) j 0;
-      scratch = getD (list .lengths) j 0;
+      scratchLength = getD (list .lengths) j 0;
     }
 
 -- the first j calls, and all: there are as many as kinds

@@ -5,8 +5,8 @@ use mathlib.Core.Path.{_≡_}
 use mathlib.Core.List.{List, map, _++_}
 use lib.ListN.{length, getD, drop, replicate}
 use Rattle.network.specs.Network.{Network}
-use Rattle.overlap.specs.declared.Update.{Update}
-use Rattle.overlap.specs.Demand.{Run}
+use Rattle.numbers.specs.declared.answers.Update.{Update}
+use Rattle.demands.specs.Demand3.{Run}
 use Rattle.replay.specs.declared.replay.Call as words
 use Rattle.replay.specs.Calls.{CallArrays, callsBelow}
 use Rattle.replay.specs.Outcome.{Lent}

@@ -8,9 +8,9 @@ use lib.ListN.{length, getD, replicate}
 use Rattle.network.specs.Count.{any}
 use Rattle.network.specs.Network.{Network}
 use Rattle.network.specs.Rows.{tableIds, tableDistances}
-use Rattle.overlap.specs.declared.Update.{Update}
-use Rattle.overlap.specs.Numbers.{buildNumber}
-use Rattle.overlap.specs.Book.{Call, bookAnswers, bookMarks}
+use Rattle.numbers.specs.declared.answers.Update.{Update}
+use Rattle.numbers.specs.Numbers.{buildNumber}
+use Rattle.demands.specs.Book.{Call, bookAnswers, bookMarks}
 use Rattle.replay.specs.declared.replay.Answer.{Answer}
 use Rattle.replay.specs.declared.replay.Answer.the-variants.{Unfit, Refused, Replayed}
 use Rattle.replay.specs.Calls.{CallArrays, callsOf}

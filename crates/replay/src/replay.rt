@@ -3,7 +3,7 @@ ghost use mathlib.Core.Path.{_≡_};
 ghost use lib.ListN.{length};
 ghost use Rattle.network.specs.Count.{any};
 ghost use Rattle.network.specs.Network.{network};
-ghost use Rattle.overlap.specs.Updated.{ChangeLeft};
+ghost use Rattle.table_calls.specs.Updated.{ChangeExported};
 ghost use Rattle.replay.specs.Calls.{kindOf};
 ghost use Rattle.replay.specs.Outcome.{asksMoreAt, isUnfit, replayOutcome};
 ghost use Rattle.replay.specs.Followed.{HasCall, wordsAt, Fit, Followed};
@@ -96,7 +96,7 @@ fn one(
     ids: &mut [u32],
     distances: &mut [u32],
 ) -> Update
-    ensures { λ r. ⌜ ChangeLeft (kindOf kind) (network (now (starts .entry)) (now (neighbours .entry)) (now (weights .entry))) node places (record { points = now (points .entry); scratch = now (scratch .entry); ids = now (ids .entry); distances = now (distances .entry) }) (record { points = now (points .exit); scratch = now (scratch .exit); ids = now (ids .exit); distances = now (distances .exit) }) r ⌝ }
+    ensures { λ r. ⌜ ChangeExported (kindOf kind) (network (now (starts .entry)) (now (neighbours .entry)) (now (weights .entry))) node places (record { points = now (points .entry); scratch = now (scratch .entry); ids = now (ids .entry); distances = now (distances .entry) }) (record { points = now (points .exit); scratch = now (scratch .exit); ids = now (ids .exit); distances = now (distances .exit) }) r ⌝ }
 {
     if kind == 0 {
         return overlap::overlap_insert(

@@ -1,6 +1,6 @@
 -- `overlap::overlap_eager` meets its contract: the struct of the answer, and the arrays as the answer leaves them.
 -- Assumes nothing.
-use Rattle.overlap.proofs.Outcomes.{eager-exported}
+use Rattle.site_calls.proofs.Outcomes.{eager-exported}
 use borrow.Author.Needs.{needs}
 use Rattle.overlap.proofs.overlap_eager.Statement.{statement}
 use Rattle.overlap.proofs.overlap_eager.Tie as tie

@@ -1,8 +1,6 @@
--- `overlap::overlap_nearest` meets its contract: the struct of the answer, case by case, and the arrays as the answer leaves them.
+-- `overlap::overlap_nearest` meets its contract: the struct of the answer, and the arrays as the answer leaves them.
 -- Assumes nothing.
-use mathlib.Core.Path.{sym, ap}
-use Rattle.overlap.specs.Nearest.{foundListing}
-use Rattle.overlap.proofs.Outcomes.{nearest-exported}
+use Rattle.site_calls.proofs.Outcomes.{nearest-exported}
 use borrow.Author.Needs.{needs}
 use Rattle.overlap.proofs.overlap_nearest.Statement.{statement}
 use Rattle.overlap.proofs.overlap_nearest.Tie as tie
@@ -10,11 +8,8 @@ use Rattle.overlap.proofs.overlap_nearest.Tie as tie
 answer-requires : tie.Need-answer-requires
 answer-requires c κs = search needs
 
-enum-known-number : tie.Need-enum-known-number
-enum-known-number c = search needs
-
-enum-known-length : tie.Need-enum-known-length
-enum-known-length c = search needs
+listing-of-requires : tie.Need-listing-of-requires
+listing-of-requires c κs = search needs
 
 same-length : tie.Need-same-length
 same-length c = search needs
@@ -26,36 +21,8 @@ same-length-3 : tie.Need-same-length-3
 same-length-3 c = search needs
 
 returns : tie.Need-returns
-returns c =
-    nearest-exported (ap foundListing (sym (c .before .number .given .1)))
-    (c .before .before .before .before .before .before .before .before .before .answer .ensures)
-
-same-length-4 : tie.Need-same-length-4
-same-length-4 c = search needs
-
-same-length-5 : tie.Need-same-length-5
-same-length-5 c = search needs
-
-same-length-6 : tie.Need-same-length-6
-same-length-6 c = search needs
-
-returns-2 : tie.Need-returns-2
-returns-2 c =
-    nearest-exported (ap foundListing (sym (c .before .length .given .1)))
-    (c .before .before .before .before .before .before .before .before .before .answer .ensures)
+returns c = nearest-exported (c .listing-of .ensures) (c .before .before .before .before .before .before .before .answer .ensures)
 
 pub overlap-nearest-spec : {M : Type 1} → statement M
 overlap-nearest-spec =
-    tie.close
-    (tie.spec
-    answer-requires
-    enum-known-number
-    enum-known-length
-    same-length
-    same-length-2
-    same-length-3
-    returns
-    same-length-4
-    same-length-5
-    same-length-6
-    returns-2)
+    tie.close (tie.spec answer-requires listing-of-requires same-length same-length-2 same-length-3 returns)

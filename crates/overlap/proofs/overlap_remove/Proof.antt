@@ -23,7 +23,8 @@ same-length-4 : tie.Need-same-length-4
 same-length-4 c = search needs
 
 returns : tie.Need-returns
-returns c = rw (c .update-of .ensures) (c .before .before .before .before .before .before .before .before .before .answer .ensures)
+returns c =
+    record { answer = c .before .before .before .before .before .before .before .before .before .answer .result; values = c .update-of .ensures; left = c .before .before .before .before .before .before .before .before .before .answer .ensures }
 
 pub overlap-remove-spec : {M : Type 1} → statement M
 overlap-remove-spec =

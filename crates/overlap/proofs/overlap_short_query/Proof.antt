@@ -1,6 +1,6 @@
 -- `overlap::overlap_short_query` meets its contract: the struct of the answer, and the arrays as the answer leaves them.
 -- Assumes nothing.
-use Rattle.overlap.proofs.Outcomes.{search-exported}
+use Rattle.site_calls.proofs.Outcomes.{search-exported}
 use borrow.Author.Needs.{needs}
 use Rattle.overlap.proofs.overlap_short_query.Statement.{statement}
 use Rattle.overlap.proofs.overlap_short_query.Tie as tie

@@ -17,7 +17,8 @@ same-length-2 : tie.Need-same-length-2
 same-length-2 c = search needs
 
 returns : tie.Need-returns
-returns c = rw (c .listing-of .ensures) (c .before .before .before .before .before .answer .ensures)
+returns c =
+    record { answer = c .before .before .before .before .before .answer .result; values = c .listing-of .ensures; left = c .before .before .before .before .before .answer .ensures }
 
 pub overlap-table-query-spec : {M : Type 1} → statement M
 overlap-table-query-spec =

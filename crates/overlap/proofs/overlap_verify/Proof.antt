@@ -1,7 +1,8 @@
 -- `overlap::overlap_verify` meets its contract: the struct of the answer, and the scratch as the answer leaves it.
 -- Assumes nothing.
 use mathlib.Core.Path.{ap, _∙_}
-use Rattle.overlap.specs.Verify.{VerifyOutcome, ruleVerdict}
+use Rattle.site_calls.specs.Verify.{VerifyOutcome}
+use Rattle.numbers.specs.Values.{ruleVerdict}
 use borrow.Author.Needs.{needs}
 use Rattle.overlap.proofs.overlap_verify.Statement.{statement}
 use Rattle.overlap.proofs.overlap_verify.Tie as tie

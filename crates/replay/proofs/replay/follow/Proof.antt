@@ -4,7 +4,7 @@ use Prim.Native.Nat.{_+_, _*_, _-_, _≤_, _<_}
 use mathlib.Core.Path.{_≡_, ap}
 use native.Mathlib.Omega.{arith}
 use lib.ListN.{length, length-take}
-use Rattle.overlap.specs.Updated.{Arrays}
+use Rattle.table_calls.specs.Updated.{Arrays}
 use Rattle.network.specs.Network.{network}
 use Rattle.replay.specs.declared.replay.Call as words
 use Rattle.replay.proofs.Following.{Before, none-before, one-more}

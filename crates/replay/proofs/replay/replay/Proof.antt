@@ -3,7 +3,7 @@
 use mathlib.Core.Path.{_≡_, sym, _∙_}
 use mathlib.Core.Bool.{false}
 use Rattle.network.specs.Network.{Network, network}
-use Rattle.overlap.specs.Build.{BuildOutcome}
+use Rattle.table_calls.specs.Build.{BuildOutcome}
 use Rattle.replay.specs.Calls.{CallArrays}
 use Rattle.replay.specs.Outcome.{Lent, unfitOf}
 use Rattle.replay.proofs.Outcomes.{replay-unfit, replay-refused, replay-fit, replay-done}

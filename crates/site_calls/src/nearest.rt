@@ -1,0 +1,92 @@
+// The nearest call: its work once no condition is met. Document 01, 'What a site receives': 'Nearest: the points p with d(node, p) < e, e any 32-bit
+// number, by distance then node, cut after the first k; ids and distances in two arrays.'
+ghost use mathlib.Core.Path.{_≡_};
+ghost use lib.ListN.{length, replicate};
+ghost use Rattle.network.specs.Network.{network};
+ghost use Rattle.site_calls.specs.Nearest.{nearestOutcome};
+ghost use Rattle.numbers.specs.Ready.{NearestReady};
+ghost use Rattle.site_calls.specs.Work.{NearestDone};
+use expansion::words;
+use network::arcs::wide;
+use numbers::answers::Listed;
+use numbers::calls;
+
+// Clears the scratch, searches over it, copies what was found, and clears that.
+fn run(
+    starts: &[u32],
+    neighbours: &[u32],
+    weights: &[u32],
+    points: &[u8],
+    node: u32,
+    e: u32,
+    k: u32,
+    scratch: &mut [u32],
+    ids: &mut [u32],
+    distances: &mut [u32],
+) -> usize
+    requires { ⌜ NearestReady (network (now starts) (now neighbours) (now weights)) (now points) node k (now scratch) (now ids) (now distances) ⌝ }
+    ensures { λ r. ⌜ (now (scratch .exit) ≡ replicate (length (now (scratch .entry))) 0) × NearestDone (network (now (starts .entry)) (now (neighbours .entry)) (now (weights .entry))) (now (points .entry)) node e k (now (ids .entry)) (now (ids .exit)) (now (distances .entry)) (now (distances .exit)) r ⌝ }
+{
+    let places = wide(k);
+    words::zero(scratch);
+    let found = expansion::nearest::nearest(
+        starts,
+        neighbours,
+        weights,
+        points,
+        scratch,
+        node,
+        e,
+        places,
+    );
+    words::copy(scratch, places, found, ids);
+    let behind = 2 * places;
+    words::copy(scratch, behind, found, distances);
+    let end = 3 * places;
+    words::zero(&mut scratch[..end]);
+    found
+}
+
+// The whole call.
+pub fn answer(
+    starts: &[u32],
+    neighbours: &[u32],
+    weights: &[u32],
+    points: &[u8],
+    node: u32,
+    e: u32,
+    k: u32,
+    scratch: &mut [u32],
+    ids: &mut [u32],
+    distances: &mut [u32],
+) -> Listed
+    ensures { λ r. ⌜ record { answer = r; scratch = now (scratch .exit); ids = now (ids .exit); distances = now (distances .exit) } ≡ nearestOutcome (network (now (starts .entry)) (now (neighbours .entry)) (now (weights .entry))) (now (points .entry)) node e k (now (scratch .entry)) (now (ids .entry)) (now (distances .entry)) ⌝ }
+{
+    let refusal = calls::nearest_number(
+        starts,
+        neighbours,
+        weights,
+        points,
+        node,
+        k,
+        scratch,
+        ids,
+        distances,
+    );
+    if refusal != 0 {
+        return Listed::Refused(refusal);
+    }
+    let length = run(
+        starts,
+        neighbours,
+        weights,
+        points,
+        node,
+        e,
+        k,
+        scratch,
+        ids,
+        distances,
+    );
+    Listed::Points { length, count: 0 }
+}

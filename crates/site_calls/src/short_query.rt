@@ -1,0 +1,48 @@
+// The short query: its work once no condition of 1 to 10 is met. Document 01, 'What a site receives': 'The short query: no k and no limit; eager with
+// k = 1 and limit 65,535.' It lists no visits (Ask 4).
+ghost use mathlib.Core.Path.{_≡_};
+ghost use Rattle.network.specs.Network.{network};
+ghost use Rattle.site_calls.specs.Eager.{shortOutcome};
+use crate::eager;
+use expansion::words;
+use numbers::answers::Listed;
+use numbers::calls;
+
+// The whole call.
+pub fn answer(
+    starts: &[u32],
+    neighbours: &[u32],
+    weights: &[u32],
+    points: &[u8],
+    q: u32,
+    scratch: &mut [u32],
+    answers: &mut [u32],
+) -> Listed
+    ensures { λ r. ⌜ record { answer = r; scratch = now (scratch .exit); answers = now (answers .exit) } ≡ shortOutcome (network (now (starts .entry)) (now (neighbours .entry)) (now (weights .entry))) (now (points .entry)) q (now (scratch .entry)) (now (answers .entry)) ⌝ }
+{
+    let refusal = calls::limited_number(
+        starts,
+        neighbours,
+        weights,
+        points,
+        q,
+        1,
+        scratch,
+        answers,
+    );
+    if refusal != 0 {
+        return Listed::Refused(refusal);
+    }
+    words::zero(scratch);
+    eager::listed_of(searches::eager::without_visits(
+        starts,
+        neighbours,
+        weights,
+        points,
+        scratch,
+        answers,
+        q,
+        1,
+        65535,
+    ))
+}
