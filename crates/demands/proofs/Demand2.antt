@@ -14,7 +14,7 @@ use Rattle.network.specs.Points.{isListed, listed, expanded}
 use Rattle.network.specs.Visits.{visits}
 use Rattle.network.proofs.Counts.{select-ascending}
 use Rattle.network.proofs.Visits.{visits-count}
-use Rattle.rows.specs.Check.{isTable}
+use Rattle.rows.specs.Check.{sameTable}
 use Rattle.rows.proofs.CheckTable.{is-table}
 use Rattle.numbers.specs.declared.answers.Listing.{Listing}
 use Rattle.numbers.specs.Numbers.{limitedNumber, tableCheckNumber, tableQueryNumber}
@@ -44,11 +44,11 @@ module _ {g : Network} (ok : Accepted g) {P : List ℕ} (size : length P ≡ nod
 
 -- the table check's yes
 checked : (g : Network) (P : List ℕ) (K : ℕ) (ids distances : List ℕ) → ruleVerdict (tableCheckAnswer g P K ids distances) .yes ≡ 1
-    → isTable g P K ids distances ≡ true
+    → sameTable g P K ids distances ≡ true
 unfolding tableCheckAnswer
 checked g P K ids distances e =
     elim (ℕ-discrete (tableCheckNumber g P K ids distances) 0) [
-      | yes z ↦ yes-is (isTable g P K ids distances) (rw (eq-eqb (tableCheckNumber g P K ids distances) 0 z) at e)
+      | yes z ↦ yes-is (sameTable g P K ids distances) (rw (eq-eqb (tableCheckNumber g P K ids distances) 0 z) at e)
       | no n ↦ absurd (zero-one (rw (ne-eqb (tableCheckNumber g P K ids distances) 0 n) at e))
     ]
   where

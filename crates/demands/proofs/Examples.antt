@@ -4,13 +4,13 @@ use mathlib.Core.Path.{refl}
 use Rattle.network.specs.Count.{any, count, total, select, tabulate}
 use Rattle.network.specs.Network.{arcsFrom, arcsOf, partOf}
 use Rattle.network.specs.Check.{badSize, fallsAt, badStarts, badNeighbourAt, badPart, badNeighboursOf, badNeighbours, badWeightAt, badWeights, isArcAt, hasArc, lacksReturnAt, lacksReturnOf, lacksReturn, networkNumber}
-use Rattle.network.specs.Distance.{plus, least, within, dist, distancesFrom}
+use Rattle.network.specs.Distance.{plus, leastOver, within, dist, distancesFrom}
 use Rattle.network.specs.Points.{isNearer, countNearer, othersNearer, verified, isListed, listed, isExpanded, expanded, exceedsLimit}
 use Rattle.network.specs.Nearest.{insert, insertTimes, byDistance, nearest}
 use Rattle.network.specs.Visits.{visits}
 use Rattle.network.specs.Rows.{row, rowsBelow, tableIds, tableDistances}
 use Rattle.network.specs.Answers.{answered}
-use Rattle.rows.specs.Check.{sameList, isTable}
+use Rattle.rows.specs.Check.{sameList, sameTable}
 use Rattle.numbers.specs.Conditions.{limitNumber, firstNumber, badByteAt, pointsNumber, nodeNumber, kNumber, tableKNumber, tableNumber, shortNumber, fullNumber, unmarkedNumber}
 use Rattle.numbers.specs.Numbers.{queryNumber, tableCheckNumber, buildNumber, tableNodeNumber, networkPointsNumber, siteNumber, tableQueryNumber}
 use Rattle.numbers.specs.Numbers.{distancesNumber}
@@ -28,7 +28,7 @@ use Rattle.table_calls.specs.TableCheck.{tableCheckAnswer}
 use Rattle.demands.specs.Examples.{Examples}
 
 pub examples : Examples
-unfolding any count total select tabulate arcsFrom arcsOf partOf badSize fallsAt badStarts badNeighbourAt badPart badNeighboursOf badNeighbours badWeightAt badWeights isArcAt hasArc lacksReturnAt lacksReturnOf lacksReturn networkNumber plus least within dist distancesFrom isNearer countNearer othersNearer verified isListed listed isExpanded expanded exceedsLimit insert insertTimes byDistance nearest row rowsBelow tableIds tableDistances answered sameList isTable firstNumber badByteAt pointsNumber nodeNumber kNumber tableKNumber tableNumber shortNumber fullNumber unmarkedNumber queryNumber tableCheckNumber buildNumber tableNodeNumber networkPointsNumber siteNumber tableQueryNumber distancesNumber distancesOutcome nearestNumber nearestIds nearestDistances nearestOutcome verifyNumber verifyOutcome searchNumber limitedNumber eagerNumber limitedOutcome visitsOutcome eagerOutcome shortOutcome visits lazyOutcome changeNumber limitNumber tableCheckAnswer
+unfolding any count total select tabulate arcsFrom arcsOf partOf badSize fallsAt badStarts badNeighbourAt badPart badNeighboursOf badNeighbours badWeightAt badWeights isArcAt hasArc lacksReturnAt lacksReturnOf lacksReturn networkNumber plus leastOver within dist distancesFrom isNearer countNearer othersNearer verified isListed listed isExpanded expanded exceedsLimit insert insertTimes byDistance nearest row rowsBelow tableIds tableDistances answered sameList sameTable firstNumber badByteAt pointsNumber nodeNumber kNumber tableKNumber tableNumber shortNumber fullNumber unmarkedNumber queryNumber tableCheckNumber buildNumber tableNodeNumber networkPointsNumber siteNumber tableQueryNumber distancesNumber distancesOutcome nearestNumber nearestIds nearestDistances nearestOutcome verifyNumber verifyOutcome searchNumber limitedNumber eagerNumber limitedOutcome visitsOutcome eagerOutcome shortOutcome visits lazyOutcome changeNumber limitNumber tableCheckAnswer
 examples =
     record {
       no-1 = refl;

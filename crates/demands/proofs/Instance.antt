@@ -13,7 +13,7 @@ use Rattle.network.specs.Network.{Network, nodeCount}
 use Rattle.network.specs.Count.{any, count, total}
 use Rattle.network.specs.Network.{arcsFrom, arcsOf, partOf}
 use Rattle.network.specs.Check.{badSize, fallsAt, badStarts, badNeighbourAt, badPart, badNeighboursOf, badNeighbours, badWeightAt, badWeights, isArcAt, hasArc, lacksReturnAt, lacksReturnOf, lacksReturn, networkNumber}
-use Rattle.network.specs.Distance.{plus, least, within, dist}
+use Rattle.network.specs.Distance.{plus, leastOver, within, dist}
 use Rattle.network.specs.Points.{isNearer}
 use Rattle.network.specs.Nearest.{insert, insertTimes, byDistance, nearest}
 use Rattle.network.specs.Rows.{row, sameRow, tableIds, tableDistances, rowsChanged}
@@ -142,7 +142,7 @@ pub answers : bookAnswers (roads 7) 2 points calls
     ∷ record { number = 0; changed = 2 }
     ∷ record { number = 11; changed = 0 }
     ∷ []
-unfolding any count total arcsFrom arcsOf partOf plus least within dist isNearer insert insertTimes byDistance nearest row sameRow rowsChanged bookAnswers bookCall bookNumber firstNumber nodeNumber tableNumber shortNumber fullNumber unmarkedNumber
+unfolding any count total arcsFrom arcsOf partOf plus leastOver within dist isNearer insert insertTimes byDistance nearest row sameRow rowsChanged bookAnswers bookCall bookNumber firstNumber nodeNumber tableNumber shortNumber fullNumber unmarkedNumber
 answers = refl
 
 pub marks : bookMarks (roads 7) 2 points calls ≡ 1 ∷ 0 ∷ 0 ∷ 0 ∷ 2 ∷ 1 ∷ []

@@ -19,9 +19,9 @@ use Rattle.network.proofs.Ranges.{arc-at}
 use Rattle.network.proofs.NumberZero.{accepted-ranges}
 use Rattle.expansion.specs.Queue.{Holds, keyAt, keyOf}
 use Rattle.expansion.specs.Tags.{tagOf, nodeOf}
-use Rattle.expansion.specs.Area.{queueBase, queueOf, Entry, Stands, Kept, Blank, PutIn, arcKey, unsettled, Area, Moved, AtOrBelow, Followed}
+use Rattle.expansion.specs.Area.{queueBase, queueOf, NodeEntry, AmongSettled, Kept, Blank, PutAmong, arcKey, unsettled, Area, Moved, AtOrBelow, Followed}
 use Rattle.expansion.proofs.QueueLaws.{empty-queue}
-use Rattle.expansion.specs.NodeQueue.{nodeAt, NodeQueue, Unmoved, PushedNode, PoppedNode, Offered}
+use Rattle.expansion.specs.NodeQueue.{nodeAt, NodeQueue, Unmoved, PushedNode, PoppedNode, OfferedNode}
 use Rattle.expansion.proofs.NodeLaws.{free-not}
 
 pub kept-trans : {xs ys zs : List ℕ} {b : ℕ} → Kept xs ys b → Kept ys zs b → Kept xs zs b
@@ -106,7 +106,7 @@ module _ {n : ℕ} {xs ys : List ℕ} {b len key : ℕ} (q : NodeQueue n xs b (q
       (λ l. omega (arith, p .gone)) (λ l. absurd (omega (arith, held-low q key (p .popped .was))))
 
 -- an entry is offered
-module _ {n : ℕ} {xs ys : List ℕ} {b len more key : ℕ} (q : NodeQueue n xs b (queueBase n b) len) (o : Offered n xs ys b (queueBase n b) len more key) where
+module _ {n : ℕ} {xs ys : List ℕ} {b len more key : ℕ} (q : NodeQueue n xs b (queueBase n b) len) (o : OfferedNode n xs ys b (queueBase n b) len more key) where
   pub offered-moved : Moved n xs ys b
   offered-moved =
       moved q (o .queue) (o .frame) (λ k h. ⊎-elim (λ a. inl a) (λ a. inr (a .0)) (o .kept k h))
@@ -138,7 +138,7 @@ followed-none q =
     }
 
 module _ {g : Network} {xs ys zs : List ℕ} {b len more most v l j : ℕ} (f : Followed g xs ys b len more v l j)
-    (o : Offered (nodeCount g) ys zs b (queueBase (nodeCount g) b) more most (arcKey g v l j))
+    (o : OfferedNode (nodeCount g) ys zs b (queueBase (nodeCount g) b) more most (arcKey g v l j))
     (inside : getD (neighboursOf g v) j 0 < nodeCount g) (node : nodeOf (arcKey g v l j) ≡ getD (neighboursOf g v) j 0) where
   low-before : getD ys (b + nodeOf (arcKey g v l j)) 0 ≤ nodeCount g → getD xs (b + getD (neighboursOf g v) j 0) 0 ≤ nodeCount g
   low-before h =
@@ -188,10 +188,10 @@ module _ {n : ℕ} {xs ys : List ℕ} {b settled len : ℕ} (a : Area n xs b set
   inside : (i : ℕ) → i < settled → i < n
   inside i h = omega (arith, a .counted)
 
-  stands : {v : ℕ} → Stands n xs b settled v → Stands n ys b settled v
+  stands : {v : ℕ} → AmongSettled n xs b settled v → AmongSettled n ys b settled v
   stands s = record { place = s .place; low = s .low; is = m .places (s .place) (inside (s .place) (s .low)) ∙ s .is }
 
-  pub area-moved : {more : ℕ} → NodeQueue n ys b (queueBase n b) more → ((k : ℕ) → Holds (queueOf n ys b) more k → Entry n settled k) → Area n ys b settled more
+  pub area-moved : {more : ℕ} → NodeQueue n ys b (queueBase n b) more → ((k : ℕ) → Holds (queueOf n ys b) more k → NodeEntry n settled k) → Area n ys b settled more
   area-moved q entries =
       record {
         queue = q;
@@ -301,7 +301,7 @@ module _ {n : ℕ} {xs : List ℕ} {b settled len : ℕ} (a : Area n xs b settle
             | no ne ↦ ap (λ (w : ℕ). leb w n) (other-label x k ne) ∙ sym (without-other (unsettled n xs b) v x ne)
           ]
 
-  stands-still : {x : ℕ} → Stands n xs b settled x → Stands n zs b (settled + 1) x
+  stands-still : {x : ℕ} → AmongSettled n xs b settled x → AmongSettled n zs b (settled + 1) x
   stands-still s =
       record { place = s .place; low = omega (arith, s .low); is = other-place (s .place) (omega (arith, s .low, place-left)) (omega (arith, s .low)) ∙ s .is }
 
@@ -354,7 +354,7 @@ module _ {n : ℕ} {xs : List ℕ} {b settled len : ℕ} (a : Area n xs b settle
         counted = omega (arith, a .counted, one-fewer);
       }
     where
-      later : {k : ℕ} → Entry n settled k → Entry n (settled + 1) k
+      later : {k : ℕ} → NodeEntry n settled k → NodeEntry n (settled + 1) k
       later e =
           record { label = e .label; node = e .node; parent = e .parent; is = e .is; inside = e .inside; from = e .from; low = omega (arith, e .low) }
 
@@ -381,7 +381,7 @@ module _ {n : ℕ} {xs : List ℕ} {b settled len : ℕ} (a : Area n xs b settle
 -- the arcs of a node that is settled at label l are followed
 module _ {g : Network} (ok : Accepted g) {xs ys : List ℕ} {b settled len more : ℕ} (a : Area (nodeCount g) xs b settled len) (v l : ℕ)
     (h : v < nodeCount g) (is : getD xs (b + v) 0 ≡ suc (nodeCount g + l)) (f : Followed g xs ys b len more v l (length (neighboursOf g v))) where
-  put-in : {Puts : ℕ → Type 0} (k : ℕ) → PutIn (arcKey g v l) Puts (length (neighboursOf g v)) k → Entry (nodeCount g) settled k
+  put-in : {Puts : ℕ → Type 0} (k : ℕ) → PutAmong (arcKey g v l) Puts (length (neighboursOf g v)) k → NodeEntry (nodeCount g) settled k
   put-in k p =
       let x = arc-at (accepted-ranges ok) v h (p .place) (p .low) in
       record {

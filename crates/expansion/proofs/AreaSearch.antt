@@ -14,7 +14,7 @@ use Rattle.network.proofs.Ranges.{arc-at, arc-place}
 use Rattle.network.proofs.NumberZero.{accepted-ranges}
 use Rattle.expansion.specs.Queue.{Holds, keyOf}
 use Rattle.expansion.specs.Tags.{tagOf, nodeOf}
-use Rattle.expansion.specs.Area.{queueBase, queueOf, Blank, PutIn, arcKey, LabelAt, HeldAt, Area, Moved, Took, AtOrBelow, Followed}
+use Rattle.expansion.specs.Area.{queueBase, queueOf, Blank, PutAmong, arcKey, LabelAt, HeldAt, Area, Moved, Took, AtOrBelow, Followed}
 use Rattle.expansion.proofs.TagLaws.{entry-same, tag-fits, key-distance}
 use Rattle.expansion.specs.NodeQueue.{PushedNode}
 use Rattle.expansion.proofs.Origins.{Origin, Lawful, one, one-lawful}
@@ -212,7 +212,7 @@ module _ {g : Network} (ok : Accepted g) {ys : List ℕ} {b settled left v : ℕ
         kept x m (inr q) = inr (q .0)
 
         along : {x m : ℕ} {Puts : ℕ → Type 0} (y : HeldAt (nodeCount g) ws b more x m)
-            → PutIn (arcKey g v l) Puts (length (neighboursOf g v)) (keyOf m (tagOf x (y .parent))) → Along g v l x m
+            → PutAmong (arcKey g v l) Puts (length (neighboursOf g v)) (keyOf m (tagOf x (y .parent))) → Along g v l x m
         along {x} {m} y i =
             let r = arc-at (accepted-ranges ok) v h (i .place) (i .low) in
             let q = held-same ok m (l + getD (weightsOf g v) (i .place) 0) (y .inside) (y .from) (ok .leads-in r) (small ok h) (i .is) in

@@ -12,7 +12,7 @@ use Rattle.network.specs.Accepted.{Accepted}
 use Rattle.network.proofs.Counts.{count-same}
 use Rattle.network.proofs.Lends.{first-size, first-after}
 use Rattle.expansion.specs.NodeQueue.{nodeAt, NodeQueue}
-use Rattle.expansion.specs.Area.{queueBase, queueOf, unsettled, LabelAt, HeldAt, Stands, Area}
+use Rattle.expansion.specs.Area.{queueBase, queueOf, unsettled, LabelAt, HeldAt, AmongSettled, Area}
 use Rattle.expansion.proofs.Origins.{Origin}
 use Rattle.expansion.proofs.Steps.{waits, same-settled, requeue}
 use Rattle.expansion.proofs.AreaSearch.{Searched}
@@ -77,7 +77,7 @@ module _ {xs ys : List ℕ} {b : ℕ} (same : Beside xs ys b) where
         counted = rw (count-same (unsettled n xs b) (unsettled n ys b) n (λ x h. unsettled-beside n x)) (a .counted);
       }
     where
-      stands : {v : ℕ} → Stands n xs b settled v → Stands n ys b settled v
+      stands : {v : ℕ} → AmongSettled n xs b settled v → AmongSettled n ys b settled v
       stands s = record { place = s .place; low = s .low; is = place-beside n (s .place) ∙ s .is }
 
   held-beside : {n len v l : ℕ} → HeldAt n xs b len v l → HeldAt n ys b len v l

@@ -8,7 +8,7 @@ use native.Mathlib.Decide.{ℕ-discrete}
 use native.Mathlib.Omega.{arith}
 use lib.ListN.{drop}
 use Rattle.expansion.specs.Queue.{Holds, Queue, PushedAt}
-use Rattle.expansion.specs.Area.{PutIn, Entered}
+use Rattle.expansion.specs.Area.{PutAmong, Entered}
 
 module _ {base : ℕ} {xs : List ℕ} {len : ℕ} {key : ℕ → ℕ} {Puts : ℕ → Type 0} where
   pub entered-none : Queue (drop base xs) len → Entered base xs xs len len 0 key Puts
@@ -17,14 +17,14 @@ module _ {base : ℕ} {xs : List ℕ} {len : ℕ} {key : ℕ → ℕ} {Puts : �
         frame = record { size = refl; words = λ i h. refl };
         queue = q;
         grown = omega arith;
-        holds = λ k. (λ h. inl h, ⊎-elim (λ h. h) (λ (p : PutIn key Puts 0 k). absurd (omega (arith, p .low))));
+        holds = λ k. (λ h. inl h, ⊎-elim (λ h. h) (λ (p : PutAmong key Puts 0 k). absurd (omega (arith, p .low))));
       }
 
   module _ {ys : List ℕ} {more j : ℕ} (f : Entered base xs ys len more j key Puts) where
-    further : {k : ℕ} → PutIn key Puts j k → PutIn key Puts (j + 1) k
+    further : {k : ℕ} → PutAmong key Puts j k → PutAmong key Puts (j + 1) k
     further p = record { place = p .place; low = omega (arith, p .low); puts = p .puts; is = p .is }
 
-    earlier : {k : ℕ} → PutIn key Puts (j + 1) k → PutIn key Puts j k ⊎ (Puts j × (k ≡ key j))
+    earlier : {k : ℕ} → PutAmong key Puts (j + 1) k → PutAmong key Puts j k ⊎ (Puts j × (k ≡ key j))
     earlier p =
         elim (ℕ-discrete (p .place) j) [
           | yes e ↦ inr (rw e at (p .puts), p .is ∙ ap key e)

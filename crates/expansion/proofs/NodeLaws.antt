@@ -17,7 +17,7 @@ use Rattle.network.proofs.Counts.{count-mono, count-few, count-all, without, wi
 use Rattle.expansion.specs.Queue.{keyAt, Holds, Queue, Pushed, Popped, CanSink, CanRise}
 use Rattle.expansion.specs.Tags.{nodeOf}
 use Rattle.expansion.proofs.QueueLaws.{key-of-words, words-key, push-rises, pushed, pop-sinks, popped-one, popped-more}
-use Rattle.expansion.specs.NodeQueue.{nodeAt, Free, NodeQueue, Unmoved, PushedNode, LoweredNode, PoppedNode, ClearedNodes, Offered, Vacated, Seats, FilledAt}
+use Rattle.expansion.specs.NodeQueue.{nodeAt, Free, NodeQueue, Unmoved, PushedNode, LoweredNode, PoppedNode, ClearedNodes, OfferedNode, Vacated, Seats, FilledAt}
 
 -- ---- No more entries than nodes: each entry's node has the entry's seat.
 module _ (n : ℕ) (xs : List ℕ) (b : ℕ) where
@@ -342,7 +342,7 @@ module _ {n : ℕ} {xs : List ℕ} {b at len : ℕ} (q : NodeQueue n xs b at len
   unmoved = record { size = refl; before = λ j h. refl; between = λ j h l. refl; free = λ u h m f. refl }
 
   -- the node is settled
-  pub offered-settled : n < getD xs (b + nodeOf key) 0 → Offered n xs xs b at len len key
+  pub offered-settled : n < getD xs (b + nodeOf key) 0 → OfferedNode n xs xs b at len len key
   offered-settled h =
       record {
         queue = q;
@@ -354,7 +354,7 @@ module _ {n : ℕ} {xs : List ℕ} {b at len : ℕ} (q : NodeQueue n xs b at len
       }
 
   -- the node did not wait
-  pub offered-pushed : (ys : List ℕ) → getD xs (b + nodeOf key) 0 ≡ 0 → PushedNode n xs ys b at len key → Offered n xs ys b at len (len + 1) key
+  pub offered-pushed : (ys : List ℕ) → getD xs (b + nodeOf key) 0 ≡ 0 → PushedNode n xs ys b at len key → OfferedNode n xs ys b at len (len + 1) key
   offered-pushed ys z p =
       record {
         queue = p .queue;
@@ -370,7 +370,7 @@ module _ {n : ℕ} {xs : List ℕ} {b at len : ℕ} (q : NodeQueue n xs b at len
     pub waits-here : (i < len) × (nodeAt (drop at xs) i ≡ nodeOf key)
     waits-here = q .waits (nodeOf key) i inside w low
 
-    pub offered-kept : keyAt (drop at xs) i ≤ key → Offered n xs xs b at len len key
+    pub offered-kept : keyAt (drop at xs) i ≤ key → OfferedNode n xs xs b at len len key
     offered-kept h =
         record {
           queue = q;
@@ -381,7 +381,7 @@ module _ {n : ℕ} {xs : List ℕ} {b at len : ℕ} (q : NodeQueue n xs b at len
           kept = λ k a. inl a;
         }
 
-    pub offered-lowered : (ys : List ℕ) → LoweredNode n xs ys b at len key → Offered n xs ys b at len len key
+    pub offered-lowered : (ys : List ℕ) → LoweredNode n xs ys b at len key → OfferedNode n xs ys b at len len key
     offered-lowered ys p =
         record {
           queue = p .queue;

@@ -9,7 +9,7 @@ use native.Mathlib.Decide.{ℕ-discrete, decLt}
 use lib.ListN.{length, getD, set, drop, length-set, length-drop}
 use lib.Seq.{getD-set-same, getD-set-other}
 use borrow.Rule.Slice.PartMut.{midOf, putMid}
-use Rattle.expansion.specs.Queue.{keyOf, keyAt, parentOf, Holds, HoldsBeside, Ordered, ZeroFrom, Put, Hole, AtLeastParent, AtMostChildren, CanSink, CanRise, Filled, LeastChild, Children, Chosen, Queue, Pushed, Popped, PushedAt, PoppedAt, NoLater}
+use Rattle.expansion.specs.Queue.{keyOf, keyAt, parentOf, Holds, HoldsBeside, HeapOrdered, ZeroFrom, Put, Hole, AtLeastParent, AtMostChildren, CanSink, CanRise, Filled, LeastChild, Children, Chosen, Queue, Pushed, Popped, PushedAt, PoppedAt, NoLater}
 use Rattle.expansion.proofs.LentParts.{lent-part, rejoined}
 use Rattle.expansion.proofs.TagLaws.{at-most-no-later}
 
@@ -148,7 +148,7 @@ at-most-children xs len i a b k key ch ck le j pos lt e =
 
 -- ---- A hole is filled where it is.
 module _ (xs ys : List ℕ) (len hole d t : ℕ) (h : Hole xs len hole) (p : Put xs ys hole d t) where
-  here-ordered : AtLeastParent xs hole (keyOf d t) → AtMostChildren xs len hole (keyOf d t) → Ordered ys len
+  here-ordered : AtLeastParent xs hole (keyOf d t) → AtMostChildren xs len hole (keyOf d t) → HeapOrdered ys len
   here-ordered at-least at-most i pos lt =
       elim (ℕ-discrete i hole) [
         | yes e ↦ omega (arith, ap (keyAt ys) e, ap (λ (j : ℕ). keyAt xs (parentOf j)) e, p .here, p .other (parentOf i) (omega arith), at-least (omega arith))
@@ -305,7 +305,7 @@ pub empty-queue : (xs : List ℕ) → ((j : ℕ) → getD xs j 0 ≡ 0) → Queu
 empty-queue xs z = record { room = omega arith; ordered = λ i pos lt. omega arith; zeros = λ j h. z j }
 
 -- the first key is a least one
-first-least : (xs : List ℕ) (len : ℕ) → Ordered xs len → (n i : ℕ) → i ≤ n → i < len → keyAt xs 0 ≤ keyAt xs i
+first-least : (xs : List ℕ) (len : ℕ) → HeapOrdered xs len → (n i : ℕ) → i ≤ n → i < len → keyAt xs 0 ≤ keyAt xs i
 first-least xs len o zero i le lt = let e : i ≡ 0 = omega arith in omega (arith, ap (keyAt xs) e)
 first-least xs len o (suc n) i le lt =
     elim (ℕ-discrete i 0) [

@@ -39,7 +39,7 @@ abbrev pub unsettled : ℕ → List ℕ → ℕ → ℕ → Bool
 unsettled n xs b v = leb (getD xs (b + v) 0) n
 
 -- an entry of the queue, when `settled` nodes are settled: of nodes, with a label that fits
-pub record Entry (n settled key : ℕ) : Type 0 where
+pub record NodeEntry (n settled key : ℕ) : Type 0 where
   pub label : ℕ
   pub node : ℕ
   pub parent : ℕ
@@ -49,7 +49,7 @@ pub record Entry (n settled key : ℕ) : Type 0 where
   pub low : label ≤ 65535 * settled
 
 -- node v stands in the list of settled nodes
-pub record Stands (n : ℕ) (xs : List ℕ) (b settled v : ℕ) : Type 0 where
+pub record AmongSettled (n : ℕ) (xs : List ℕ) (b settled v : ℕ) : Type 0 where
   pub place : ℕ
   pub low : place < settled
   pub is : getD xs (b + n + place) 0 ≡ v
@@ -57,10 +57,10 @@ pub record Stands (n : ℕ) (xs : List ℕ) (b settled v : ℕ) : Type 0 where
 -- an area in which `settled` nodes are settled and `len` nodes wait
 pub record Area (n : ℕ) (xs : List ℕ) (b settled len : ℕ) : Type 0 where
   pub queue : NodeQueue n xs b (queueBase n b) len
-  pub entries : (k : ℕ) → Holds (queueOf n xs b) len k → Entry n settled k
+  pub entries : (k : ℕ) → Holds (queueOf n xs b) len k → NodeEntry n settled k
   pub nodes : (i : ℕ) → i < settled → getD xs (b + n + i) 0 < n
   pub rest : (i : ℕ) → settled ≤ i → i < n → getD xs (b + n + i) 0 ≡ 0
-  pub labelled : (v : ℕ) → v < n → n < getD xs (b + v) 0 → Stands n xs b settled v
+  pub labelled : (v : ℕ) → v < n → n < getD xs (b + v) 0 → AmongSettled n xs b settled v
   pub low : (v : ℕ) → v < n → n < getD xs (b + v) 0 → getD xs (b + v) 0 + 65535 ≤ 65535 * settled + suc n
   pub counted : settled + count (unsettled n xs b) n ≡ n
 
@@ -103,7 +103,7 @@ pub record AtOrBelow (q : List ℕ) (len k : ℕ) : Type 0 where
   pub low : key ≤ k
 
 -- some place before `end` puts in an entry, which has the key
-pub record PutIn (key : ℕ → ℕ) (Puts : ℕ → Type 0) (end k : ℕ) : Type 0 where
+pub record PutAmong (key : ℕ → ℕ) (Puts : ℕ → Type 0) (end k : ℕ) : Type 0 where
   pub place : ℕ
   pub low : place < end
   pub puts : Puts place
@@ -114,7 +114,7 @@ pub record Entered (base : ℕ) (xs ys : List ℕ) (len more end : ℕ) (key : �
   pub frame : Kept xs ys base
   pub queue : Queue (drop base ys) more
   pub grown : more ≤ len + end
-  pub holds : (k : ℕ) → Holds (drop base ys) more k ↔ (Holds (drop base xs) len k ⊎ PutIn key Puts end k)
+  pub holds : (k : ℕ) → Holds (drop base ys) more k ↔ (Holds (drop base xs) len k ⊎ PutAmong key Puts end k)
 
 -- the entry that arc j of node v, settled at label l, puts in
 abbrev pub arcKey : Network → ℕ → ℕ → ℕ → ℕ
@@ -124,7 +124,7 @@ arcKey g v l j = keyOf (l + getD (weightsOf g v) j 0) (tagOf (getD (neighboursOf
 pub record Followed (g : Network) (xs ys : List ℕ) (b len more v l end : ℕ) : Type 0 where
   pub queue : NodeQueue (nodeCount g) ys b (queueBase (nodeCount g) b) more
   pub frame : Moved (nodeCount g) xs ys b
-  pub old : (k : ℕ) → Holds (queueOf (nodeCount g) ys b) more k → Holds (queueOf (nodeCount g) xs b) len k ⊎ PutIn (arcKey g v l) (λ j. getD xs (b + getD (neighboursOf g v) j 0) 0 ≤ nodeCount g) end k
+  pub old : (k : ℕ) → Holds (queueOf (nodeCount g) ys b) more k → Holds (queueOf (nodeCount g) xs b) len k ⊎ PutAmong (arcKey g v l) (λ j. getD xs (b + getD (neighboursOf g v) j 0) 0 ≤ nodeCount g) end k
   pub kept : (k : ℕ) → Holds (queueOf (nodeCount g) xs b) len k → AtOrBelow (queueOf (nodeCount g) ys b) more k
   pub there :
       (j : ℕ) → j < end → getD xs (b + getD (neighboursOf g v) j 0) 0 ≤ nodeCount g

@@ -78,7 +78,7 @@ pub record ClearedNodes (n : ℕ) (xs ys : List ℕ) (b at : ℕ) : Type 0 where
 
 -- offer: the node of the key is settled, and nothing changes; or an entry of it waits with no greater key than this one, and none came in but this one,
 -- for which none left but one of the same node with a greater key
-pub record Offered (n : ℕ) (xs ys : List ℕ) (b at len more key : ℕ) : Type 0 where
+pub record OfferedNode (n : ℕ) (xs ys : List ℕ) (b at len more key : ℕ) : Type 0 where
   pub queue : NodeQueue n ys b at more
   pub frame : Unmoved n xs ys b at (nodeOf key)
   pub settled : n < getD xs (b + nodeOf key) 0 → ys ≡ xs

@@ -39,8 +39,8 @@ pub record HoldsBeside (xs : List ℕ) (len i key : ℕ) : Type 0 where
   pub is : keyAt xs index ≡ key
 
 -- no entry has a key less than its parent's
-abbrev pub Ordered : List ℕ → ℕ → Type 0
-Ordered xs len = (i : ℕ) → 0 < i → i < len → keyAt xs (parentOf i) ≤ keyAt xs i
+abbrev pub HeapOrdered : List ℕ → ℕ → Type 0
+HeapOrdered xs len = (i : ℕ) → 0 < i → i < len → keyAt xs (parentOf i) ≤ keyAt xs i
 
 -- every word behind the first len entries is 0
 abbrev pub ZeroFrom : List ℕ → ℕ → Type 0
@@ -49,7 +49,7 @@ ZeroFrom xs len = (j : ℕ) → 2 * len ≤ j → getD xs j 0 ≡ 0
 -- what a queue of len entries is between calls
 pub record Queue (xs : List ℕ) (len : ℕ) : Type 0 where
   pub room : 2 * len ≤ length xs
-  pub ordered : Ordered xs len
+  pub ordered : HeapOrdered xs len
   pub zeros : ZeroFrom xs len
 
 -- push: ys is the queue xs with an entry of the key added
@@ -139,7 +139,7 @@ pub record CanRise (xs : List ℕ) (len hole key : ℕ) : Type 0 where
 
 -- ys is xs with the hole filled by an entry of the key: it is in order, and holds the key and what xs holds beside the hole
 pub record Filled (xs ys : List ℕ) (len hole key : ℕ) : Type 0 where
-  pub ordered : Ordered ys len
+  pub ordered : HeapOrdered ys len
   pub size : length ys ≡ length xs
   pub behind : (j : ℕ) → 2 * len ≤ j → getD ys j 0 ≡ getD xs j 0
   pub holds : (k : ℕ) → Holds ys len k ↔ ((k ≡ key) ⊎ HoldsBeside xs len hole k)

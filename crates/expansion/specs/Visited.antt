@@ -8,7 +8,7 @@ use lib.ListN.{length}
 use Rattle.network.specs.Network.{Network, nodeCount}
 use Rattle.network.specs.Distance.{dist}
 use Rattle.network.specs.Points.{verified}
-use Rattle.expansion.specs.declared.verify.Verdict.{Verdict}
+use Rattle.expansion.specs.declared.verify.VisitEnd.{VisitEnd}
 use Rattle.expansion.specs.declared.verify.Tally.{Tally}
 use Rattle.expansion.specs.Area.{LabelAt, Area, Kept, Wiped}
 use Rattle.expansion.specs.Expand.{CanExpand}
@@ -27,7 +27,7 @@ pub record CameTo (t : Tally) (l : ℕ) (r : Tally) : Type 0 where
   pub level : t .label < l → r .level ≡ 0
 
 -- the answer by the rule, and the area: each label that it leaves is the distance from p
-pub record Visited (g : Network) (P : List ℕ) (p q k : ℕ) (xs ys : List ℕ) (b : ℕ) (r : Verdict) : Type 0 where
+pub record Visited (g : Network) (P : List ℕ) (p q k : ℕ) (xs ys : List ℕ) (b : ℕ) (r : VisitEnd) : Type 0 where
   pub answer : r .yes ≡ verified g P p q k
   pub frame : Kept xs ys b
   pub area : Area (nodeCount g) ys b (r .settled) (r .len)

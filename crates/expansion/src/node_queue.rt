@@ -7,7 +7,7 @@ ghost use lib.ListN.{length, getD, drop};
 ghost use Rattle.expansion.specs.Queue.{keyOf, keyAt, LeastChild, CanSink, CanRise, Sank};
 ghost use Rattle.expansion.specs.Tags.{tagNode, nodeOf};
 ghost use Rattle.expansion.specs.Area.{queueBase};
-ghost use Rattle.expansion.specs.NodeQueue.{NodeOfTag, Free, NodeQueue, CanLower, PushedNode, LoweredNode, PoppedNode, ClearedNodes, Offered, CanPut, PutAt, CanShift, Vacated, Seats, FilledAt};
+ghost use Rattle.expansion.specs.NodeQueue.{NodeOfTag, Free, NodeQueue, CanLower, PushedNode, LoweredNode, PoppedNode, ClearedNodes, OfferedNode, CanPut, PutAt, CanShift, Vacated, Seats, FilledAt};
 use crate::queue;
 use crate::queue::Entry;
 use crate::tags;
@@ -177,7 +177,7 @@ fn seat_of(s: &[u32], b: usize, tag: u32) -> usize
 pub fn offer(s: &mut [u32], b: usize, n: usize, len: usize, distance: u32, tag: u32) -> usize
     requires { ⌜ NodeQueue n (now s) b (queueBase n b) len ⌝ }
     requires { ⌜ nodeOf (keyOf distance tag) < n ⌝ }
-    ensures { λ r. ⌜ Offered n (now (s .entry)) (now (s .exit)) b (queueBase n b) len r (keyOf distance tag) ⌝ }
+    ensures { λ r. ⌜ OfferedNode n (now (s .entry)) (now (s .exit)) b (queueBase n b) len r (keyOf distance tag) ⌝ }
 {
     let seat = seat_of(s, b, tag);
     if n < seat {

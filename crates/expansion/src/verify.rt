@@ -10,7 +10,7 @@ use crate::step::Taken;
 use network::points::lockers_at;
 
 // Whether the rule holds, and what stands in the area: how many nodes are settled, and how many entries wait.
-pub struct Verdict {
+pub struct VisitEnd {
     pub yes: bool,
     pub settled: usize,
     pub len: usize,
@@ -64,7 +64,7 @@ pub fn visit(
     p: u32,
     q: u32,
     k: usize,
-) -> Verdict
+) -> VisitEnd
     requires { ⌜ CanVisit (network (now starts) (now neighbours) (now weights)) (now points) (now s) b p q ⌝ }
     ensures { λ r. ⌜ Visited (network (now (starts .entry)) (now (neighbours .entry)) (now (weights .entry))) (now (points .entry)) p q k (now (s .entry)) (now (s .exit)) b r ⌝ }
 {
@@ -86,7 +86,7 @@ pub fn visit(
             left,
         } = taken
         else {
-            return Verdict {
+            return VisitEnd {
                 yes: false,
                 settled,
                 len: 0,
@@ -94,7 +94,7 @@ pub fn visit(
         };
         tally = come_to(tally, label);
         if k <= tally.below || node == q {
-            return Verdict {
+            return VisitEnd {
                 yes: p != q && tally.below < k,
                 settled,
                 len: left,

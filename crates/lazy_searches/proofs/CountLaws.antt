@@ -9,7 +9,7 @@ use native.Mathlib.Decide.{ℕ-discrete}
 use native.Mathlib.Omega.{arith}
 use lib.ListN.{length, getD, set, length-set}
 use lib.Seq.{getD-set-same, getD-set-other}
-use Rattle.expansion.specs.Area.{Stands}
+use Rattle.expansion.specs.Area.{AmongSettled}
 use Rattle.lazy_searches.specs.Lazy.{visitBase, isLess, CanCount, Rises, CountedNode, CountedAll}
 
 -- the node is not counted, or is
@@ -60,10 +60,10 @@ module _ {n : ℕ} {xs : List ℕ} {b settled more : ℕ} (c : CanCount n xs b s
         counts = counts;
       }
     where
-      stays : (u : ℕ) → Stands n xs (visitBase n) i u → Stands n xs (visitBase n) (i + 1) u
+      stays : (u : ℕ) → AmongSettled n xs (visitBase n) i u → AmongSettled n xs (visitBase n) (i + 1) u
       stays u s = record { place = s .place; low = omega (arith, s .low); is = s .is }
 
-      counts : (u : ℕ) → u < n → (getD zs u 0 ≡ getD xs u 0) ⊎ (Stands n xs (visitBase n) (i + 1) u × Rises n xs zs b l more u)
+      counts : (u : ℕ) → u < n → (getD zs u 0 ≡ getD xs u 0) ⊎ (AmongSettled n xs (visitBase n) (i + 1) u × Rises n xs zs b l more u)
       counts u m =
           elim (ℕ-discrete u (getD ys (3 * n + i) 0)) [
             | yes e ↦

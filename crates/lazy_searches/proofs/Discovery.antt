@@ -13,8 +13,8 @@ use borrow.Author.Tests.{le-leb, lt-leb, leb-true, ltb-true, lt-ltb}
 use Rattle.network.specs.Network.{Network, nodeCount}
 use Rattle.network.specs.Distance.{dist}
 use Rattle.network.specs.Points.{lockers, isListed}
-use Rattle.expansion.specs.declared.verify.Verdict.{Verdict}
-use Rattle.expansion.specs.Area.{Stands, Area, Wiped}
+use Rattle.expansion.specs.declared.verify.VisitEnd.{VisitEnd}
+use Rattle.expansion.specs.Area.{AmongSettled, Area, Wiped}
 use Rattle.expansion.specs.Visited.{CanVisit, Visited}
 use Rattle.expansion.proofs.AreaSearch.{word-label}
 use Rattle.expansion.proofs.Beside.{Beside, area-beside}
@@ -68,7 +68,7 @@ module _ {g : Network} {P : List ℕ} {q k : ℕ} {xs : List ℕ} {b v : ℕ} (c
           ]
 
   -- ---- The verification has ended.
-  module _ {zs : List ℕ} {r : Verdict} (w : Visited g P v q k (take b xs) zs (visitBase (nodeCount g)) r) where
+  module _ {zs : List ℕ} {r : VisitEnd} (w : Visited g P v q k (take b xs) zs (visitBase (nodeCount g)) r) where
     inner : (i : ℕ) → i < b → getD (zs ++ drop b xs) i 0 ≡ getD zs i 0
     inner = first-part b xs zs fits (w .frame .size)
 
@@ -128,7 +128,7 @@ module _ {g : Network} {P : List ℕ} {q k : ℕ} {xs : List ℕ} {b v : ℕ} (c
               }
 
       -- the point is nearer to u than the site
-      word : (u : ℕ) → Stands (nodeCount g) (zs ++ drop b xs) (visitBase (nodeCount g)) (r .settled) u → u < nodeCount g
+      word : (u : ℕ) → AmongSettled (nodeCount g) (zs ++ drop b xs) (visitBase (nodeCount g)) (r .settled) u → u < nodeCount g
           → getD (zs ++ drop b xs) (visitBase (nodeCount g) + u) 0 ≡ suc (nodeCount g + dist g v u)
       word u s h =
           let e = sym (place (s .place) (s .low)) ∙ s .is in

@@ -28,7 +28,7 @@ use Rattle.expansion.proofs.AreaSearch.{word-label, label-back, took-moved}
 use Rattle.expansion.proofs.Progress.{took-place}
 use Rattle.expansion.proofs.Settled.{zero-blank}
 use Rattle.searches.specs.Eager.{isFound}
-use Rattle.lazy_searches.specs.Lazy.{visitBase, CanDiscover, CountedBy, Discovered, CanExplore}
+use Rattle.lazy_searches.specs.Lazy.{visitBase, CanDiscover, CountedBy, Discovered, CanExploreLazy}
 use Rattle.searches.proofs.Beaten.{Unbeaten, Part, part-marked, beaten-part}
 use Rattle.lazy_searches.proofs.Parents.{parent-low}
 use Rattle.lazy_searches.proofs.LazySearch.{Discovering, Arrived, discovering-start, took-unverified, label-least, discovering-dropped, Joins, joined, joins-grow, shrinks, tells-joined, arrive, front, discovering-stopped, discovering-opened, discovered-listed}
@@ -76,7 +76,7 @@ pub record Arriving (g : Network) (P : List ℕ) (q k : ℕ) (ys : List ℕ) (b 
 pub closed : {g : Network} {M : List ℕ} {q k : ℕ} {xs : List ℕ} → Counts g M q k xs → (u : ℕ) → u < nodeCount g → k ≤ getD xs u 0 → Unbeaten g M q k u → ⊥
 closed c u h full o = o (omega (arith, c .most u h o))
 
-module _ {g : Network} {P : List ℕ} {q b : ℕ} {s₀ : List ℕ} (c : CanExplore g P s₀ b q) where
+module _ {g : Network} {P : List ℕ} {q b : ℕ} {s₀ : List ℕ} (c : CanExploreLazy g P s₀ b q) where
   ok : Accepted g
   ok = c .accepted
 

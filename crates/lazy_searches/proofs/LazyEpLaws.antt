@@ -1,5 +1,5 @@
 -- Lazy with extended pruning under way. The outer expansion verifies points (`Discovering`), the second one spreads them over the rows (`Second`,
--- `Sound`). A node whose row has k distances below its label is beaten, so the outer expansion may stop behind it.
+-- `SecondSound`). A node whose row has k distances below its label is beaten, so the outer expansion may stop behind it.
 -- Assumes nothing.
 use Prim.Native.Nat.{ℕ, _+_, _*_, _≤_, _<_}
 use mathlib.Core.Path.{_≡_, refl, sym, ap, _∙_}
@@ -26,8 +26,8 @@ use Rattle.expansion.proofs.AreaSearch.{label-back, took-area, took-word, took-
 use Rattle.expansion.proofs.Progress.{took-small}
 use Rattle.expansion.proofs.Beside.{Beside, beside-first, drop-beside, label-beside, beside-label-at, progress-beside}
 use Rattle.searches.specs.Eager.{isFound}
-use Rattle.lazy_searches.specs.Second.{wordsBase, secondBase, secondQueue, idAt, wordAt, Second, Sound, CanSpread, Admitted, CanAdvance, Advanced, isBelow, Closed}
-use Rattle.lazy_searches.specs.LazyEp.{CanSettle, ClosedBehind, TakenBack, CanDiscover, PointVerified, Discovered}
+use Rattle.lazy_searches.specs.Second.{wordsBase, secondBase, secondQueue, idAt, wordAt, Second, SecondSound, CanAdmit, Admitted, CanAdvance, Advanced, isBelow, Closed}
+use Rattle.lazy_searches.specs.LazyEp.{CanSettle, ClosedBehind, TakenBack, CanDiscoverEp, PointVerified, DiscoveredEp}
 use Rattle.searches.proofs.Beaten.{Unbeaten, stops}
 use Rattle.searches.proofs.Listed.{listed-parts}
 use Rattle.searches.proofs.FlagLaws.{verified-listed, listed-verified}
@@ -89,7 +89,7 @@ second-beside {g} {xs} {ys} {k} {len} same s =
     queue : secondQueue (nodeCount g) k ys ≡ secondQueue (nodeCount g) k xs
     queue = queue-beside (nodeCount g) k same
 
-pub sound-beside : {g : Network} {M xs ys : List ℕ} {k len : ℕ} → Beside xs ys (nodeCount g) → Sound g M xs k len → Sound g M ys k len
+pub sound-beside : {g : Network} {M xs ys : List ℕ} {k len : ℕ} → Beside xs ys (nodeCount g) → SecondSound g M xs k len → SecondSound g M ys k len
 sound-beside {g} {M} {xs} {ys} {k} {len} same s =
     record {
       stands = λ u j d h l e. rw (id-beside (nodeCount g) k same u j) (s .stands u j d h l (sym (word-beside (nodeCount g) k same u j) ∙ e));
@@ -155,14 +155,14 @@ module _ {g : Network} {P : List ℕ} {q k v inner : ℕ} {xs : List ℕ} (c : C
       }
 
 -- ---- Coming to a node.
-module _ {g : Network} {P : List ℕ} {xs : List ℕ} {inner k len v q : ℕ} (c : CanDiscover g P xs inner k len v q) where
+module _ {g : Network} {P : List ℕ} {xs : List ℕ} {inner k len v q : ℕ} (c : CanDiscoverEp g P xs inner k len v q) where
   fits : inner ≤ length xs
   fits = omega (arith, c .size)
 
   low : nodeCount g ≤ inner
   low = omega (arith, c .rows)
 
-  pub no-point : marked P v ≡ false → Discovered g P q k v inner xs xs len len
+  pub no-point : marked P v ≡ false → DiscoveredEp g P q k v inner xs xs len len
   no-point m =
       record {
         size = refl;
@@ -198,7 +198,7 @@ module _ {g : Network} {P : List ℕ} {xs : List ℕ} {inner k len v q : ℕ} (c
               ];
         }
 
-    pub can-admit : CanSpread g (take inner ys) k len v v 0
+    pub can-admit : CanAdmit g (take inner ys) k len v v 0
     can-admit =
         record {
           accepted = c .accepted;
@@ -209,7 +209,7 @@ module _ {g : Network} {P : List ℕ} {xs : List ℕ} {inner k len v q : ℕ} (c
         }
 
     pub discovered : {zs : List ℕ} {r : ℕ} → marked P v ≡ true → Admitted g (take inner ys) zs k len r v v 0
-        → Discovered g P q k v inner xs (zs ++ drop inner ys) len r
+        → DiscoveredEp g P q k v inner xs (zs ++ drop inner ys) len r
     discovered {zs} {r} mark a =
         record {
           size = first-size inner ys zs fits-new (a .frame .size) ∙ w .size;
@@ -246,14 +246,14 @@ pub record Extending (g : Network) (P : List ℕ) (q k : ℕ) (xs : List ℕ) (i
   pub discovering : Discovering g P marks q k xs outer 0 settled len
   pub blank : (j : ℕ) → inner ≤ j → j < outer → getD xs j 0 ≡ 0
   pub second : Second g (take inner xs) k waiting
-  pub sound : Sound g marks (take inner xs) k waiting
+  pub sound : SecondSound g marks (take inner xs) k waiting
 
 pub record Coming (g : Network) (P : List ℕ) (q k : ℕ) (xs : List ℕ) (inner outer settled left waiting l v : ℕ) : Type 0 where
   pub marks : List ℕ
   pub arrived : Arrived g P marks q k xs outer 0 settled left l v
   pub blank : (j : ℕ) → inner ≤ j → j < outer → getD xs j 0 ≡ 0
   pub second : Second g (take inner xs) k waiting
-  pub sound : Sound g marks (take inner xs) k waiting
+  pub sound : SecondSound g marks (take inner xs) k waiting
 
 -- words before the outer area change, but no flag does
 discovering-beside : {g : Network} {P M : List ℕ} {q k settled len outer : ℕ} {xs ys : List ℕ} → Accepted g → Beside xs ys outer
@@ -349,7 +349,7 @@ module _ {g : Network} {P s₀ : List ℕ} {inner outer q k : ℕ} (c : CanSettl
       second-on : Second g (take inner ws) k waits
       second-on = rw again (a .second)
 
-      sound-on : Sound g (e .marks) (take inner ws) k waits
+      sound-on : SecondSound g (e .marks) (take inner ws) k waits
       sound-on = rw again (a .sound (e .marks) (rw same-part (e .sound)))
 
       blank-on : (j : ℕ) → inner ≤ j → j < outer → getD ws j 0 ≡ 0
@@ -408,7 +408,7 @@ module _ {g : Network} {P s₀ : List ℕ} {inner outer q k : ℕ} (c : CanSettl
       inner-part : take inner (take outer ws) ≡ take inner ws
       inner-part = take-less inner outer ws inner-low fits-on
 
-      pub can-discover : CanDiscover g P (take outer ws) inner k waits v q
+      pub can-discover : CanDiscoverEp g P (take outer ws) inner k waits v q
       can-discover =
           record {
             accepted = ok;
@@ -429,7 +429,7 @@ module _ {g : Network} {P s₀ : List ℕ} {inner outer q k : ℕ} (c : CanSettl
             second = rw inner-part second-on;
           }
 
-      module _ {vs : List ℕ} {more : ℕ} (w : Discovered g P q k v inner (take outer ws) vs waits more) where
+      module _ {vs : List ℕ} {more : ℕ} (w : DiscoveredEp g P q k v inner (take outer ws) vs waits more) where
         abbrev us : List ℕ
         us = vs ++ drop outer ws
 

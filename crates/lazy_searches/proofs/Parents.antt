@@ -16,7 +16,7 @@ use Rattle.network.proofs.NumberZero.{accepted-ranges}
 use Rattle.expansion.specs.Queue.{Holds, keyOf}
 use Rattle.expansion.specs.Tags.{tagOf}
 use Rattle.expansion.specs.NodeQueue.{PushedNode}
-use Rattle.expansion.specs.Area.{queueBase, queueOf, PutIn, arcKey, Took, Followed}
+use Rattle.expansion.specs.Area.{queueBase, queueOf, PutAmong, arcKey, Took, Followed}
 use Rattle.expansion.proofs.Origins.{one}
 use Rattle.expansion.proofs.Search.{Closed, Leads, parent-open}
 use Rattle.expansion.proofs.TagLaws.{entry-same}
@@ -77,7 +77,7 @@ module _ {g : Network} (ok : Accepted g) {q : ℕ} {Open Seen : ℕ → Type 0} 
       → AllCame g q ys b left → AllCame g q ws b more
   came-followed f all k h = ⊎-elim (λ w. all k (rw same at w)) (λ i. new k i) (f .old k h)
     where
-      new : {Puts : ℕ → Type 0} (k : ℕ) → PutIn (arcKey g v l) Puts (length (neighboursOf g v)) k → Came g q k
+      new : {Puts : ℕ → Type 0} (k : ℕ) → PutAmong (arcKey g v l) Puts (length (neighboursOf g v)) k → Came g q k
       new k i =
           let r = arc-at (accepted-ranges ok) v (t .inside) (i .place) (i .low) in
           record {

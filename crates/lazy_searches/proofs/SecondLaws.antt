@@ -26,7 +26,7 @@ use Rattle.network.proofs.Totals.{total-same, sum-le, sum-different}
 use Rattle.expansion.specs.Queue.{PushedAt, PoppedAt, keyOf, keyAt}
 use Rattle.expansion.specs.Tags.{tagOf, tagNode, tagParent}
 use Rattle.expansion.specs.Area.{Kept}
-use Rattle.lazy_searches.specs.Second.{rowDistance, pointOf, besideOf, farOf, wordsBase, secondBase, secondQueue, idAt, wordAt, Source, Second, Sound, spread, work, PlaceFor, CanSpread, Offered, Admitted, Advanced, isBelow, Closed}
+use Rattle.lazy_searches.specs.Second.{rowDistance, pointOf, besideOf, farOf, wordsBase, secondBase, secondQueue, idAt, wordAt, Source, Second, SecondSound, spread, work, PlaceFor, CanAdmit, OfferedSecond, Admitted, Advanced, isBelow, Closed}
 use Rattle.searches.proofs.Beaten.{Part, part-marked}
 use Rattle.expansion.proofs.TagLaws.{no-later-key}
 use Rattle.expansion.proofs.AreaLaws.{kept-same}
@@ -40,7 +40,7 @@ source-part {M} {N} {p} sub s = record { inside = s .inside; point = part-marked
 source-same : {g : Network} {M : List ℕ} {u v p q d e : ℕ} → u ≡ v → p ≡ q → d ≡ e → Source g M v q e → Source g M u p d
 source-same a b c s = rw (a, b, c) s
 
-pub sound-part : {g : Network} {M N xs : List ℕ} {k len : ℕ} → Part M N → Sound g M xs k len → Sound g N xs k len
+pub sound-part : {g : Network} {M N xs : List ℕ} {k len : ℕ} → Part M N → SecondSound g M xs k len → SecondSound g N xs k len
 sound-part sub s =
     record {
       stands = λ u j d h l e. source-part sub (s .stands u j d h l e);
@@ -64,7 +64,7 @@ module _ {g : Network} {xs : List ℕ} {k : ℕ} (zeros : (j : ℕ) → nodeCoun
         distinct = λ u i j l m o a. absurd (a (zeros (wordsBase (nodeCount g) k + u * k + i) (omega arith)));
       }
 
-  pub sound-start : (M : List ℕ) → Sound g M xs k 0
+  pub sound-start : (M : List ℕ) → SecondSound g M xs k 0
   sound-start M =
       record {
         stands = λ u j d l m e. absurd (omega (arith, zeros (wordsBase (nodeCount g) k + u * k + j) (omega arith)));
@@ -93,23 +93,23 @@ module _ {g : Network} {k : ℕ} {xs ys : List ℕ} (same : Kept xs ys (secondBa
       s .distinct u i j h l m (rw (word-kept same u i h l) at a) (rw (word-kept same u j h m) at b)
       (sym (id-kept same u i h l) ∙ e ∙ id-kept same u j h m)
 
-  stands-kept : {M : List ℕ} {len : ℕ} → Sound g M xs k len
+  stands-kept : {M : List ℕ} {len : ℕ} → SecondSound g M xs k len
       → (u j d : ℕ) → u < nodeCount g → j < k → wordAt (nodeCount g) k ys u j ≡ suc d → Source g M u (idAt (nodeCount g) k ys u j) d
   stands-kept s u j d h l e = rw (id-kept same u j h l) (s .stands u j d h l (sym (word-kept same u j h l) ∙ e))
 
 -- ---- Offering.
 module _ {g : Network} {xs : List ℕ} {k len p u d : ℕ} where
-  pub offered-none : Second g xs k len → Offered g xs xs k len len p u d 0
+  pub offered-none : Second g xs k len → OfferedSecond g xs xs k len len p u d 0
   offered-none s = record { frame = kept-same; grown = omega arith; second = s; sound = λ M o s. s }
 
-  module _ {ys : List ℕ} {more j : ℕ} (f : Offered g xs ys k len more p u d j) where
+  module _ {ys : List ℕ} {more j : ℕ} (f : OfferedSecond g xs ys k len more p u d j) where
     -- the queue is full
-    pub offered-skip : Offered g xs ys k len more p u d (j + 1)
+    pub offered-skip : OfferedSecond g xs ys k len more p u d (j + 1)
     offered-skip = record { frame = f .frame; grown = omega (arith, f .grown); second = f .second; sound = f .sound }
 
     -- an arc leads to c
     pub offered-push : {zs : List ℕ} {c w : ℕ} → Accepted g → p < nodeCount g → Arc g u c w
-        → PushedAt ys zs (secondBase (nodeCount g) k) more (keyOf (d + w) (tagOf p c)) → Offered g xs zs k len (more + 1) p u d (j + 1)
+        → PushedAt ys zs (secondBase (nodeCount g) k) more (keyOf (d + w) (tagOf p c)) → OfferedSecond g xs zs k len (more + 1) p u d (j + 1)
     offered-push {zs} {c} {w} ok h r t =
         record {
           frame = record { size = t .size ∙ f .frame .size; words = λ i l. t .before i l ∙ f .frame .words i l };
@@ -152,7 +152,7 @@ module _ {g : Network} {xs : List ℕ} {k len p u d : ℕ} where
         there M o = record { inside = o .inside; point = o .point; walk = rw (add-comm d w) (step (ok .returns r) (o .walk)) }
 
 -- ---- Taking a place: p, at distance d, at place i of u's row.
-module _ {g : Network} {xs : List ℕ} {k len p u d i : ℕ} (c : CanSpread g xs k len p u d) (f : PlaceFor xs (nodeCount g + u * k) (wordsBase (nodeCount g) k + u * k) k p d i)
+module _ {g : Network} {xs : List ℕ} {k len p u d i : ℕ} (c : CanAdmit g xs k len p u d) (f : PlaceFor xs (nodeCount g + u * k) (wordsBase (nodeCount g) k + u * k) k p d i)
     (low : i < k) where
   abbrev n : ℕ
   n = nodeCount g
@@ -238,7 +238,7 @@ module _ {g : Network} {xs : List ℕ} {k len p u d i : ℕ} (c : CanSpread g xs
               c .second .distinct v a b h l m (rw (word-other v a h l p) at x) (rw (word-other v b h m q) at y)
               (sym (id-other v a h l p) ∙ e ∙ id-other v b h m q)
 
-  pub taken-sound : (M : List ℕ) → Source g M u p d → Sound g M xs k len → Sound g M taken k len
+  pub taken-sound : (M : List ℕ) → Source g M u p d → SecondSound g M xs k len → SecondSound g M taken k len
   taken-sound M o s =
       record { stands = stands; waits = λ key h. s .waits key (rw queue-same at h) }
     where
@@ -269,7 +269,7 @@ module _ {g : Network} {xs : List ℕ} {k len p u d i : ℕ} (c : CanSpread g xs
   taken-frame = record { size = simp length-set; words = λ j h. other j (omega arith) (omega arith) }
 
   -- then it is offered
-  pub admitted : {ys : List ℕ} {r : ℕ} → Offered g taken ys k len r p u d (length (neighboursOf g u)) → Admitted g xs ys k len r p u d
+  pub admitted : {ys : List ℕ} {r : ℕ} → OfferedSecond g taken ys k len r p u d (length (neighboursOf g u)) → Admitted g xs ys k len r p u d
   admitted {ys} {r} o =
       record {
         frame = record { size = o .frame .size ∙ taken-frame .size; words = λ j h. o .frame .words j (omega arith) ∙ taken-frame .words j h };
@@ -332,10 +332,10 @@ module _ {g : Network} {xs ys zs : List ℕ} {k len left : ℕ} (far tag : ℕ) 
       word-at : (i j : ℕ) → secondBase (nodeCount g) k + i ≡ j → getD (secondQueue (nodeCount g) k ys) i 0 ≡ getD ys j 0
       word-at i j e = getD-drop (secondBase (nodeCount g) k) ys i 0 ∙ ap (λ (x : ℕ). getD ys x 0) e
 
-  popped-sound : (M : List ℕ) → Sound g M ys k left → Sound g M zs k (left - 1)
+  popped-sound : (M : List ℕ) → SecondSound g M ys k left → SecondSound g M zs k (left - 1)
   popped-sound M s = record { stands = stands-kept popped-frame s; waits = λ key h. s .waits key (t .queue .old key h) }
 
-  source : (M : List ℕ) → Sound g M ys k left → Source g M (tagParent tag) (tagNode tag) far
+  source : (M : List ℕ) → SecondSound g M ys k left → Source g M (tagParent tag) (tagNode tag) far
   source M s =
       let e : besideOf (keyOf far tag) ≡ tagParent tag = omega arith in
       let h : pointOf (keyOf far tag) ≡ tagNode tag = omega arith in
@@ -359,7 +359,7 @@ module _ {g : Network} {xs ys zs : List ℕ} {k len left : ℕ} (far tag : ℕ) 
     advanced-less some = omega (arith, b .less, ap (λ (x : ℕ). x * (arcCount g + 2)) (spread-kept (nodeCount g) k popped-frame))
 
 -- ---- Pruning: where k lockers stand in u's row at distances below l, k lockers of the marks are nearer to u than l, as each mark has all of P's.
-pub closed-nearer : {g : Network} {P M xs : List ℕ} {k len u l : ℕ} → Accepted g → Second g xs k len → Sound g M xs k len
+pub closed-nearer : {g : Network} {P M xs : List ℕ} {k len u l : ℕ} → Accepted g → Second g xs k len → SecondSound g M xs k len
     → ((p : ℕ) → marked M p ≡ true → lockers P p ≤ lockers M p) → u < nodeCount g → l ≤ NONE → Closed P (nodeCount g) xs k u l → k ≤ countNearer g M u l
 unfolding countNearer
 closed-nearer {g} {P} {M} {xs} {k} {len} {u} {l} ok second sound all h top c =

@@ -14,7 +14,7 @@ use Rattle.network.specs.Distance.{dist}
 use Rattle.network.specs.Count.{select}
 use Rattle.network.specs.Points.{lockers, isListed, listed}
 use Rattle.network.specs.Answers.{answered}
-use Rattle.expansion.specs.Area.{queueBase, LabelAt, Stands, Blank, Wiped}
+use Rattle.expansion.specs.Area.{queueBase, LabelAt, AmongSettled, Blank, Wiped}
 use Rattle.searches.specs.Eager.{isFound}
 
 -- 'Lazy (000, 3.3) and lazy-EP (000, 4.2): the list.' All words are 0 again.
@@ -61,7 +61,7 @@ pub record CountedNode (n : ℕ) (xs ys : List ℕ) (b l c u : ℕ) : Type 0 whe
 pub record CountedAll (n : ℕ) (xs ys : List ℕ) (b settled l c : ℕ) : Type 0 where
   pub size : length ys ≡ length xs
   pub words : (i : ℕ) → n ≤ i → getD ys i 0 ≡ getD xs i 0
-  pub counts : (u : ℕ) → u < n → (getD ys u 0 ≡ getD xs u 0) ⊎ (Stands n xs (visitBase n) settled u × Rises n xs ys b l c u)
+  pub counts : (u : ℕ) → u < n → (getD ys u 0 ≡ getD xs u 0) ⊎ (AmongSettled n xs (visitBase n) settled u × Rises n xs ys b l c u)
 
 -- a node v to which the search comes: it is verified where it is a point
 pub record CanDiscover (g : Network) (P : List ℕ) (q k : ℕ) (xs : List ℕ) (b v : ℕ) : Type 0 where
@@ -92,7 +92,7 @@ pub record Discovered (g : Network) (P : List ℕ) (q k : ℕ) (xs ys : List ℕ
   pub counts : (u : ℕ) → u < nodeCount g → (getD ys u 0 ≡ getD xs u 0) ⊎ CountedBy g P xs ys b l v u
 
 -- an accepted network with a byte for each node, a site, and words that are all 0; then the found flags are those of the listed points
-pub record CanExplore (g : Network) (P xs : List ℕ) (b q : ℕ) : Type 0 where
+pub record CanExploreLazy (g : Network) (P xs : List ℕ) (b q : ℕ) : Type 0 where
   pub accepted : Accepted g
   pub points : length P ≡ nodeCount g
   pub site : q < nodeCount g
@@ -100,6 +100,6 @@ pub record CanExplore (g : Network) (P xs : List ℕ) (b q : ℕ) : Type 0 where
   pub blank : Blank xs 0
   pub size : queueBase (nodeCount g) b + 2 * nodeCount g ≤ length xs
 
-pub record ExploreLeft (g : Network) (P : List ℕ) (q k : ℕ) (xs ys : List ℕ) : Type 0 where
+pub record LazyExplored (g : Network) (P : List ℕ) (q k : ℕ) (xs ys : List ℕ) : Type 0 where
   pub size : length ys ≡ length xs
   pub found : select (isFound (nodeCount g) ys) (nodeCount g) ≡ listed g P q k

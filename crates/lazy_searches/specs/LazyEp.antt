@@ -13,7 +13,7 @@ use Rattle.network.specs.Count.{select}
 use Rattle.network.specs.Points.{marked, isListed, listed}
 use Rattle.expansion.specs.Area.{Blank}
 use Rattle.searches.specs.Eager.{isFound}
-use Rattle.lazy_searches.specs.Second.{secondBase, Second, Sound, Closed}
+use Rattle.lazy_searches.specs.Second.{secondBase, Second, SecondSound, Closed}
 
 -- the words of an expansion's area
 abbrev pub areaSize : Network → ℕ
@@ -55,7 +55,7 @@ abbrev pub TakenBack : List ℕ → ℕ → List ℕ → ℕ → ℕ → ℕ →
 TakenBack P n xs outer k v l u = Closed P n xs k v l ⊎ ClosedBehind P n xs outer k u
 
 -- the words before the outer area: node v can be verified, and come into its own row
-pub record CanDiscover (g : Network) (P xs : List ℕ) (inner k len v q : ℕ) : Type 0 where
+pub record CanDiscoverEp (g : Network) (P xs : List ℕ) (inner k len v q : ℕ) : Type 0 where
   pub accepted : Accepted g
   pub points : length P ≡ nodeCount g
   pub site : q < nodeCount g
@@ -78,11 +78,11 @@ pub record PointVerified (g : Network) (P : List ℕ) (q k v : ℕ) (xs ys : Lis
   pub rest : (i : ℕ) → nodeCount g ≤ i → getD ys i 0 ≡ getD xs i 0
 
 -- v is verified where it is a point, and spreads from its own row then
-pub record Discovered (g : Network) (P : List ℕ) (q k v inner : ℕ) (xs ys : List ℕ) (len r : ℕ) : Type 0 where
+pub record DiscoveredEp (g : Network) (P : List ℕ) (q k v inner : ℕ) (xs ys : List ℕ) (len r : ℕ) : Type 0 where
   pub size : length ys ≡ length xs
   pub flag : OwnFlag g P q k v xs ys
   pub blank : Blank ys inner
   pub second : Second g (take inner ys) k r
   pub sound :
-      (M : List ℕ) → (marked P v ≡ true → marked M v ≡ true) → Sound g M (take inner xs) k len
-      → Sound g M (take inner ys) k r
+      (M : List ℕ) → (marked P v ≡ true → marked M v ≡ true) → SecondSound g M (take inner xs) k len
+      → SecondSound g M (take inner ys) k r

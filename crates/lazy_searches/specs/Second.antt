@@ -68,7 +68,7 @@ pub record Second (g : Network) (xs : List ℕ) (k len : ℕ) : Type 0 where
       → idAt (nodeCount g) k xs u i ≡ idAt (nodeCount g) k xs u j → i ≡ j
 
 -- what stands in the rows and waits in the queue are sums of walks to marks of M
-pub record Sound (g : Network) (M xs : List ℕ) (k len : ℕ) : Type 0 where
+pub record SecondSound (g : Network) (M xs : List ℕ) (k len : ℕ) : Type 0 where
   pub stands : (u j d : ℕ) → u < nodeCount g → j < k → wordAt (nodeCount g) k xs u j ≡ suc d → Source g M u (idAt (nodeCount g) k xs u j) d
   pub waits : (key : ℕ) → Holds (secondQueue (nodeCount g) k xs) len key → Source g M (besideOf key) (pointOf key) (farOf key)
 
@@ -88,7 +88,7 @@ pub record PlaceFor (xs : List ℕ) (ids words k p d r : ℕ) : Type 0 where
   pub absent : r < k → (j : ℕ) → j < k → getD xs (words + j) 0 ≢ 0 → getD xs (ids + j) 0 ≢ p
 
 -- point p, at distance d from node u, can be put into u's row and offered to u's neighbours
-pub record CanSpread (g : Network) (xs : List ℕ) (k len p u d : ℕ) : Type 0 where
+pub record CanAdmit (g : Network) (xs : List ℕ) (k len p u d : ℕ) : Type 0 where
   pub accepted : Accepted g
   pub second : Second g xs k len
   pub inside : u < nodeCount g
@@ -96,17 +96,17 @@ pub record CanSpread (g : Network) (xs : List ℕ) (k len p u d : ℕ) : Type 0 
   pub fits : d + 65535 < 4294967296
 
 -- p was offered to the neighbours of u before place `end`, as far as the queue has room
-pub record Offered (g : Network) (xs ys : List ℕ) (k len r p u d end : ℕ) : Type 0 where
+pub record OfferedSecond (g : Network) (xs ys : List ℕ) (k len r p u d end : ℕ) : Type 0 where
   pub frame : Kept xs ys (secondBase (nodeCount g) k)
   pub grown : r ≤ len + end
   pub second : Second g ys k r
-  pub sound : (M : List ℕ) → Source g M u p d → Sound g M xs k len → Sound g M ys k r
+  pub sound : (M : List ℕ) → Source g M u p d → SecondSound g M xs k len → SecondSound g M ys k r
 
 -- p came to u at distance d
 pub record Admitted (g : Network) (xs ys : List ℕ) (k len r p u d : ℕ) : Type 0 where
   pub frame : Kept xs ys (nodeCount g)
   pub second : Second g ys k r
-  pub sound : (M : List ℕ) → Source g M u p d → Sound g M xs k len → Sound g M ys k r
+  pub sound : (M : List ℕ) → Source g M u p d → SecondSound g M xs k len → SecondSound g M ys k r
   pub less : work g k ys r ≤ work g k xs len
 
 -- the entries of a distance below l come to their nodes
@@ -118,7 +118,7 @@ pub record CanAdvance (g : Network) (xs : List ℕ) (k len l : ℕ) : Type 0 whe
 pub record Advanced (g : Network) (xs ys : List ℕ) (k len r : ℕ) : Type 0 where
   pub frame : Kept xs ys (nodeCount g)
   pub second : Second g ys k r
-  pub sound : (M : List ℕ) → Sound g M xs k len → Sound g M ys k r
+  pub sound : (M : List ℕ) → SecondSound g M xs k len → SecondSound g M ys k r
 
 -- k of P's lockers stand in node u's row at distances below l
 abbrev pub isBelow : ℕ → ℕ → List ℕ → ℕ → ℕ → ℕ → Bool

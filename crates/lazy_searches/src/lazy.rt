@@ -8,7 +8,7 @@ ghost use lib.ListN.{length, getD};
 ghost use Rattle.network.specs.Network.{network};
 ghost use Rattle.expansion.specs.Area.{queueBase};
 ghost use Rattle.searches.specs.Eager.{CanSearch, HasPlaces};
-ghost use Rattle.lazy_searches.specs.Lazy.{visitBase, isLess, CanCount, CountedNode, CountedAll, CanDiscover, Discovered, CanExplore, ExploreLeft, SearchLeft};
+ghost use Rattle.lazy_searches.specs.Lazy.{visitBase, isLess, CanCount, CountedNode, CountedAll, CanDiscover, Discovered, CanExploreLazy, LazyExplored, SearchLeft};
 use expansion::step;
 use expansion::step::Taken;
 use expansion::verify;
@@ -121,8 +121,8 @@ fn explore(
     q: u32,
     k: usize,
 )
-    requires { ⌜ CanExplore (network (now starts) (now neighbours) (now weights)) (now points) (now s) b q ⌝ }
-    ensures { λ _. ⌜ ExploreLeft (network (now (starts .entry)) (now (neighbours .entry)) (now (weights .entry))) (now (points .entry)) q k (now (s .entry)) (now (s .exit)) ⌝ }
+    requires { ⌜ CanExploreLazy (network (now starts) (now neighbours) (now weights)) (now points) (now s) b q ⌝ }
+    ensures { λ _. ⌜ LazyExplored (network (now (starts .entry)) (now (neighbours .entry)) (now (weights .entry))) (now (points .entry)) q k (now (s .entry)) (now (s .exit)) ⌝ }
 {
     let n = starts.len() - 1;
     step::start(s, b, n, q);

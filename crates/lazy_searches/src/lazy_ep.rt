@@ -10,7 +10,7 @@ ghost use Rattle.network.specs.Points.{marked};
 ghost use Rattle.expansion.specs.Visited.{CanVisit};
 ghost use Rattle.lazy_searches.specs.Second.{secondBase};
 ghost use Rattle.lazy_searches.specs.Lazy.{SearchLeft};
-ghost use Rattle.lazy_searches.specs.LazyEp.{CanExtend, CanSettle, SettledFound, TakenBack, CanDiscover, PointVerified, Discovered};
+ghost use Rattle.lazy_searches.specs.LazyEp.{CanExtend, CanSettle, SettledFound, TakenBack, CanDiscoverEp, PointVerified, DiscoveredEp};
 use crate::second;
 use expansion::distances;
 use expansion::step;
@@ -84,8 +84,8 @@ fn discover(
     v: u32,
     q: u32,
 ) -> usize
-    requires { ⌜ CanDiscover (network (now starts) (now neighbours) (now weights)) (now points) (now f) inner k len v q ⌝ }
-    ensures { λ r. ⌜ Discovered (network (now (starts .entry)) (now (neighbours .entry)) (now (weights .entry))) (now (points .entry)) q k v inner (now (f .entry)) (now (f .exit)) len r ⌝ }
+    requires { ⌜ CanDiscoverEp (network (now starts) (now neighbours) (now weights)) (now points) (now f) inner k len v q ⌝ }
+    ensures { λ r. ⌜ DiscoveredEp (network (now (starts .entry)) (now (neighbours .entry)) (now (weights .entry))) (now (points .entry)) q k v inner (now (f .entry)) (now (f .exit)) len r ⌝ }
 {
     let at = wide(v);
     let mark = points[at];

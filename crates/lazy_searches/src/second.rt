@@ -5,7 +5,7 @@ ghost use mathlib.Core.Bool.{true};
 ghost use Prim.Native.Nat.{_+_, _*_, _≤_, _<_};
 ghost use lib.ListN.{length, getD};
 ghost use Rattle.network.specs.Network.{network, neighboursOf};
-ghost use Rattle.lazy_searches.specs.Second.{rowDistance, wordsBase, secondBase, PlaceFor, CanSpread, Offered, Admitted, CanAdvance, Advanced, Closed};
+ghost use Rattle.lazy_searches.specs.Second.{rowDistance, wordsBase, secondBase, PlaceFor, CanAdmit, OfferedSecond, Admitted, CanAdvance, Advanced, Closed};
 use expansion::distances;
 use expansion::queue;
 use expansion::tags;
@@ -69,8 +69,8 @@ fn offer(
     u: u32,
     d: u32,
 ) -> usize
-    requires { ⌜ CanSpread (network (now starts) (now neighbours) (now weights)) (now s) k len p u d ⌝ }
-    ensures { λ r. ⌜ Offered (network (now (starts .entry)) (now (neighbours .entry)) (now (weights .entry))) (now (s .entry)) (now (s .exit)) k len r p u d (length (neighboursOf (network (now (starts .entry)) (now (neighbours .entry)) (now (weights .entry))) u)) ⌝ }
+    requires { ⌜ CanAdmit (network (now starts) (now neighbours) (now weights)) (now s) k len p u d ⌝ }
+    ensures { λ r. ⌜ OfferedSecond (network (now (starts .entry)) (now (neighbours .entry)) (now (weights .entry))) (now (s .entry)) (now (s .exit)) k len r p u d (length (neighboursOf (network (now (starts .entry)) (now (neighbours .entry)) (now (weights .entry))) u)) ⌝ }
 {
     let n = starts.len() - 1;
     let at = n + 2 * (n * k);
@@ -108,7 +108,7 @@ pub fn admit(
     u: u32,
     d: u32,
 ) -> usize
-    requires { ⌜ CanSpread (network (now starts) (now neighbours) (now weights)) (now s) k len p u d ⌝ }
+    requires { ⌜ CanAdmit (network (now starts) (now neighbours) (now weights)) (now s) k len p u d ⌝ }
     ensures { λ r. ⌜ Admitted (network (now (starts .entry)) (now (neighbours .entry)) (now (weights .entry))) (now (s .entry)) (now (s .exit)) k len r p u d ⌝ }
 {
     let n = starts.len() - 1;

@@ -4,7 +4,7 @@ use mathlib.Core.Path.{refl}
 use Rattle.network.specs.Count.{any, count, total, select, tabulate}
 use Rattle.network.specs.Network.{arcsFrom, arcsOf, partOf}
 use Rattle.network.specs.Check.{badSize, fallsAt, badStarts, badNeighbourAt, badPart, badNeighboursOf, badNeighbours, badWeightAt, badWeights, isArcAt, hasArc, lacksReturnAt, lacksReturnOf, lacksReturn, networkNumber}
-use Rattle.network.specs.Distance.{plus, least, within, dist}
+use Rattle.network.specs.Distance.{plus, leastOver, within, dist}
 use Rattle.network.specs.Points.{isNearer, countNearer, othersNearer, verified, isListed, listed, isExpanded, expanded, exceedsLimit}
 use Rattle.network.specs.Nearest.{insert, insertTimes, byDistance, nearest}
 use Rattle.network.specs.Visits.{visits}
@@ -13,7 +13,7 @@ use Rattle.network.specs.Cases.{Cases, roads}
 use Rattle.network.proofs.NumberZero.{number-zero}
 
 pub cases : Cases
-unfolding any count total select arcsFrom arcsOf partOf badSize fallsAt badStarts badNeighbourAt badPart badNeighboursOf badNeighbours badWeightAt badWeights isArcAt hasArc lacksReturnAt lacksReturnOf lacksReturn networkNumber plus least within dist isNearer countNearer othersNearer verified isListed listed isExpanded expanded exceedsLimit insert insertTimes byDistance nearest tabulate visits row sameRow rowsChanged
+unfolding any count total select arcsFrom arcsOf partOf badSize fallsAt badStarts badNeighbourAt badPart badNeighboursOf badNeighbours badWeightAt badWeights isArcAt hasArc lacksReturnAt lacksReturnOf lacksReturn networkNumber plus leastOver within dist isNearer countNearer othersNearer verified isListed listed isExpanded expanded exceedsLimit insert insertTimes byDistance nearest tabulate visits row sameRow rowsChanged
 cases =
     record {
       accepted-N = number-zero (roads 7) .0 refl;

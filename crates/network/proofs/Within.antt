@@ -10,7 +10,7 @@ use borrow.Author.Tests.{eq-eqb, ne-eqb}
 use Rattle.network.specs.Network.{Network, Arc, arcsOf}
 use Rattle.network.proofs.NodeArcs.{arc-listed, listed-arc}
 use Rattle.network.specs.Walk.{Walk, here, step}
-use Rattle.network.specs.Distance.{NONE, plus, least, within}
+use Rattle.network.specs.Distance.{NONE, plus, leastOver, within}
 
 pub plus-some : (w v : ℕ) → v ≢ NONE → plus w v ≡ w + v
 unfolding plus
@@ -21,8 +21,8 @@ unfolding plus
 plus-none w v h = rw (eq-eqb v NONE h, plus)
 
 module _ (f : ℕ → ℕ) where
-  least-le : (ps : List (ℕ × ℕ)) (c w : ℕ) → List·Memᴰ (c, w) ps → least f ps ≤ plus w (f c)
-  unfolding least
+  least-le : (ps : List (ℕ × ℕ)) (c w : ℕ) → List·Memᴰ (c, w) ps → leastOver f ps ≤ plus w (f c)
+  unfolding leastOver
   least-le [] c w m = absurd (List·Memᴰ·not-nil m)
   least-le (p ∷ ps) c w m =
       ⊎-elim
@@ -30,8 +30,8 @@ module _ (f : ℕ → ℕ) where
       (λ t. let h = least-le ps c w t in omega arith)
       (List·Memᴰ·cases-cons m)
 
-  least-le-none : (ps : List (ℕ × ℕ)) → least f ps ≤ NONE
-  unfolding least
+  least-le-none : (ps : List (ℕ × ℕ)) → leastOver f ps ≤ NONE
+  unfolding leastOver
   least-le-none [] = omega arith
   least-le-none (p ∷ ps) = let h = least-le-none ps in omega arith
 
@@ -40,13 +40,13 @@ module _ (f : ℕ → ℕ) where
     pub to : ℕ
     pub weight : ℕ
     pub mem : List·Memᴰ (to, weight) ps
-    pub sum : least f ps ≡ plus weight (f to)
+    pub sum : leastOver f ps ≡ plus weight (f to)
 
-  best : (ps : List (ℕ × ℕ)) → least f ps ≢ NONE → Best ps
-  unfolding least
+  best : (ps : List (ℕ × ℕ)) → leastOver f ps ≢ NONE → Best ps
+  unfolding leastOver
   best [] h = absurd (h refl)
   best (p ∷ ps) h =
-      elim (decLe (plus (p .1) (f (p .0))) (least f ps)) [
+      elim (decLe (plus (p .1) (f (p .0))) (leastOver f ps)) [
         | yes l ↦ record { to = p .0; weight = p .1; mem = List·Memᴰ·head refl; sum = omega arith }
         | no n ↦
             let r = best ps (omega (arith, h)) in
@@ -63,7 +63,7 @@ within-zero : (g : Network) (a b : ℕ) → a ≢ b → within g zero a b ≡ NO
 unfolding within
 within-zero g a b n = rw (ne-eqb a b n, within)
 
-within-suc : (g : Network) (j a b : ℕ) → a ≢ b → within g (suc j) a b ≡ least (λ c. within g j c b) (arcsOf g a)
+within-suc : (g : Network) (j a b : ℕ) → a ≢ b → within g (suc j) a b ≡ leastOver (λ c. within g j c b) (arcsOf g a)
 unfolding within
 within-suc g j a b n = rw (ne-eqb a b n, within)
 

@@ -24,14 +24,14 @@ unfoldable pub plus : ℕ → ℕ → ℕ
 plus w v = elim (eqb v NONE) [ true ↦ NONE | false ↦ w + v ]
 
 -- the least over the arcs (c, w) of w and then f c
-unfoldable pub least : (ℕ → ℕ) → List (ℕ × ℕ) → ℕ
-least f [] = NONE
-least f (p ∷ ps) = min (plus (p .1) (f (p .0))) (least f ps)
+unfoldable pub leastOver : (ℕ → ℕ) → List (ℕ × ℕ) → ℕ
+leastOver f [] = NONE
+leastOver f (p ∷ ps) = min (plus (p .1) (f (p .0))) (leastOver f ps)
 
 -- the smallest sum over the walks from a to b of at most j arcs
 unfoldable pub within : Network → ℕ → ℕ → ℕ → ℕ
 within g zero a b = elim (eqb a b) [ true ↦ 0 | false ↦ NONE ]
-within g (suc j) a b = elim (eqb a b) [ true ↦ 0 | false ↦ least (λ c. within g j c b) (arcsOf g a) ]
+within g (suc j) a b = elim (eqb a b) [ true ↦ 0 | false ↦ leastOver (λ c. within g j c b) (arcsOf g a) ]
 
 -- d(a, b), NONE where b can't be reached
 unfoldable pub dist : Network → ℕ → ℕ → ℕ

@@ -26,7 +26,7 @@ use Rattle.expansion.proofs.AreaLaws.{kept-same}
 use Rattle.searches.proofs.Listed.{listed-parts}
 use Rattle.searches.proofs.FlagLaws.{listed-verified, verified-listed, changed-grows, changed-flags}
 use Rattle.rows.specs.Flat.{IsTable}
-use Rattle.query.specs.Query.{Grown, CanDecide, Decided, Way, CanVerify, Verified, CanVerifyRow, Ways, ToldAll, RowVerified, Exact, CanLook, LookedLeft}
+use Rattle.query.specs.Query.{Grown, CanDecide, Decided, Way, CanVerifyWord, WordVerified, CanVerifyRow, Ways, ToldAll, RowVerified, Exact, CanLookByRow, LookedByRow}
 use Rattle.query.proofs.RowNearest.{listed-at-once, row-count, row-stands, row-way}
 
 -- part of an array: `&xs[a..e]`
@@ -38,12 +38,12 @@ pub unwiped : {g : Network} {P others xs : List ℕ} {p q k : ℕ} → CanDecide
 unwiped c = record { frame = kept-same; blank = c .visit .expand .blank }
 
 -- ---- One word.
-module _ {g : Network} {P dists : List ℕ} {q k K : ℕ} {xs : List ℕ} (c : CanVerify g P dists q k K xs) where
+module _ {g : Network} {P dists : List ℕ} {q k K : ℕ} {xs : List ℕ} (c : CanVerifyWord g P dists q k K xs) where
   pub grown-none : Grown g P xs xs
   grown-none = record { size = refl; words = λ i h. refl; only = c .front .only; grows = λ x h n. n }
 
   -- where flags were set, more can be verified
-  pub can-verify-more : {ys : List ℕ} → Grown g P xs ys → CanVerify g P dists q k K ys
+  pub can-verify-more : {ys : List ℕ} → Grown g P xs ys → CanVerifyWord g P dists q k K ys
   can-verify-more w =
       record {
         asked = c .asked;
@@ -56,19 +56,19 @@ module _ {g : Network} {P dists : List ℕ} {q k K : ℕ} {xs : List ℕ} (c : C
       }
 
   -- it is no point
-  pub verified-none : (p sum : ℕ) → getD P p 0 ≡ 0 → Verified g P dists q k K xs xs p sum
+  pub verified-none : (p sum : ℕ) → getD P p 0 ≡ 0 → WordVerified g P dists q k K xs xs p sum
   verified-none p sum n =
       record {
         grown = grown-none;
         right = λ e u f. record { flags = f; told = λ a. absurd (omega (arith, n, ltb-true 0 (getD P p 0) (listed-parts g P q k p .0 a .mark))) };
       }
 
-  pub verified-beyond : (p sum : ℕ) → nodeCount g ≤ p → Verified g P dists q k K xs xs p sum
+  pub verified-beyond : (p sum : ℕ) → nodeCount g ≤ p → WordVerified g P dists q k K xs xs p sum
   verified-beyond p sum h = verified-none p sum (List·getD-eq-default P 0 {n = p} (omega (arith, h, c .asked .points)))
 
   module _ (p sum : ℕ) (inside : p < nodeCount g) where
     -- it was verified before
-    pub verified-seen : getD xs p 0 ≢ 0 → Verified g P dists q k K xs xs p sum
+    pub verified-seen : getD xs p 0 ≢ 0 → WordVerified g P dists q k K xs xs p sum
     verified-seen s = record { grown = grown-none; right = λ e u f. record { flags = f; told = f .once p inside s } }
 
     -- its row, behind its own place
@@ -122,7 +122,7 @@ module _ {g : Network} {P dists : List ℕ} {q k K : ℕ} {xs : List ℕ} (c : C
             }
 
         changed : (dists ≡ tableDistances g P K → Way g p q sum → Flags g P q k xs → getD ws (nodeCount g + p) 0 ≢ 0 → isListed g P q k p ≡ true)
-            → (isListed g P q k p ≡ true → getD ws (nodeCount g + p) 0 ≢ 0) → Verified g P dists q k K xs ws p sum
+            → (isListed g P q k p ≡ true → getD ws (nodeCount g + p) 0 ≢ 0) → WordVerified g P dists q k K xs ws p sum
         changed sound told =
             record {
               grown = grown;
@@ -145,7 +145,7 @@ module _ {g : Network} {P dists : List ℕ} {q k K : ℕ} {xs : List ℕ} (c : C
               | no h ↦ d .area .blank .zero i (omega arith) ∙ sym (c .front .blank .zero i (omega arith))
             ]
 
-        pub verified-yes : yes? ≡ true → Verified g P dists q k K xs (set zs (nodeCount g + p) 1) p sum
+        pub verified-yes : yes? ≡ true → WordVerified g P dists q k K xs (set zs (nodeCount g + p) 1) p sum
         verified-yes y =
             let one = getD-set-same zs (nodeCount g + p) 1 0 (omega (arith, decided-size, c .front .size)) in
             changed (length-set zs (nodeCount g + p) 1 ∙ decided-size)
@@ -160,7 +160,7 @@ module _ {g : Network} {P dists : List ℕ} {q k K : ℕ} {xs : List ℕ} (c : C
             (d .answer)))
             (λ l z. omega arith)
 
-        pub verified-no : yes? ≡ false → Verified g P dists q k K xs zs p sum
+        pub verified-no : yes? ≡ false → WordVerified g P dists q k K xs zs p sum
         verified-no y =
             changed decided-size (λ i n m. word i n) (λ n. rw (word (nodeCount g + p) (omega (arith, c .asked .site))) n)
             (λ e u f n. f .sound p inside (rw (word (nodeCount g + p) (omega (arith, c .asked .site))) at n))
@@ -188,11 +188,11 @@ module _ {g : Network} {P dists : List ℕ} {q k K : ℕ} {xs zs ws : List ℕ} 
       }
 
   module _ {ys : List ℕ} {i : ℕ} (r : RowUpto g P dists q k K xs ys zs ws l i) where
-    pub row-verify : CanVerify g P dists q k K ys
+    pub row-verify : CanVerifyWord g P dists q k K ys
     row-verify = can-verify-more (c .verify) (r .grown)
 
     -- one place more
-    pub row-more : {us : List ℕ} → i < k → getD ws i 0 < l → Verified g P dists q k K ys us (getD zs i 0) (l + getD ws i 0)
+    pub row-more : {us : List ℕ} → i < k → getD ws i 0 < l → WordVerified g P dists q k K ys us (getD zs i 0) (l + getD ws i 0)
         → RowUpto g P dists q k K xs us zs ws l (i + 1)
     row-more {us} h m v =
         record {
@@ -230,7 +230,7 @@ module _ {g : Network} {P dists : List ℕ} {q k K : ℕ} {xs zs ws : List ℕ} 
     row-end stop = record { grown = r .grown; nearer = record { few = r .few; less = r .less; stop = stop }; right = r .right }
 
 -- ---- The row of a node.
-module _ {g : Network} {P ids dists : List ℕ} {q k K : ℕ} {xs : List ℕ} {v : ℕ} (c : CanLook g P ids dists q k K xs v) where
+module _ {g : Network} {P ids dists : List ℕ} {q k K : ℕ} {xs : List ℕ} {v : ℕ} (c : CanLookByRow g P ids dists q k K xs v) where
   pub ids-inside : v * K + K ≤ length ids
   ids-inside = omega (arith, row-fits v (nodeCount g) K (c .inside), c .all-ids)
 
@@ -287,5 +287,5 @@ module _ {g : Network} {P ids dists : List ℕ} {q k K : ℕ} {xs : List ℕ} {v
         all : ToldAll g P q k (part (v * K) (v * K + K) ids) ys r
         all = w .right (t .same-dists) ways f
 
-    pub looked-left : LookedLeft g P ids dists q k K xs ys v l r
+    pub looked-left : LookedByRow g P ids dists q k K xs ys v l r
     looked-left = record { grown = w .grown; right = looked }

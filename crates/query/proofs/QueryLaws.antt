@@ -15,13 +15,13 @@ use Rattle.network.proofs.Counts.{select-same}
 use Rattle.expansion.proofs.Settled.{zero-blank}
 use Rattle.searches.specs.Eager.{isFound}
 use Rattle.rows.specs.Flat.{IsTable}
-use Rattle.query.specs.Query.{CanExplore, ExploreLeft, CanQuery, QueryLeft}
+use Rattle.query.specs.Query.{CanExploreQuery, QueryExplored, CanQuery, QueryLeft}
 
 module _ {g : Network} {P ids dists xs old : List ℕ} {q k K : ℕ} (c : CanQuery g P ids dists xs old q k K) where
-  pub begun : CanExplore g P ids dists xs (6 * nodeCount g) q k K
+  pub begun : CanExploreQuery g P ids dists xs (6 * nodeCount g) q k K
   begun = record { asked = c .asked; all-ids = c .all-ids; base = omega arith; blank = c .blank; size = omega (arith, c .size) }
 
-  module _ {zs : List ℕ} (e : ExploreLeft g P ids dists q k K xs zs) where
+  module _ {zs : List ℕ} (e : QueryExplored g P ids dists q k K xs zs) where
     exactly : IsTable g P K ids dists → select (isFound (nodeCount g) zs) (nodeCount g) ≡ listed g P q k
     unfolding listed
     exactly t = select-same (isFound (nodeCount g) zs) (isListed g P q k) (nodeCount g) (e .right t)

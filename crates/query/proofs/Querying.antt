@@ -39,7 +39,7 @@ use Rattle.searches.proofs.LookLaws.{flags-same}
 use Rattle.searches.proofs.FlagLaws.{no-flags, flag-right}
 use Rattle.expansion.proofs.Stopping.{progress-stopped, took-beside}
 use Rattle.rows.specs.Flat.{IsTable}
-use Rattle.query.specs.Query.{Only, Grown, CanLook, LookedLeft, CanExplore}
+use Rattle.query.specs.Query.{Only, Grown, CanLookByRow, LookedByRow, CanExploreQuery}
 
 -- the nodes whose arcs it follows, and those that it answers for
 abbrev pub Follows : Type 0 → Network → List ℕ → ℕ → ℕ → ℕ → Type 0
@@ -84,7 +84,7 @@ pub record Arrived (T : Type 0) (g : Network) (P : List ℕ) (q k : ℕ) (ys : L
   pub took : Took (nodeCount g) before ys b len left l v parent
   pub found : T → Found g P q k before v l r
 
-module _ {g : Network} {P ids dists s₀ : List ℕ} {b q k K : ℕ} (c : CanExplore g P ids dists s₀ b q k K) where
+module _ {g : Network} {P ids dists s₀ : List ℕ} {b q k K : ℕ} (c : CanExploreQuery g P ids dists s₀ b q k K) where
   -- the table is that of the points
   abbrev T : Type 0
   T = IsTable g P K ids dists
@@ -157,7 +157,7 @@ module _ {g : Network} {P ids dists s₀ : List ℕ} {b q k K : ℕ} (c : CanExp
         }
 
     -- what `look` requires of the words before the area
-    pub can-look : CanLook g P ids dists q k K (take b ys) v
+    pub can-look : CanLookByRow g P ids dists q k K (take b ys) v
     can-look =
         record {
           verify =
@@ -174,7 +174,7 @@ module _ {g : Network} {P ids dists s₀ : List ℕ} {b q k K : ℕ} (c : CanExp
           inside = t .inside;
         }
 
-    module _ {zs : List ℕ} {r : ℕ} (look : LookedLeft g P ids dists q k K (take b ys) zs v l r) where
+    module _ {zs : List ℕ} {r : ℕ} (look : LookedByRow g P ids dists q k K (take b ys) zs v l r) where
       grown : Grown g P (take b ys) zs
       grown = look .grown
 

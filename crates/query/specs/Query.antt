@@ -22,8 +22,8 @@ use Rattle.searches.specs.Eager.{isFound}
 use Rattle.rows.specs.Flat.{IsTable}
 
 -- where the outer area starts: the inner one starts behind the flags
-abbrev pub outerBase : Network → ℕ
-outerBase g = queueBase (nodeCount g) (flagsEnd g) + 2 * nodeCount g
+abbrev pub queryOuterBase : Network → ℕ
+queryOuterBase g = queueBase (nodeCount g) (flagsEnd g) + 2 * nodeCount g
 
 -- only points have a found flag
 abbrev pub Only : Network → List ℕ → List ℕ → Type 0
@@ -40,10 +40,10 @@ pub record Asked (g : Network) (P dists : List ℕ) (q k K : ℕ) : Type 0 where
   pub sized : length dists ≡ nodeCount g * K
 
 -- the words before the outer area
-pub record Front (g : Network) (P xs : List ℕ) : Type 0 where
+pub record QueryFront (g : Network) (P xs : List ℕ) : Type 0 where
   pub only : Only g P xs
   pub blank : Blank xs (flagsEnd g)
-  pub size : outerBase g ≤ length xs
+  pub size : queryOuterBase g ≤ length xs
 
 -- ys is xs with more flags, and the words behind them as they were
 pub record Grown (g : Network) (P xs ys : List ℕ) : Type 0 where
@@ -69,26 +69,26 @@ pub record Way (g : Network) (p q sum : ℕ) : Type 0 where
   pub upto : Upto (dist g p q) sum
 
 -- p, which is any word, is verified where it is a point; `sum` is that of a way from p to the site, where the table is right
-pub record CanVerify (g : Network) (P dists : List ℕ) (q k K : ℕ) (xs : List ℕ) : Type 0 where
+pub record CanVerifyWord (g : Network) (P dists : List ℕ) (q k K : ℕ) (xs : List ℕ) : Type 0 where
   pub asked : Asked g P dists q k K
-  pub front : Front g P xs
+  pub front : QueryFront g P xs
 
 pub record Told (g : Network) (P : List ℕ) (q k : ℕ) (ys : List ℕ) (p : ℕ) : Type 0 where
   pub flags : Flags g P q k ys
   pub told : isListed g P q k p ≡ true → getD ys (nodeCount g + p) 0 ≢ 0
 
-pub record Verified (g : Network) (P dists : List ℕ) (q k K : ℕ) (xs ys : List ℕ) (p sum : ℕ) : Type 0 where
+pub record WordVerified (g : Network) (P dists : List ℕ) (q k K : ℕ) (xs ys : List ℕ) (p sum : ℕ) : Type 0 where
   pub grown : Grown g P xs ys
   pub right : dists ≡ tableDistances g P K → Way g p q sum → Flags g P q k xs → Told g P q k ys p
 
 -- the points of a row, its ids zs and its distances ws, that are nearer than l, cut after the first k
 pub record CanVerifyRow (g : Network) (P dists : List ℕ) (q k K : ℕ) (xs zs ws : List ℕ) : Type 0 where
-  pub verify : CanVerify g P dists q k K xs
+  pub verify : CanVerifyWord g P dists q k K xs
   pub ids-row : k ≤ length zs
   pub dists-row : k ≤ length ws
 
 -- the first r places, and no more of the first k, hold less than l
-pub record Nearer (ws : List ℕ) (l k r : ℕ) : Type 0 where
+pub record NearerPlaces (ws : List ℕ) (l k r : ℕ) : Type 0 where
   pub few : r ≤ k
   pub less : (i : ℕ) → i < r → getD ws i 0 < l
   pub stop : r < k → l ≤ getD ws r 0
@@ -103,7 +103,7 @@ Ways g q k zs ws l = (i : ℕ) → i < k → getD ws i 0 < l → Way g (getD zs 
 
 pub record RowVerified (g : Network) (P dists : List ℕ) (q k K : ℕ) (xs ys zs ws : List ℕ) (l r : ℕ) : Type 0 where
   pub grown : Grown g P xs ys
-  pub nearer : Nearer ws l k r
+  pub nearer : NearerPlaces ws l k r
   pub right : dists ≡ tableDistances g P K → Ways g q k zs ws l → Flags g P q k xs → ToldAll g P q k zs ys r
 
 -- the label of v is its distance, where fewer than k lockers are nearer to it than the site
@@ -111,24 +111,24 @@ abbrev pub Exact : Network → List ℕ → ℕ → ℕ → ℕ → ℕ → Type
 Exact g P q k v l = countNearer g P v (dist g v q) < k → l ≡ dist g q v
 
 -- node v is looked at from label l. On the table of P, where l is the sum of a walk from the site and exact, it is as if eager had looked at it
-pub record CanLook (g : Network) (P ids dists : List ℕ) (q k K : ℕ) (xs : List ℕ) (v : ℕ) : Type 0 where
-  pub verify : CanVerify g P dists q k K xs
+pub record CanLookByRow (g : Network) (P ids dists : List ℕ) (q k K : ℕ) (xs : List ℕ) (v : ℕ) : Type 0 where
+  pub verify : CanVerifyWord g P dists q k K xs
   pub all-ids : length ids ≡ nodeCount g * K
   pub inside : v < nodeCount g
 
-pub record LookedLeft (g : Network) (P ids dists : List ℕ) (q k K : ℕ) (xs ys : List ℕ) (v l r : ℕ) : Type 0 where
+pub record LookedByRow (g : Network) (P ids dists : List ℕ) (q k K : ℕ) (xs ys : List ℕ) (v l r : ℕ) : Type 0 where
   pub grown : Grown g P xs ys
   pub right : IsTable g P K ids dists → Walk g q v l → Exact g P q k v l → Flags g P q k xs → Looked g P q k xs ys v l r
 
 -- no flag is set, and all words are 0
-pub record CanExplore (g : Network) (P ids dists xs : List ℕ) (b q k K : ℕ) : Type 0 where
+pub record CanExploreQuery (g : Network) (P ids dists xs : List ℕ) (b q k K : ℕ) : Type 0 where
   pub asked : Asked g P dists q k K
   pub all-ids : length ids ≡ nodeCount g * K
-  pub base : b ≡ outerBase g
+  pub base : b ≡ queryOuterBase g
   pub blank : Blank xs 0
   pub size : queueBase (nodeCount g) b + 2 * nodeCount g ≤ length xs
 
-pub record ExploreLeft (g : Network) (P ids dists : List ℕ) (q k K : ℕ) (xs ys : List ℕ) : Type 0 where
+pub record QueryExplored (g : Network) (P ids dists : List ℕ) (q k K : ℕ) (xs ys : List ℕ) : Type 0 where
   pub size : length ys ≡ length xs
   pub only : Only g P ys
   pub right : IsTable g P K ids dists → (p : ℕ) → p < nodeCount g → isFound (nodeCount g) ys p ≡ isListed g P q k p
@@ -137,7 +137,7 @@ pub record CanQuery (g : Network) (P ids dists xs old : List ℕ) (q k K : ℕ) 
   pub asked : Asked g P dists q k K
   pub all-ids : length ids ≡ nodeCount g * K
   pub blank : Blank xs 0
-  pub size : queueBase (nodeCount g) (outerBase g) + 2 * nodeCount g ≤ length xs
+  pub size : queueBase (nodeCount g) (queryOuterBase g) + 2 * nodeCount g ≤ length xs
   pub answers : nodeCount g ≤ length old
 
 -- On a table that the check would deny, 'the list (marked nodes, ascending) [..] [is] free': the points that pass some test

@@ -6,7 +6,7 @@ ghost use mathlib.Core.Path.{_≡_};
 ghost use Prim.Native.Nat.{_+_};
 ghost use lib.Dec.{leb};
 ghost use Rattle.network.specs.Network.{network};
-ghost use Rattle.query.specs.Query.{CanDecide, Decided, CanVerify, Verified, CanVerifyRow, RowVerified, CanLook, LookedLeft, CanExplore, ExploreLeft, CanQuery, QueryLeft};
+ghost use Rattle.query.specs.Query.{CanDecide, Decided, CanVerifyWord, WordVerified, CanVerifyRow, RowVerified, CanLookByRow, LookedByRow, CanExploreQuery, QueryExplored, CanQuery, QueryLeft};
 use expansion::step;
 use expansion::step::Taken;
 use expansion::verify;
@@ -61,8 +61,8 @@ fn verify_once(
     k: usize,
     places: usize,
 )
-    requires { ⌜ CanVerify (network (now starts) (now neighbours) (now weights)) (now points) (now distances) q k places (now f) ⌝ }
-    ensures { λ _. ⌜ Verified (network (now (starts .entry)) (now (neighbours .entry)) (now (weights .entry))) (now (points .entry)) (now (distances .entry)) q k places (now (f .entry)) (now (f .exit)) p (label + far) ⌝ }
+    requires { ⌜ CanVerifyWord (network (now starts) (now neighbours) (now weights)) (now points) (now distances) q k places (now f) ⌝ }
+    ensures { λ _. ⌜ WordVerified (network (now (starts .entry)) (now (neighbours .entry)) (now (weights .entry))) (now (points .entry)) (now (distances .entry)) q k places (now (f .entry)) (now (f .exit)) p (label + far) ⌝ }
 {
     let n = starts.len() - 1;
     let at = wide(p);
@@ -158,8 +158,8 @@ fn look(
     k: usize,
     places: usize,
 ) -> usize
-    requires { ⌜ CanLook (network (now starts) (now neighbours) (now weights)) (now points) (now ids) (now distances) q k places (now f) node ⌝ }
-    ensures { λ r. ⌜ LookedLeft (network (now (starts .entry)) (now (neighbours .entry)) (now (weights .entry))) (now (points .entry)) (now (ids .entry)) (now (distances .entry)) q k places (now (f .entry)) (now (f .exit)) node label r ⌝ }
+    requires { ⌜ CanLookByRow (network (now starts) (now neighbours) (now weights)) (now points) (now ids) (now distances) q k places (now f) node ⌝ }
+    ensures { λ r. ⌜ LookedByRow (network (now (starts .entry)) (now (neighbours .entry)) (now (weights .entry))) (now (points .entry)) (now (ids .entry)) (now (distances .entry)) q k places (now (f .entry)) (now (f .exit)) node label r ⌝ }
 {
     let from = wide(node) * places;
     let end = from + places;
@@ -193,8 +193,8 @@ fn explore(
     k: usize,
     places: usize,
 )
-    requires { ⌜ CanExplore (network (now starts) (now neighbours) (now weights)) (now points) (now ids) (now distances) (now s) b q k places ⌝ }
-    ensures { λ _. ⌜ ExploreLeft (network (now (starts .entry)) (now (neighbours .entry)) (now (weights .entry))) (now (points .entry)) (now (ids .entry)) (now (distances .entry)) q k places (now (s .entry)) (now (s .exit)) ⌝ }
+    requires { ⌜ CanExploreQuery (network (now starts) (now neighbours) (now weights)) (now points) (now ids) (now distances) (now s) b q k places ⌝ }
+    ensures { λ _. ⌜ QueryExplored (network (now (starts .entry)) (now (neighbours .entry)) (now (weights .entry))) (now (points .entry)) (now (ids .entry)) (now (distances .entry)) q k places (now (s .entry)) (now (s .exit)) ⌝ }
 {
     let n = starts.len() - 1;
     step::start(s, b, n, q);

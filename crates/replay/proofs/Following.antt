@@ -18,10 +18,10 @@ use Rattle.table_calls.specs.Updated.{Arrays, ChangeExported}
 use Rattle.table_calls.proofs.Outcomes.{change-refused, change-accepted}
 use Rattle.demands.specs.Book.{Call}
 use Rattle.demands.specs.Demand3.{Run, ends, call, foreign}
-use Rattle.replay.specs.declared.replay.Call as words
+use Rattle.replay.specs.declared.replay.CallWords.{CallWords}
 use Rattle.replay.specs.Calls.{CallArrays, kindOf, callAt, callsBelow}
 use Rattle.replay.specs.Outcome.{Lent}
-use Rattle.replay.specs.Followed.{wordsAt, Fit, Followed}
+use Rattle.replay.specs.Followed.{wordsAt, ListFits, CallsFollowed}
 
 -- the words of the kinds
 pub insert-word : (w : ℕ) → w ≡ 0 → kindOf w ≡ Insert
@@ -74,7 +74,7 @@ left-zero kind g node K old new r k n scratch h p z =
 -- what the loop keeps before call j: the calls before it are followed, and no array's length has changed
 pub record Before (g : Network) (list : CallArrays) (j : ℕ) (old at : Lent) : Type 0 where
   pub within : j ≤ length (list .kinds)
-  pub followed : Followed g list j old at
+  pub followed : CallsFollowed g list j old at
   pub points : length (at .points) ≡ length (old .points)
   pub scratch : length (at .scratch) ≡ length (old .scratch)
   pub ids : length (at .ids) ≡ length (old .ids)
@@ -82,7 +82,7 @@ pub record Before (g : Network) (list : CallArrays) (j : ℕ) (old at : Lent) : 
   pub numbers : length (at .numbers) ≡ length (old .numbers)
   pub counts : length (at .counts) ≡ length (old .counts)
 
-pub none-before : (g : Network) (list : CallArrays) (old : Lent) → Fit list old → Before g list 0 old old
+pub none-before : (g : Network) (list : CallArrays) (old : Lent) → ListFits list old → Before g list 0 old old
 unfolding callsBelow
 none-before g list old fit =
     record {
@@ -97,8 +97,8 @@ none-before g list old fit =
     }
 
 -- call j is made, with the words `w` that were read
-module _ {g : Network} {list : CallArrays} {j : ℕ} {old at : Lent} (fit : Fit list old) (b : Before g list j old at) (h : j < length (list .kinds))
-    (w : words.Call) (read : w ≡ wordsAt list j) (made : Arrays) (r : Update)
+module _ {g : Network} {list : CallArrays} {j : ℕ} {old at : Lent} (fit : ListFits list old) (b : Before g list j old at) (h : j < length (list .kinds))
+    (w : CallWords) (read : w ≡ wordsAt list j) (made : Arrays) (r : Update)
     (d : ChangeExported (kindOf (w .kind)) g (w .node) (w .places) (record { points = at .points; scratch = take (w .length) (at .scratch); ids = at .ids; distances = at .distances }) made r) where
   -- the arrays behind it
   abbrev after : Lent
@@ -112,7 +112,7 @@ module _ {g : Network} {list : CallArrays} {j : ℕ} {old at : Lent} (fit : Fit 
         counts = set (at .counts) j (r .changed);
       }
 
-  followed : Followed g list (j + 1) old after
+  followed : CallsFollowed g list (j + 1) old after
   unfolding callsBelow
   followed =
       let c = callAt list j in

@@ -17,10 +17,10 @@ use Rattle.network.proofs.Tests.{or-parts, any-none}
 use Rattle.numbers.specs.declared.answers.Update.{Update}
 use Rattle.table_calls.specs.Build.{BuildOutcome, buildOutcome}
 use Rattle.demands.proofs.Demand3.{demand}
-use Rattle.replay.specs.declared.replay.Answer.the-variants.{Unfit, Refused, Replayed}
+use Rattle.replay.specs.declared.replay.ReplayAnswer.the-variants.{Unfit, Refused, Replayed}
 use Rattle.replay.specs.Calls.{CallArrays, callsOf}
 use Rattle.replay.specs.Outcome.{Lent, Outcome, asksMoreAt, isUnfit, unfitOf, buildOf, replayOutcome}
-use Rattle.replay.specs.Followed.{Fit, Followed}
+use Rattle.replay.specs.Followed.{ListFits, CallsFollowed}
 
 module _ (g : Network) (K : ℕ) (list : CallArrays) (old : Lent) where
   pub replay-unfit : unfitOf list old ≡ true → _≡_ {A = Outcome} (record { answer = Unfit; left = old }) (replayOutcome g K list old)
@@ -66,7 +66,7 @@ module _ (g : Network) (K : ℕ) (list : CallArrays) (old : Lent) where
       zeroed = ap (λ (x : BuildOutcome). x .scratch) e ∙ built-zero (sym number-is ∙ accepted)
 
       -- an accepted build leaves what the calls ask: the list fits, and the scratch is zero
-      pub replay-fit : Fit list (behind o)
+      pub replay-fit : ListFits list (behind o)
       unfolding isUnfit asksMoreAt
       replay-fit =
           let n = length (list .kinds) in
@@ -103,7 +103,7 @@ module _ (g : Network) (K : ℕ) (list : CallArrays) (old : Lent) where
       whole xs ys zs p q = p ∙ rw (drop-of-length-le zs {i = length (list .kinds)} (omega arith)) (append-nil ys)
 
       -- demand 3 of the run that the calls are
-      pub replay-done : (new : Lent) → Followed g list (length (list .kinds)) (behind o) new
+      pub replay-done : (new : Lent) → CallsFollowed g list (length (list .kinds)) (behind o) new
           → _≡_ {A = Outcome} (record { answer = Replayed; left = new }) (replayOutcome g K list old)
       unfolding replayOutcome
       replay-done new f =

@@ -7,7 +7,7 @@ use lib.ListN.{length, getD, drop, replicate}
 use Rattle.network.specs.Network.{Network}
 use Rattle.numbers.specs.declared.answers.Update.{Update}
 use Rattle.demands.specs.Demand3.{Run}
-use Rattle.replay.specs.declared.replay.Call as words
+use Rattle.replay.specs.declared.replay.CallWords.{CallWords}
 use Rattle.replay.specs.Calls.{CallArrays, callsBelow}
 use Rattle.replay.specs.Outcome.{Lent}
 
@@ -18,12 +18,12 @@ pub record HasCall (list : CallArrays) (j : ℕ) : Type 0 where
   pub places : j < length (list .places)
   pub scratch : j < length (list .lengths)
 
-abbrev pub wordsAt : CallArrays → ℕ → words.Call
+abbrev pub wordsAt : CallArrays → ℕ → CallWords
 wordsAt list j =
     record { kind = getD (list .kinds) j 0; node = getD (list .nodes) j 0; places = getD (list .places) j 0; length = getD (list .lengths) j 0 }
 
 -- one entry for each call in every array, no call's scratch longer than the one lent, and that one all zero
-pub record Fit (list : CallArrays) (old : Lent) : Type 0 where
+pub record ListFits (list : CallArrays) (old : Lent) : Type 0 where
   pub nodes : length (list .nodes) ≡ length (list .kinds)
   pub places : length (list .places) ≡ length (list .kinds)
   pub lengths : length (list .lengths) ≡ length (list .kinds)
@@ -33,7 +33,7 @@ pub record Fit (list : CallArrays) (old : Lent) : Type 0 where
   pub zero : old .scratch ≡ replicate (length (old .scratch)) 0
 
 -- what the first j calls leave
-pub record Followed (g : Network) (list : CallArrays) (j : ℕ) (old new : Lent) : Type 0 where
+pub record CallsFollowed (g : Network) (list : CallArrays) (j : ℕ) (old new : Lent) : Type 0 where
   pub answers : List Update
   pub each : length answers ≡ j
   pub run : Run g (old .points) (old .ids) (old .distances) (callsBelow list j) answers (new .points) (new .ids) (new .distances)

@@ -11,8 +11,8 @@ use Rattle.network.specs.Rows.{tableIds, tableDistances}
 use Rattle.numbers.specs.declared.answers.Update.{Update}
 use Rattle.numbers.specs.Numbers.{buildNumber}
 use Rattle.demands.specs.Book.{Call, bookAnswers, bookMarks}
-use Rattle.replay.specs.declared.replay.Answer.{Answer}
-use Rattle.replay.specs.declared.replay.Answer.the-variants.{Unfit, Refused, Replayed}
+use Rattle.replay.specs.declared.replay.ReplayAnswer.{ReplayAnswer}
+use Rattle.replay.specs.declared.replay.ReplayAnswer.the-variants.{Unfit, Refused, Replayed}
 use Rattle.replay.specs.Calls.{CallArrays, callsOf}
 
 -- the arrays that a replay may write
@@ -53,7 +53,7 @@ bookLeft g K calls old =
 
 -- the answer, and the final contents of the lent arrays
 pub record Outcome : Type 0 where
-  pub answer : Answer
+  pub answer : ReplayAnswer
   pub left : Lent
 
 -- an unfit list is not begun; then 'a refusal returns its number [..] and changes no buffer'; behind an accepted build, the book

@@ -4,7 +4,7 @@ ghost use lib.ListN.{length};
 
 mod replay;
 
-use replay::Answer;
+use replay::ReplayAnswer;
 
 // Build with K = places and the calls, on network N.
 fn on_n(
@@ -19,7 +19,7 @@ fn on_n(
     lengths: &[usize],
     numbers: &mut [u32],
     counts: &mut [u32],
-) -> Answer {
+) -> ReplayAnswer {
     let starts = [0u32, 2, 4, 6, 8, 10, 10];
     let neighbours = [1u32, 3, 0, 2, 1, 4, 0, 4, 2, 3];
     let weights = [4u32, 5, 4, 3, 3, 7, 5, 3, 7, 3];
@@ -47,17 +47,17 @@ fn print_number(x: u32) {
     io::print_decimal(1, x as u64);
 }
 
-fn print_answer(answer: Answer) {
+fn print_answer(answer: ReplayAnswer) {
     match answer {
-        Answer::Unfit => {
+        ReplayAnswer::Unfit => {
             io::write_all(1, b"unfit\n");
         }
-        Answer::Refused(number) => {
+        ReplayAnswer::Refused(number) => {
             io::write_all(1, b"build refused");
             print_number(number);
             io::write_all(1, b"\n");
         }
-        Answer::Replayed => {
+        ReplayAnswer::Replayed => {
             io::write_all(1, b"replayed\n");
         }
     }

@@ -6,18 +6,18 @@ ghost use Rattle.network.specs.Network.{network};
 ghost use Rattle.table_calls.specs.Updated.{ChangeExported};
 ghost use Rattle.replay.specs.Calls.{kindOf};
 ghost use Rattle.replay.specs.Outcome.{asksMoreAt, isUnfit, replayOutcome};
-ghost use Rattle.replay.specs.Followed.{HasCall, wordsAt, Fit, Followed};
+ghost use Rattle.replay.specs.Followed.{HasCall, wordsAt, ListFits, CallsFollowed};
 use overlap::Update;
 
 // The answer: the list does not fit its arrays, the build is refused with a number, or all calls were made.
-pub enum Answer {
+pub enum ReplayAnswer {
     Unfit,
     Refused(u32),
     Replayed,
 }
 
 // The words of a call.
-pub struct Call {
+pub struct CallWords {
     pub kind: u32,
     pub node: u32,
     pub places: u32,
@@ -71,11 +71,17 @@ fn unfit(
 }
 
 // Call j of the list.
-fn call_at(kinds: &[u32], nodes: &[u32], each_places: &[u32], lengths: &[usize], j: usize) -> Call
+fn call_at(
+    kinds: &[u32],
+    nodes: &[u32],
+    each_places: &[u32],
+    lengths: &[usize],
+    j: usize,
+) -> CallWords
     requires { ⌜ HasCall (record { kinds = now kinds; nodes = now nodes; places = now «each_places»; lengths = now lengths }) j ⌝ }
     ensures { λ r. ⌜ r ≡ wordsAt (record { kinds = now (kinds .entry); nodes = now (nodes .entry); places = now («each_places» .entry); lengths = now (lengths .entry) }) j ⌝ }
 {
-    Call {
+    CallWords {
         kind: kinds[j],
         node: nodes[j],
         places: each_places[j],
@@ -140,8 +146,8 @@ fn follow(
     numbers: &mut [u32],
     counts: &mut [u32],
 )
-    requires { ⌜ Fit (record { kinds = now kinds; nodes = now nodes; places = now «each_places»; lengths = now lengths }) (record { points = now points; scratch = now scratch; ids = now ids; distances = now distances; numbers = now numbers; counts = now counts }) ⌝ }
-    ensures { λ _. ⌜ Followed (network (now (starts .entry)) (now (neighbours .entry)) (now (weights .entry))) (record { kinds = now (kinds .entry); nodes = now (nodes .entry); places = now («each_places» .entry); lengths = now (lengths .entry) }) (length (now (kinds .entry))) (record { points = now (points .entry); scratch = now (scratch .entry); ids = now (ids .entry); distances = now (distances .entry); numbers = now (numbers .entry); counts = now (counts .entry) }) (record { points = now (points .exit); scratch = now (scratch .exit); ids = now (ids .exit); distances = now (distances .exit); numbers = now (numbers .exit); counts = now (counts .exit) }) ⌝ }
+    requires { ⌜ ListFits (record { kinds = now kinds; nodes = now nodes; places = now «each_places»; lengths = now lengths }) (record { points = now points; scratch = now scratch; ids = now ids; distances = now distances; numbers = now numbers; counts = now counts }) ⌝ }
+    ensures { λ _. ⌜ CallsFollowed (network (now (starts .entry)) (now (neighbours .entry)) (now (weights .entry))) (record { kinds = now (kinds .entry); nodes = now (nodes .entry); places = now («each_places» .entry); lengths = now (lengths .entry) }) (length (now (kinds .entry))) (record { points = now (points .entry); scratch = now (scratch .entry); ids = now (ids .entry); distances = now (distances .entry); numbers = now (numbers .entry); counts = now (counts .entry) }) (record { points = now (points .exit); scratch = now (scratch .exit); ids = now (ids .exit); distances = now (distances .exit); numbers = now (numbers .exit); counts = now (counts .exit) }) ⌝ }
 {
     let mut j = 0;
     while j < kinds.len() {
@@ -184,11 +190,11 @@ pub fn replay(
     lengths: &[usize],
     numbers: &mut [u32],
     counts: &mut [u32],
-) -> Answer
+) -> ReplayAnswer
     ensures { λ r. ⌜ record { answer = r; left = record { points = now (points .exit); scratch = now (scratch .exit); ids = now (ids .exit); distances = now (distances .exit); numbers = now (numbers .exit); counts = now (counts .exit) } } ≡ replayOutcome (network (now (starts .entry)) (now (neighbours .entry)) (now (weights .entry))) places (record { kinds = now (kinds .entry); nodes = now (nodes .entry); places = now («each_places» .entry); lengths = now (lengths .entry) }) (record { points = now (points .entry); scratch = now (scratch .entry); ids = now (ids .entry); distances = now (distances .entry); numbers = now (numbers .entry); counts = now (counts .entry) }) ⌝ }
 {
     if unfit(kinds, nodes, each_places, lengths, scratch, numbers, counts) {
-        return Answer::Unfit;
+        return ReplayAnswer::Unfit;
     }
     let number = overlap::overlap_build(
         starts,
@@ -201,7 +207,7 @@ pub fn replay(
         distances,
     );
     if number != 0 {
-        return Answer::Refused(number);
+        return ReplayAnswer::Refused(number);
     }
     follow(
         starts,
@@ -218,5 +224,5 @@ pub fn replay(
         numbers,
         counts,
     );
-    Answer::Replayed
+    ReplayAnswer::Replayed
 }

@@ -22,8 +22,8 @@ use Rattle.network.proofs.Tests.{and-parts, and-intro, or-parts, or-cases, or-l
 use Rattle.network.proofs.Counts.{member-at, count-same}
 use Rattle.network.proofs.Ordered.{ordered-at, key-pair}
 use Rattle.rows.specs.Exact.{Full, Sorted, Placed, stands, full}
-use Rattle.rows.specs.Flat.{filled, place, places}
-use Rattle.rows.specs.Check.{isEntry, holds, isWithin, hasWithin, endsBy, isPlaced, isId, among, wholeBefore, repeats, begins, follows, badPadding, badEntry, badPlace, badRow}
+use Rattle.rows.specs.Flat.{unpadded, place, places}
+use Rattle.rows.specs.Check.{isEntry, rowHolds, isWithin, hasWithin, endsBy, isPlaced, isId, among, wholeBefore, repeats, begins, follows, badPadding, badEntry, badPlace, badRow}
 use Rattle.rows.proofs.Flat.{filled-end, filled-more, filled-nil, places-length, places-at, place-in, in-place, places-ordered, places-once, filled-places, places-padded}
 use Rattle.rows.proofs.Laid.{pad-at}
 use Rattle.rows.proofs.CheckTests.{entry-yes, within-yes, whole-tested, begins-whole, repeats-same, follows-new, follows-again, padding-first, padding-later, entry-first, entry-later, place-padding, place-entry, among-start, among-more, among-other}
@@ -33,7 +33,7 @@ abbrev pub rowOf : List ℕ → List ℕ → List (ℕ × ℕ)
 rowOf xs ys = places xs ys 0 (length xs)
 
 abbrev pub entries : List ℕ → List ℕ → List (ℕ × ℕ)
-entries xs ys = filled (rowOf xs ys)
+entries xs ys = unpadded (rowOf xs ys)
 
 -- entries first, then padding in both
 pub record Shape (xs ys : List ℕ) : Type 0 where
@@ -90,8 +90,8 @@ module _ {xs ys : List ℕ} (s : Shape xs ys) where
       ]
 
   -- what the row holds are its members
-  pub held-in : (p d : ℕ) → p ≢ NONE → holds xs ys p d ≡ true → List·Memᴰ (p, d) (entries xs ys)
-  unfolding holds isEntry
+  pub held-in : (p d : ℕ) → p ≢ NONE → rowHolds xs ys p d ≡ true → List·Memᴰ (p, d) (entries xs ys)
+  unfolding rowHolds isEntry
   held-in p d n e =
       let r = any-passes (isEntry xs ys p d) (length xs) e in
       let q = and-parts (eqb (getD xs (r .at) 0) p) _ (r .passes) in
@@ -99,8 +99,8 @@ module _ {xs ys : List ℕ} (s : Shape xs ys) where
       let v = eqb-true (getD ys (r .at) 0) d (q .1) in
       Memᴰ·cast (λ k. (sym u k, sym v k)) (shape-in (r .at) (entry-low (r .at) (r .low) (λ z. n (sym u ∙ z))))
 
-  pub in-held : (p d : ℕ) → List·Memᴰ (p, d) (entries xs ys) → holds xs ys p d ≡ true
-  unfolding holds
+  pub in-held : (p d : ℕ) → List·Memᴰ (p, d) (entries xs ys) → rowHolds xs ys p d ≡ true
+  unfolding rowHolds
   in-held p d m =
       let r = in-shape (p, d) m in
       one-any (isEntry xs ys p d) (length xs) (r .index) (omega (arith, s .low, r .low))
@@ -559,8 +559,8 @@ module _ {P xs ys : List ℕ} (r : Good P xs ys) (small : (j : ℕ) → j < r .s
       none-any (badPlace P xs ys) (length xs)
       (λ j l. elim (decLt j (r .shape .size)) [ yes h ↦ sym (entry-good j h) | no n ↦ sym (padding-good j (omega arith) l) ])
 
--- the members of `filled`
-filled-some : (l : List (ℕ × ℕ)) (z : ℕ × ℕ) → List·Memᴰ z (filled l) → z .0 ≢ NONE
+-- the members of `unpadded`
+filled-some : (l : List (ℕ × ℕ)) (z : ℕ × ℕ) → List·Memᴰ z (unpadded l) → z .0 ≢ NONE
 filled-some [] z m = absurd (List·Memᴰ·not-nil (rw filled-nil at m))
 filled-some (x ∷ l) z m =
     elim (ℕ-discrete (x .0) NONE) [

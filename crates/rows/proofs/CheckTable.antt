@@ -23,8 +23,8 @@ use Rattle.network.proofs.NodeArcs.{arc-source}
 use Rattle.network.proofs.Ranges.{arc-at, arc-place}
 use Rattle.network.proofs.NumberZero.{accepted-ranges}
 use Rattle.rows.specs.Exact.{Placed, Support, own, via}
-use Rattle.rows.specs.Flat.{filled, places, rowAt, IsTable, Flat}
-use Rattle.rows.specs.Check.{rowPart, holds, isPlaced, badRow, comesFrom, comesAt, comesOver, isOwn, isSupported, unsupportedAt, unsupported, lacksOwn, asksFor, asksAt, asks, asksFrom, asksOver, unclosed, badNode, sameList, isTable, CanCheck}
+use Rattle.rows.specs.Flat.{unpadded, places, rowAt, IsTable, Flat}
+use Rattle.rows.specs.Check.{rowPart, rowHolds, isPlaced, badRow, comesFrom, comesAt, comesOver, isOwn, isSupported, unsupportedAt, unsupported, lacksOwn, asksFor, asksAt, asks, asksFrom, asksOver, unclosed, badNode, sameList, sameTable, CanCheck}
 use Rattle.rows.proofs.Laid.{part-places, flat-iff-table}
 use Rattle.rows.proofs.CheckTests.{rows-lie, row-part-length, supported-padding, asks-padding, asks-entry}
 use Rattle.rows.proofs.CheckRows.{rowOf, entries, Good, shape-padded, shape-in, in-shape, entry-low, held-in, in-held, good-sorted, placed-in, in-placed, among-has, row-good, good-row, sorted-good}
@@ -46,14 +46,14 @@ unfolding sameList
 list-same [] = refl
 list-same (x ∷ xs) = and-intro (eqb x x) _ (eq-eqb x x refl) (list-same xs)
 
-pub is-table : (g : Network) (P : List ℕ) (K : ℕ) (ids dists : List ℕ) → isTable g P K ids dists ≡ true → IsTable g P K ids dists
-unfolding isTable
+pub is-table : (g : Network) (P : List ℕ) (K : ℕ) (ids dists : List ℕ) → sameTable g P K ids dists ≡ true → IsTable g P K ids dists
+unfolding sameTable
 is-table g P K ids dists e =
     let r = and-parts (sameList ids (tableIds g P K)) _ e in
     record { same-ids = same-list ids (tableIds g P K) (r .0); same-dists = same-list dists (tableDistances g P K) (r .1) }
 
-pub table-is : {g : Network} {P : List ℕ} {K : ℕ} {ids dists : List ℕ} → IsTable g P K ids dists → isTable g P K ids dists ≡ true
-unfolding isTable
+pub table-is : {g : Network} {P : List ℕ} {K : ℕ} {ids dists : List ℕ} → IsTable g P K ids dists → sameTable g P K ids dists ≡ true
+unfolding sameTable
 table-is {g} {P} {K} t = rw (t .same-ids, t .same-dists) (and-intro (sameList (tableIds g P K) (tableIds g P K)) _ (list-same (tableIds g P K)) (list-same (tableDistances g P K)))
 
 module _ {g : Network} {P : List ℕ} {K : ℕ} {ids dists : List ℕ} (c : CanCheck g P K ids dists) where
@@ -61,7 +61,7 @@ module _ {g : Network} {P : List ℕ} {K : ℕ} {ids dists : List ℕ} (c : CanC
   ok = c .readable .accepted
 
   abbrev T : ℕ → List (ℕ × ℕ)
-  T i = filled (rowAt ids dists K i)
+  T i = unpadded (rowAt ids dists K i)
 
   part-length : (i : ℕ) → i < nodeCount g → length (rowPart K i ids) ≡ K
   part-length i h = row-part-length K i ids (rows-lie (c .readable) i h .in-ids)
@@ -72,7 +72,7 @@ module _ {g : Network} {P : List ℕ} {K : ℕ} {ids dists : List ℕ} (c : CanC
       ap (places (rowPart K i ids) (rowPart K i dists) 0) (part-length i h) ∙ part-places ids dists (i * K) K
 
   entries-are : (i : ℕ) → i < nodeCount g → entries (rowPart K i ids) (rowPart K i dists) ≡ T i
-  entries-are i h = ap filled (row-is i h)
+  entries-are i h = ap unpadded (row-is i h)
 
   some : (i : ℕ) → i < nodeCount g → 1 ≤ length (rowPart K i ids)
   some i h = omega (arith, part-length i h, c .readable .some)
@@ -198,7 +198,7 @@ module _ {g : Network} {P : List ℕ} {K : ℕ} {ids dists : List ℕ} (c : CanC
     no-lockers : lockers P NONE ≡ 0
     no-lockers = List·getD-eq-default P 0 {n = NONE} (omega (arith, c .points, ok .few))
 
-    held-of : (i p d : ℕ) → i < nodeCount g → List·Memᴰ (p, d) (T i) → holds (rowPart K i ids) (rowPart K i dists) p d ≡ true
+    held-of : (i p d : ℕ) → i < nodeCount g → List·Memᴰ (p, d) (T i) → rowHolds (rowPart K i ids) (rowPart K i dists) p d ≡ true
     held-of i p d h m = in-held (good-of i h .shape) p d (rw (entries-are i h) m)
 
     has-own : (i : ℕ) → i < nodeCount g → lacksOwn P (rowPart K i ids) (rowPart K i dists) i ≡ false
@@ -279,13 +279,13 @@ module _ {g : Network} {P : List ℕ} {K : ℕ} {ids dists : List ℕ} (c : CanC
         (all-closed i h))
 
   -- so the check tells whether both arrays are the table
-  pub check-table : not (any (badNode g P K ids dists) (nodeCount g)) ≡ isTable g P K ids dists
-  check-table = from (any (badNode g P K ids dists) (nodeCount g)) (isTable g P K ids dists) refl refl
+  pub check-table : not (any (badNode g P K ids dists) (nodeCount g)) ≡ sameTable g P K ids dists
+  check-table = from (any (badNode g P K ids dists) (nodeCount g)) (sameTable g P K ids dists) refl refl
     where
       exactly : Flat g P K ids dists ↔ IsTable g P K ids dists
       exactly = flat-iff-table P K ids dists ok (c .readable .some) (c .readable .sized)
 
-      from : (b t : Bool) → any (badNode g P K ids dists) (nodeCount g) ≡ b → isTable g P K ids dists ≡ t → not b ≡ t
+      from : (b t : Bool) → any (badNode g P K ids dists) (nodeCount g) ≡ b → sameTable g P K ids dists ≡ t → not b ≡ t
       from false true e q = refl
       from true false e q = refl
       from false false e q = absurd (false≢true (sym q ∙ table-is (exactly .0 (passes-flat e))))

@@ -19,7 +19,7 @@ use Rattle.network.proofs.Tests.{and-intro, and-left, and-right}
 use Rattle.network.proofs.Ranges.{arc-at}
 use Rattle.network.proofs.NumberZero.{accepted-ranges}
 use Rattle.rows.specs.Flat.{place}
-use Rattle.rows.specs.Check.{rowPart, isEntry, holds, isWithin, endsBy, hasWithin, isPlaced, isId, among, wholeBefore, repeats, begins, follows, badPadding, badEntry, badPlace, comesFrom, comesOver, isOwn, isSupported, lacksOwn, asksFor, badRow, unsupported, unclosed, badNode, HasRows, CanRead}
+use Rattle.rows.specs.Check.{rowPart, isEntry, rowHolds, isWithin, endsBy, hasWithin, isPlaced, isId, among, wholeBefore, repeats, begins, follows, badPadding, badEntry, badPlace, comesFrom, comesOver, isOwn, isSupported, lacksOwn, asksFor, badRow, unsupported, unclosed, badNode, HasRows, CanRead}
 use Rattle.network.proofs.Lends.{mid-length, row-fits}
 
 -- one place
@@ -198,7 +198,7 @@ module _ (K : ℕ) (ids dists : List ℕ) (c w p d : ℕ) where
   unfolding comesFrom
   comes-short h = rw (lt-leb w d h)
 
-  pub comes-held : (b : Bool) → w ≤ d → b ≡ holds (rowPart K c ids) (rowPart K c dists) p (d - w) → b ≡ comesFrom K ids dists c w p d
+  pub comes-held : (b : Bool) → w ≤ d → b ≡ rowHolds (rowPart K c ids) (rowPart K c dists) p (d - w) → b ≡ comesFrom K ids dists c w p d
   unfolding comesFrom
   comes-held b h e = e ∙ sym (rw (le-leb w d h))
 
@@ -235,7 +235,7 @@ module _ (P xs ys : List ℕ) (i : ℕ) where
   unfolding lacksOwn
   lacks-none n = rw (le-ltb 0 (getD P i 0) (omega arith))
 
-  pub lacks-held : (b : Bool) → getD P i 0 ≢ 0 → b ≡ holds xs ys i 0 → not b ≡ lacksOwn P xs ys i
+  pub lacks-held : (b : Bool) → getD P i 0 ≢ 0 → b ≡ rowHolds xs ys i 0 → not b ≡ lacksOwn P xs ys i
   unfolding lacksOwn
   lacks-held b e f = ap not f ∙ sym (rw (lt-ltb 0 (getD P i 0) (omega arith)))
 

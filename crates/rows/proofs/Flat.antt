@@ -15,33 +15,33 @@ use Rattle.network.specs.Distance.{NONE}
 use Rattle.network.specs.Nearest.{key, nearest, Ordered}
 use Rattle.network.specs.Rows.{pad, row}
 use Rattle.network.proofs.Rows.{listed-near}
-use Rattle.rows.specs.Flat.{filled, place, places, At, Flat}
+use Rattle.rows.specs.Flat.{unpadded, place, places, At, Flat}
 use Rattle.rows.proofs.Local.{local-iff-exact}
 
--- the clauses of `filled`
-pub filled-nil : filled [] ≡ []
-unfolding filled
+-- the clauses of `unpadded`
+pub filled-nil : unpadded [] ≡ []
+unfolding unpadded
 filled-nil = refl
 
-pub filled-end : (x : ℕ × ℕ) (xs : List (ℕ × ℕ)) → x .0 ≡ NONE → filled (x ∷ xs) ≡ []
-unfolding filled
-filled-end x xs e = rw (eq-eqb (x .0) NONE e, filled)
+pub filled-end : (x : ℕ × ℕ) (xs : List (ℕ × ℕ)) → x .0 ≡ NONE → unpadded (x ∷ xs) ≡ []
+unfolding unpadded
+filled-end x xs e = rw (eq-eqb (x .0) NONE e, unpadded)
 
-pub filled-more : (x : ℕ × ℕ) (xs : List (ℕ × ℕ)) → x .0 ≢ NONE → filled (x ∷ xs) ≡ x ∷ filled xs
-unfolding filled
-filled-more x xs n = rw (ne-eqb (x .0) NONE n, filled)
+pub filled-more : (x : ℕ × ℕ) (xs : List (ℕ × ℕ)) → x .0 ≢ NONE → unpadded (x ∷ xs) ≡ x ∷ unpadded xs
+unfolding unpadded
+filled-more x xs n = rw (ne-eqb (x .0) NONE n, unpadded)
 
 -- padding goes again
-filled-padding : (n : ℕ) → filled (replicate n (NONE, NONE)) ≡ []
+filled-padding : (n : ℕ) → unpadded (replicate n (NONE, NONE)) ≡ []
 filled-padding zero = filled-nil
 filled-padding (suc n) = filled-end (NONE, NONE) (replicate n (NONE, NONE)) refl
 
-pub filled-pad : (n : ℕ) (xs : List (ℕ × ℕ)) → ((y : ℕ × ℕ) → List·Memᴰ y xs → y .0 ≢ NONE) → filled (xs ++ replicate n (NONE, NONE)) ≡ xs
+pub filled-pad : (n : ℕ) (xs : List (ℕ × ℕ)) → ((y : ℕ × ℕ) → List·Memᴰ y xs → y .0 ≢ NONE) → unpadded (xs ++ replicate n (NONE, NONE)) ≡ xs
 filled-pad n [] h = filled-padding n
 filled-pad n (x ∷ xs) h =
     filled-more x (xs ++ replicate n (NONE, NONE)) (h x (List·Memᴰ·head refl)) ∙ ap (λ l. x ∷ l) (filled-pad n xs (λ y m. h y (List·Memᴰ·tail m)))
 
-pub filled-row : {g : Network} → Accepted g → (P : List ℕ) (K i : ℕ) → filled (row g P K i) ≡ nearest g P i NONE K
+pub filled-row : {g : Network} → Accepted g → (P : List ℕ) (K i : ℕ) → unpadded (row g P K i) ≡ nearest g P i NONE K
 unfolding row
 filled-row {g} ok P K i =
     filled-pad (K - length (nearest g P i NONE K)) (nearest g P i NONE K)
@@ -119,7 +119,7 @@ module _ (ids dists : List ℕ) where
 
   -- m places that are filled, and padding behind them
   pub filled-places : (at k m : ℕ) → m ≤ k → ((j : ℕ) → j < m → getD ids (at + j) 0 ≢ NONE) → (m < k → getD ids (at + m) 0 ≡ NONE)
-      → filled (places ids dists at k) ≡ places ids dists at m
+      → unpadded (places ids dists at k) ≡ places ids dists at m
   unfolding places
   filled-places at zero zero l h e = filled-nil
   filled-places at zero (suc m) l h e = absurd (omega arith)
@@ -167,7 +167,7 @@ flat-iff-exact {g} ok P K ids dists k = (
   λ f i h. f .padded i h ∙ ap (pad K) (local-iff-exact ok k .0 (f .rows) i h),
   λ e.
       record {
-        rows = local-iff-exact ok k .1 (λ i h. ap filled (e i h) ∙ filled-row ok P K i);
-        padded = λ i h. e i h ∙ ap (pad K) (sym (ap filled (e i h) ∙ filled-row ok P K i));
+        rows = local-iff-exact ok k .1 (λ i h. ap unpadded (e i h) ∙ filled-row ok P K i);
+        padded = λ i h. e i h ∙ ap (pad K) (sym (ap unpadded (e i h) ∙ filled-row ok P K i));
       },
 )

@@ -26,7 +26,7 @@ use Rattle.network.proofs.Insert.{insert-below, times-more, times-swap, take-in
 use Rattle.network.proofs.Rank.{key-other}
 use Rattle.network.proofs.Rows.{by-below, all-ordered, nearest-below}
 use Rattle.rows.specs.Update.{Added, Gains}
-use Rattle.rows.specs.Flat.{filled}
+use Rattle.rows.specs.Flat.{unpadded}
 use Rattle.rows.proofs.Flat.{filled-row}
 
 -- what a node weighs among those nearer than e: its lockers, or nothing
@@ -160,7 +160,7 @@ module _ {g : Network} (ok : Accepted g) {P P′ : List ℕ} {x : ℕ} (low : x 
     λ n. elim gains-or-not [ yes r ↦ r | no q ↦ absurd (n (sym (row-kept q))) ],
     λ r e.
         let k = suc (key (x, dist g i x)) in
-        let q = sym (filled-row ok P K i) ∙ ap filled e ∙ filled-row ok P′ K i in
+        let q = sym (filled-row ok P K i) ∙ ap unpadded e ∙ filled-row ok P′ K i in
         omega (
           arith,
           r .room,

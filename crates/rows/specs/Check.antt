@@ -1,6 +1,6 @@
 -- Document 01, 'The table': 'Table check: yes exactly when both arrays are the table that build would write, whoever filled them.' Its tests, row by
 -- row and arc by arc, over rows as the parts of both arrays that they are (xs of ids, ys of distances). A test passes where something is wrong, but
--- for `holds`, `comesOver`, `isPlaced` and what they are made of. That the whole of them is `isTable` is proofs/CheckTable.antt's theorem.
+-- for `rowHolds`, `comesOver`, `isPlaced` and what they are made of. That the whole of them is `sameTable` is proofs/CheckTable.antt's theorem.
 -- Assumes nothing.
 use Prim.Native.Nat.{ℕ, _+_, _-_, _*_, _≤_}
 use mathlib.Core.Path.{_≡_}
@@ -25,8 +25,8 @@ rowPart K i xs = take K (drop (i * K) xs)
 unfoldable pub isEntry : List ℕ → List ℕ → ℕ → ℕ → ℕ → Bool
 isEntry xs ys p d j = eqb (getD xs j 0) p && eqb (getD ys j 0) d
 
-unfoldable pub holds : List ℕ → List ℕ → ℕ → ℕ → Bool
-holds xs ys p d = any (isEntry xs ys p d) (length xs)
+unfoldable pub rowHolds : List ℕ → List ℕ → ℕ → ℕ → Bool
+rowHolds xs ys p d = any (isEntry xs ys p d) (length xs)
 
 -- place j of a row is p, no farther than d; a place of it is
 unfoldable pub isWithin : List ℕ → List ℕ → ℕ → ℕ → ℕ → Bool
@@ -81,7 +81,7 @@ badRow P xs ys = any (badPlace P xs ys) (length xs)
 
 -- p at distance d comes from the row of c over an arc of weight w; over the arc of i at place j; over some arc of i
 unfoldable pub comesFrom : ℕ → List ℕ → List ℕ → ℕ → ℕ → ℕ → ℕ → Bool
-comesFrom K ids dists c w p d = leb w d && holds (rowPart K c ids) (rowPart K c dists) p (d - w)
+comesFrom K ids dists c w p d = leb w d && rowHolds (rowPart K c ids) (rowPart K c dists) p (d - w)
 
 unfoldable pub comesAt : Network → ℕ → List ℕ → List ℕ → ℕ → ℕ → ℕ → ℕ → Bool
 comesAt g K ids dists i p d j = comesFrom K ids dists (getD (neighboursOf g i) j 0) (getD (weightsOf g i) j 0) p d
@@ -104,7 +104,7 @@ unsupported g P K ids dists i = any (unsupportedAt g P K ids dists i) (length (r
 
 -- a marked i lacks its own point
 unfoldable pub lacksOwn : List ℕ → List ℕ → List ℕ → ℕ → Bool
-lacksOwn P xs ys i = marked P i && not (holds xs ys i 0)
+lacksOwn P xs ys i = marked P i && not (rowHolds xs ys i 0)
 
 -- p at distance d asks for a place in a row; place m of a neighbour's row (us, vs) does, over an arc of weight w; some place does; some place
 -- of the row of c does in row i; some place does over the arc of i at place j; over some arc of i
@@ -141,8 +141,8 @@ sameList [] (y ∷ ys) = false
 sameList (x ∷ xs) [] = false
 sameList (x ∷ xs) (y ∷ ys) = eqb x y && sameList xs ys
 
-unfoldable pub isTable : Network → List ℕ → ℕ → List ℕ → List ℕ → Bool
-isTable g P K ids dists = sameList ids (tableIds g P K) && sameList dists (tableDistances g P K)
+unfoldable pub sameTable : Network → List ℕ → ℕ → List ℕ → List ℕ → Bool
+sameTable g P K ids dists = sameList ids (tableIds g P K) && sameList dists (tableDistances g P K)
 
 -- row i lies in both arrays
 pub record HasRows (K : ℕ) (ids dists : List ℕ) (i : ℕ) : Type 0 where

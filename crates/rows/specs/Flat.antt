@@ -13,9 +13,9 @@ use Rattle.network.specs.Rows.{pad, tableIds, tableDistances}
 use Rattle.rows.specs.Exact.{Local}
 
 -- the entries before the first NONE
-unfoldable pub filled : List (ℕ × ℕ) → List (ℕ × ℕ)
-filled [] = []
-filled (x ∷ xs) = elim (eqb (x .0) NONE) [ true ↦ [] | false ↦ x ∷ filled xs ]
+unfoldable pub unpadded : List (ℕ × ℕ) → List (ℕ × ℕ)
+unpadded [] = []
+unpadded (x ∷ xs) = elim (eqb (x .0) NONE) [ true ↦ [] | false ↦ x ∷ unpadded xs ]
 
 -- place `at`, the k places from there on, and the row of i with its padding
 abbrev pub place : List ℕ → List ℕ → ℕ → ℕ × ℕ
@@ -46,5 +46,5 @@ pub record IsTable (g : Network) (P : List ℕ) (K : ℕ) (ids dists : List ℕ)
 
 -- its rows, up to the first NONE, have the local properties, and behind it there is only padding
 pub record Flat (g : Network) (P : List ℕ) (K : ℕ) (ids dists : List ℕ) : Type 0 where
-  pub rows : Local g P K (λ i. filled (rowAt ids dists K i))
-  pub padded : (i : ℕ) → i < nodeCount g → rowAt ids dists K i ≡ pad K (filled (rowAt ids dists K i))
+  pub rows : Local g P K (λ i. unpadded (rowAt ids dists K i))
+  pub padded : (i : ℕ) → i < nodeCount g → rowAt ids dists K i ≡ pad K (unpadded (rowAt ids dists K i))

@@ -7,7 +7,7 @@ ghost use lib.ListN.{length, getD};
 ghost use Rattle.network.specs.Nearest.{key};
 ghost use Rattle.rows.specs.Flat.{place};
 ghost use Rattle.network.specs.Network.{network, nodeCount};
-ghost use Rattle.rows.specs.Check.{among, holds, hasWithin, endsBy, isPlaced, wholeBefore, repeats, begins, follows, badPadding, badEntry, badPlace, badRow, HasRows, comesFrom, comesOver, isOwn, isSupported, unsupported, lacksOwn, asksFor, asks, asksFrom, unclosed, badNode, isTable, CanRead, CanCheck};
+ghost use Rattle.rows.specs.Check.{among, rowHolds, hasWithin, endsBy, isPlaced, wholeBefore, repeats, begins, follows, badPadding, badEntry, badPlace, badRow, HasRows, comesFrom, comesOver, isOwn, isSupported, unsupported, lacksOwn, asksFor, asks, asksFrom, unclosed, badNode, sameTable, CanRead, CanCheck};
 use crate::order::long;
 use crate::order::precedes;
 use crate::rows;
@@ -19,7 +19,7 @@ use network::points::lockers_at;
 // Whether a row holds p at distance d.
 fn holds(ids: &[u32], distances: &[u32], p: u32, d: u32) -> bool
     requires { ⌜ length (now distances) ≡ length (now ids) ⌝ }
-    ensures { λ r. ⌜ r ≡ holds (now (ids .entry)) (now (distances .entry)) p d ⌝ }
+    ensures { λ r. ⌜ r ≡ rowHolds (now (ids .entry)) (now (distances .entry)) p d ⌝ }
 {
     let mut j = 0;
     while j < ids.len() {
@@ -464,7 +464,7 @@ pub fn check(
     places: usize,
 ) -> bool
     requires { ⌜ CanCheck (network (now starts) (now neighbours) (now weights)) (now points) places (now ids) (now distances) ⌝ }
-    ensures { λ r. ⌜ r ≡ isTable (network (now (starts .entry)) (now (neighbours .entry)) (now (weights .entry))) (now (points .entry)) places (now (ids .entry)) (now (distances .entry)) ⌝ }
+    ensures { λ r. ⌜ r ≡ sameTable (network (now (starts .entry)) (now (neighbours .entry)) (now (weights .entry))) (now (points .entry)) places (now (ids .entry)) (now (distances .entry)) ⌝ }
 {
     let n = starts.len() - 1;
     let mut i = 0;

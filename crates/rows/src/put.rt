@@ -48,19 +48,19 @@ fn put_in(ids: &mut [u32], distances: &mut [u32], p: u32, d: u32) -> bool
     at < ids.len()
 }
 
-// The same for row i of a table with k places to a row: the row is lent as the part that it is.
+// The same for row i of a table with K places to a row: the row is lent as the part that it is.
 pub fn put_in_row(
     ids: &mut [u32],
     distances: &mut [u32],
-    k: usize,
+    places: usize,
     i: usize,
     p: u32,
     d: u32,
 ) -> bool
-    requires { ⌜ HasRow (now ids) (now distances) k i ⌝ }
-    ensures { λ r. ⌜ PutInRow (now (ids .entry)) (now (distances .entry)) (now (ids .exit)) (now (distances .exit)) k i p d r ⌝ }
+    requires { ⌜ HasRow (now ids) (now distances) places i ⌝ }
+    ensures { λ r. ⌜ PutInRow (now (ids .entry)) (now (distances .entry)) (now (ids .exit)) (now (distances .exit)) places i p d r ⌝ }
 {
-    let a = i * k;
-    let e = a + k;
+    let a = i * places;
+    let e = a + places;
     put_in(&mut ids[a..e], &mut distances[a..e], p, d)
 }

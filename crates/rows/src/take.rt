@@ -52,19 +52,19 @@ fn take_out(ids: &mut [u32], distances: &mut [u32], p: u32, all: usize) -> bool
     true
 }
 
-// The same for row i of a table with k places to a row: the row is lent as the part that it is.
+// The same for row i of a table with K places to a row: the row is lent as the part that it is.
 pub fn take_out_of_row(
     ids: &mut [u32],
     distances: &mut [u32],
-    k: usize,
+    places: usize,
     i: usize,
     p: u32,
     all: usize,
 ) -> bool
-    requires { ⌜ HasRow (now ids) (now distances) k i ⌝ }
-    ensures { λ r. ⌜ TakenOutOfRow (now (ids .entry)) (now (distances .entry)) (now (ids .exit)) (now (distances .exit)) k i p all r ⌝ }
+    requires { ⌜ HasRow (now ids) (now distances) places i ⌝ }
+    ensures { λ r. ⌜ TakenOutOfRow (now (ids .entry)) (now (distances .entry)) (now (ids .exit)) (now (distances .exit)) places i p all r ⌝ }
 {
-    let a = i * k;
-    let e = a + k;
+    let a = i * places;
+    let e = a + places;
     take_out(&mut ids[a..e], &mut distances[a..e], p, all)
 }

@@ -17,8 +17,8 @@ use Rattle.network.proofs.Visits.{visits-count}
 use Rattle.expansion.specs.Area.{Wiped}
 use Rattle.expansion.proofs.Settled.{wiped-after}
 use Rattle.searches.specs.declared.eager.End.{End}
-use Rattle.searches.specs.declared.eager.Answer.{Answer}
-use Rattle.searches.specs.Eager.{HasPlaces, isFound, Complete, ExploreLeft, CanFinish, FinishLeft, LimitedLeft, VisitsLeft}
+use Rattle.searches.specs.declared.eager.Limited.{Limited}
+use Rattle.searches.specs.Eager.{HasPlaces, isFound, Complete, EagerExplored, CanFinish, FinishLeft, LimitedLeft, VisitsLeft}
 use Rattle.searches.specs.Flags.{flagsEnd}
 use Rattle.network.proofs.Counts.{select-same}
 
@@ -40,11 +40,11 @@ kept-visits {g} ok {P} {q} {k} {ys = ys} {r = r} d =
     ∙ tabulate-list (λ i. getD ys (flagsEnd g + i) 0) (visits g P q k) (λ i h. d .visited i (omega (arith, e)))
 
 -- ---- The whole call, from what the expansion leaves.
-module _ {g : Network} (ok : Accepted g) {P : List ℕ} {q k limit : ℕ} {xs ys : List ℕ} {r : End} (e : ExploreLeft g P q k limit xs ys (8 * nodeCount g) r) where
+module _ {g : Network} (ok : Accepted g) {P : List ℕ} {q k limit : ℕ} {xs ys : List ℕ} {r : End} (e : EagerExplored g P q k limit xs ys (8 * nodeCount g) r) where
   pub can-finish : {old : List ℕ} → HasPlaces g old → CanFinish (nodeCount g) ys old r
   can-finish h = record { wipe = record { area = e .area; low = omega arith; blank = e .blank }; few = ok .few; places = h }
 
-  pub limited-left : {zs old new : List ℕ} {a : Answer} → FinishLeft (nodeCount g) ys zs old new r a → LimitedLeft g P q k limit xs zs old new a
+  pub limited-left : {zs old new : List ℕ} {a : Limited} → FinishLeft (nodeCount g) ys zs old new r a → LimitedLeft g P q k limit xs zs old new a
   limited-left {zs} {old} {new} {a} f = by (r .refused) refl
     where
       by : (b : Bool) → r .refused ≡ b → LimitedLeft g P q k limit xs zs old new a
@@ -63,7 +63,7 @@ module _ {g : Network} (ok : Accepted g) {P : List ℕ} {q k limit : ℕ} {xs ys
             area = wiped-size (e .size) (f .area);
           })
 
-  pub visits-left : {zs old new seen seen′ : List ℕ} {a : Answer} → FinishLeft (nodeCount g) ys zs old new r a
+  pub visits-left : {zs old new seen seen′ : List ℕ} {a : Limited} → FinishLeft (nodeCount g) ys zs old new r a
       → (r .refused ≡ true → seen′ ≡ seen) → (r .refused ≡ false → seen′ ≡ answered (tabulate (λ i. getD ys (flagsEnd g + i) 0) (r .count)) seen)
       → VisitsLeft g P q k seen seen′ a
   visits-left {seen = seen} {seen′ = seen′} {a = a} f same copied = by (r .refused) refl

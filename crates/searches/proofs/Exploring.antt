@@ -38,7 +38,7 @@ use Rattle.expansion.proofs.Beside.{Beside, beside-first, beside-label-at, prog
 use Rattle.expansion.proofs.Stopping.{progress-stopped, took-beside}
 use Rattle.expansion.proofs.Turns.{InTurn, turn-start, turn-beside, turn-all, turn-fits, turn-next, turn-other, turn-point}
 use Rattle.searches.specs.Flags.{flagsEnd, idsBase, Flags, CanLook, Looked}
-use Rattle.searches.specs.Eager.{CanExplore, isFound, Visited}
+use Rattle.searches.specs.Eager.{CanExploreEager, isFound, VisitsKept}
 use Rattle.searches.proofs.Beaten.{Beaten, Unbeaten, stops, goes-on, expanded-unbeaten}
 use Rattle.searches.proofs.Finds.{Met, met-leads}
 use Rattle.searches.proofs.Answers.{listed-flagged, come-expanded}
@@ -59,7 +59,7 @@ pub record Exploring (g : Network) (P : List ℕ) (q k limit : ℕ) (xs : List �
   pub turn : CountedInTurn g P q k xs b count
   pub within : count ≤ limit
 
-module _ {g : Network} {P : List ℕ} {q k b : ℕ} {s₀ : List ℕ} (c : CanExplore g P s₀ b q k) where
+module _ {g : Network} {P : List ℕ} {q k b : ℕ} {s₀ : List ℕ} (c : CanExploreEager g P s₀ b q k) where
   ok : Accepted g
   ok = c .search .accepted
 
@@ -173,7 +173,7 @@ module _ {g : Network} {P : List ℕ} {q k b : ℕ} {s₀ : List ℕ} (c : CanEx
             within = e .within;
           }
 
-      pub looked-visited : Visited g P q k xs count → Visited g P q k (zs ++ drop b xs) count
+      pub looked-visited : VisitsKept g P q k xs count → VisitsKept g P q k (zs ++ drop b xs) count
       looked-visited w i h =
           let j = flagsEnd g + i in
           let c = few-counted e in
@@ -242,7 +242,7 @@ module _ {g : Network} {P : List ℕ} {q k b : ℕ} {s₀ : List ℕ} (c : CanEx
       front : (i : ℕ) → i < b → getD ws i 0 ≡ getD xs i 0
       front i h = same .before i h ∙ frame-settle area v l (t .inside) new .words i h ∙ t .popped .frame .before i h
 
-      pub visited-kept : Visited g P q k xs count → Visited g P q k ws count
+      pub visited-kept : VisitsKept g P q k xs count → VisitsKept g P q k ws count
       visited-kept w i h = let c = few-counted e in front (flagsEnd g + i) (omega (arith, low)) ∙ w i h
 
       -- the flags, when the node was looked at
@@ -305,7 +305,7 @@ module _ {g : Network} {P : List ℕ} {q k b : ℕ} {s₀ : List ℕ} (c : CanEx
           within = e .within;
         }
 
-    pub visited-more : Visited g P q k xs i → getD (visits g P q k) i 0 ≡ v → Visited g P q k (set xs (flagsEnd g + i) v) (i + 1)
+    pub visited-more : VisitsKept g P q k xs i → getD (visits g P q k) i 0 ≡ v → VisitsKept g P q k (set xs (flagsEnd g + i) v) (i + 1)
     visited-more w is j l =
         elim (ℕ-discrete j i) [
           | yes y ↦ rw y (getD-set-same xs (flagsEnd g + i) v 0 word-fits ∙ sym is)

@@ -16,7 +16,7 @@ use Rattle.network.specs.Points.{marked, verified, isListed}
 use Rattle.network.proofs.Tests.{and-parts, and-intro}
 use Rattle.expansion.specs.Area.{Blank}
 use Rattle.expansion.specs.Visited.{CanVisit, VerifyLeft}
-use Rattle.searches.specs.Flags.{idsBase, innerBase, Grows, CanVerify, CanVerifyAll, Verified, VerifiedAll, Flags}
+use Rattle.searches.specs.Flags.{idsBase, innerBase, Grows, CanVerifyOnce, CanVerifyAll, VerifiedOnce, VerifiedAll, Flags}
 
 -- a flag that is set exactly where a test passes
 pub flag-right : (word : ℕ) (test : Bool) → (test ≡ true → word ≢ 0) → (word ≢ 0 → test ≡ true) → not (eqb word 0) ≡ test
@@ -74,9 +74,9 @@ module _ (g : Network) (p : ℕ) (xs ws : List ℕ) (inside : p < nodeCount g) (
             ];
       }
 
-module _ {g : Network} {P : List ℕ} {q k p : ℕ} {xs : List ℕ} (c : CanVerify g P q k xs p) where
+module _ {g : Network} {P : List ℕ} {q k p : ℕ} {xs : List ℕ} (c : CanVerifyOnce g P q k xs p) where
   -- it was verified before
-  pub verified-seen : getD xs p 0 ≢ 0 → Verified g P q k xs xs p
+  pub verified-seen : getD xs p 0 ≢ 0 → VerifiedOnce g P q k xs xs p
   verified-seen s =
       record {
         flagged = record { size = refl; words = λ i h. refl; flags = c .front .flags; grows = λ x h n. n };
@@ -86,7 +86,7 @@ module _ {g : Network} {P : List ℕ} {q k p : ℕ} {xs : List ℕ} (c : CanVeri
   -- only p's flags change, and its found flag is right
   verified-new : {ws : List ℕ} → length ws ≡ length xs → ((i : ℕ) → i ≢ p → i ≢ nodeCount g + p → getD ws i 0 ≡ getD xs i 0)
       → (getD ws (nodeCount g + p) 0 ≢ 0 → isListed g P q k p ≡ true) → (isListed g P q k p ≡ true → getD ws (nodeCount g + p) 0 ≢ 0)
-      → Verified g P q k xs ws p
+      → VerifiedOnce g P q k xs ws p
   verified-new {ws} size other sound told =
       record {
         flagged =
@@ -128,7 +128,7 @@ module _ {g : Network} {P : List ℕ} {q k p : ℕ} {xs : List ℕ} (c : CanVeri
           | no h ↦ v .area .blank .zero i (omega arith) ∙ sym (c .front .blank .zero i (omega arith))
         ]
 
-    pub verified-yes : told ≡ true → Verified g P q k xs (set zs (nodeCount g + p) 1) p
+    pub verified-yes : told ≡ true → VerifiedOnce g P q k xs (set zs (nodeCount g + p) 1) p
     verified-yes e =
         let room : nodeCount g + p < length zs = omega (arith, left-size, c .front .size, c .inside) in
         let one = getD-set-same zs (nodeCount g + p) 1 0 room in
@@ -137,7 +137,7 @@ module _ {g : Network} {P : List ℕ} {q k p : ℕ} {xs : List ℕ} (c : CanVeri
         (λ n. verified-listed g P q k p (c .mark) (sym (v .answer) ∙ e))
         (λ l z. omega arith)
 
-    pub verified-no : told ≡ false → Verified g P q k xs zs p
+    pub verified-no : told ≡ false → VerifiedOnce g P q k xs zs p
     verified-no e =
         verified-new left-size (λ i n m. word i n)
         (λ n. c .front .flags .sound p (c .inside) (rw (word (nodeCount g + p) (omega (arith, c .front .site))) at n))
@@ -149,7 +149,7 @@ module _ {g : Network} {P : List ℕ} {q k found : ℕ} {xs : List ℕ} (c : Can
     pub id-same : getD ys (idsBase g + i) 0 ≡ getD xs (idsBase g + i) 0
     id-same = v .flagged .words (idsBase g + i) (omega arith)
 
-    pub can-verify : CanVerify g P q k ys (getD ys (idsBase g + i) 0)
+    pub can-verify : CanVerifyOnce g P q k ys (getD ys (idsBase g + i) 0)
     can-verify =
         record {
           front =
@@ -165,7 +165,7 @@ module _ {g : Network} {P : List ℕ} {q k found : ℕ} {xs : List ℕ} (c : Can
           mark = rw id-same (c .mark i h);
         }
 
-    pub all-more : {zs : List ℕ} → Verified g P q k ys zs (getD ys (idsBase g + i) 0) → VerifiedAll g P q k xs zs (i + 1)
+    pub all-more : {zs : List ℕ} → VerifiedOnce g P q k ys zs (getD ys (idsBase g + i) 0) → VerifiedAll g P q k xs zs (i + 1)
     all-more {zs} r =
         record {
           flagged =

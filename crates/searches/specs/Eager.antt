@@ -14,8 +14,8 @@ use Rattle.network.specs.Visits.{visits}
 use Rattle.network.specs.Count.{select}
 use Rattle.network.specs.Answers.{answered}
 use Rattle.expansion.specs.Area.{queueBase, Blank, Wiped, Area}
-use Rattle.searches.specs.declared.eager.Answer.{Answer}
-use Rattle.searches.specs.declared.eager.Answer.the-variants.{Refused, Listed}
+use Rattle.searches.specs.declared.eager.Limited.{Limited}
+use Rattle.searches.specs.declared.eager.Limited.the-variants.{Refused, Listed}
 use Rattle.searches.specs.declared.eager.End.{End}
 use Rattle.searches.specs.Flags.{flagsEnd, idsBase, innerBase}
 
@@ -24,8 +24,8 @@ abbrev pub eagerWords : Network → ℕ
 eagerWords g = 12 * nodeCount g
 
 -- where the outer area starts
-abbrev pub outerBase : Network → ℕ
-outerBase g = queueBase (nodeCount g) (innerBase g) + 2 * nodeCount g
+abbrev pub eagerOuterBase : Network → ℕ
+eagerOuterBase g = queueBase (nodeCount g) (innerBase g) + 2 * nodeCount g
 
 -- an accepted network with a byte for each node, a site that is a node, at least one nearest, and words that are all 0 with room for the areas
 pub record CanSearch (g : Network) (P xs : List ℕ) (q k : ℕ) : Type 0 where
@@ -41,17 +41,17 @@ abbrev pub HasPlaces : Network → List ℕ → Type 0
 HasPlaces g old = nodeCount g ≤ length old
 
 -- as CanSearch, with the place of the outer area
-pub record CanExplore (g : Network) (P xs : List ℕ) (b q k : ℕ) : Type 0 where
+pub record CanExploreEager (g : Network) (P xs : List ℕ) (b q k : ℕ) : Type 0 where
   pub search : CanSearch g P xs q k
-  pub base : b ≡ outerBase g
+  pub base : b ≡ eagerOuterBase g
 
 -- the found flag of p, as a test
 abbrev pub isFound : ℕ → List ℕ → ℕ → Bool
 isFound n xs p = not (eqb (getD xs (n + p) 0) 0)
 
 -- the first `count` words behind the flags are the first of the visits
-abbrev pub Visited : Network → List ℕ → ℕ → ℕ → List ℕ → ℕ → Type 0
-Visited g P q k xs count = (i : ℕ) → i < count → getD xs (flagsEnd g + i) 0 ≡ getD (visits g P q k) i 0
+abbrev pub VisitsKept : Network → List ℕ → ℕ → ℕ → List ℕ → ℕ → Type 0
+VisitsKept g P q k xs count = (i : ℕ) → i < count → getD xs (flagsEnd g + i) 0 ≡ getD (visits g P q k) i 0
 
 -- the expansion ends: all is expanded, the found flags are those of the listed points, and the visits stand in their words; or the count would exceed
 -- the limit
@@ -59,9 +59,9 @@ pub record Complete (g : Network) (P : List ℕ) (q k limit : ℕ) (ys : List �
   pub count : r .count ≡ expanded g P q k
   pub within : expanded g P q k ≤ limit
   pub found : (p : ℕ) → p < nodeCount g → isFound (nodeCount g) ys p ≡ isListed g P q k p
-  pub visited : Visited g P q k ys (r .count)
+  pub visited : VisitsKept g P q k ys (r .count)
 
-pub record ExploreLeft (g : Network) (P : List ℕ) (q k limit : ℕ) (xs ys : List ℕ) (b : ℕ) (r : End) : Type 0 where
+pub record EagerExplored (g : Network) (P : List ℕ) (q k limit : ℕ) (xs ys : List ℕ) (b : ℕ) (r : End) : Type 0 where
   pub size : length ys ≡ length xs
   pub area : Area (nodeCount g) ys b (r .settled) (r .len)
   pub blank : (j : ℕ) → idsBase g ≤ j → j < b → getD ys j 0 ≡ 0
@@ -82,7 +82,7 @@ pub record CanFinish (n : ℕ) (xs old : List ℕ) (end : End) : Type 0 where
   pub places : n ≤ length old
 
 -- the list of the found flags is written, or nothing where the search was refused; all words are 0
-pub record FinishLeft (n : ℕ) (xs ys old new : List ℕ) (end : End) (r : Answer) : Type 0 where
+pub record FinishLeft (n : ℕ) (xs ys old new : List ℕ) (end : End) (r : Limited) : Type 0 where
   pub area : Wiped xs ys 0
   pub refused : end .refused ≡ true → (r ≡ Refused) × (new ≡ old)
   pub listed :
@@ -103,11 +103,11 @@ pub record RefusedLeft (g : Network) (P : List ℕ) (q k limit : ℕ) (xs ys old
   pub answers : new ≡ old
   pub area : Wiped xs ys 0
 
-abbrev pub LimitedLeft : Network → List ℕ → ℕ → ℕ → ℕ → List ℕ → List ℕ → List ℕ → List ℕ → Answer → Type 0
+abbrev pub LimitedLeft : Network → List ℕ → ℕ → ℕ → ℕ → List ℕ → List ℕ → List ℕ → List ℕ → Limited → Type 0
 LimitedLeft g P q k limit xs ys old new Refused = RefusedLeft g P q k limit xs ys old new
 LimitedLeft g P q k limit xs ys old new (Listed size count) = ListedLeft g P q k limit xs ys old new size count
 
 -- 'Eager also lists the nodes that its count counts' (Ask 4); 12 comes in the middle of the expansion, and leaves the array as it was
-abbrev pub VisitsLeft : Network → List ℕ → ℕ → ℕ → List ℕ → List ℕ → Answer → Type 0
+abbrev pub VisitsLeft : Network → List ℕ → ℕ → ℕ → List ℕ → List ℕ → Limited → Type 0
 VisitsLeft g P q k old new Refused = new ≡ old
 VisitsLeft g P q k old new (Listed size count) = new ≡ answered (visits g P q k) old

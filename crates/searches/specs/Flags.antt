@@ -34,7 +34,7 @@ abbrev pub Grows : Network → List ℕ → List ℕ → Type 0
 Grows g xs ys = (p : ℕ) → p < nodeCount g → getD xs (nodeCount g + p) 0 ≢ 0 → getD ys (nodeCount g + p) 0 ≢ 0
 
 -- an accepted network with a byte for each node, a site, the flags, and a blank area for the inner expansions: 4 n words
-pub record Front (g : Network) (P : List ℕ) (q k : ℕ) (xs : List ℕ) : Type 0 where
+pub record EagerFront (g : Network) (P : List ℕ) (q k : ℕ) (xs : List ℕ) : Type 0 where
   pub accepted : Accepted g
   pub points : length P ≡ nodeCount g
   pub site : q < nodeCount g
@@ -43,13 +43,13 @@ pub record Front (g : Network) (P : List ℕ) (q k : ℕ) (xs : List ℕ) : Type
   pub size : queueBase (nodeCount g) (innerBase g) + 2 * nodeCount g ≤ length xs
 
 -- a point that can be verified; and found nodes whose points can be, the first of them at the word where the found nodes start
-pub record CanVerify (g : Network) (P : List ℕ) (q k : ℕ) (xs : List ℕ) (p : ℕ) : Type 0 where
-  pub front : Front g P q k xs
+pub record CanVerifyOnce (g : Network) (P : List ℕ) (q k : ℕ) (xs : List ℕ) (p : ℕ) : Type 0 where
+  pub front : EagerFront g P q k xs
   pub inside : p < nodeCount g
   pub mark : marked P p ≡ true
 
 pub record CanVerifyAll (g : Network) (P : List ℕ) (q k : ℕ) (xs : List ℕ) (found : ℕ) : Type 0 where
-  pub front : Front g P q k xs
+  pub front : EagerFront g P q k xs
   pub few : found ≤ nodeCount g
   pub inside : (i : ℕ) → i < found → getD xs (idsBase g + i) 0 < nodeCount g
   pub mark : (i : ℕ) → i < found → marked P (getD xs (idsBase g + i) 0) ≡ true
@@ -62,7 +62,7 @@ pub record Flagged (g : Network) (P : List ℕ) (q k : ℕ) (xs ys : List ℕ) :
   pub grows : Grows g xs ys
 
 -- p is verified; the points of the found nodes are
-pub record Verified (g : Network) (P : List ℕ) (q k : ℕ) (xs ys : List ℕ) (p : ℕ) : Type 0 where
+pub record VerifiedOnce (g : Network) (P : List ℕ) (q k : ℕ) (xs ys : List ℕ) (p : ℕ) : Type 0 where
   pub flagged : Flagged g P q k xs ys
   pub told : isListed g P q k p ≡ true → getD ys (nodeCount g + p) 0 ≢ 0
 
@@ -74,7 +74,7 @@ pub record VerifiedAll (g : Network) (P : List ℕ) (q k : ℕ) (xs ys : List �
 
 -- node v is looked at from label l: the words from the found nodes on are blank
 pub record CanLook (g : Network) (P : List ℕ) (q k : ℕ) (xs : List ℕ) (v : ℕ) : Type 0 where
-  pub front : Front g P q k xs
+  pub front : EagerFront g P q k xs
   pub blank : Blank xs (idsBase g)
   pub inside : v < nodeCount g
 

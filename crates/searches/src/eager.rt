@@ -5,8 +5,8 @@ ghost use mathlib.Core.Path.{_≡_};
 ghost use mathlib.Core.Bool.{true, false};
 ghost use Rattle.network.specs.Network.{network};
 ghost use Rattle.expansion.specs.Area.{Wiped};
-ghost use Rattle.searches.specs.Flags.{CanVerify, Verified, CanVerifyAll, VerifiedAll, CanLook, Looked};
-ghost use Rattle.searches.specs.Eager.{CanSearch, HasPlaces, CanExplore, ExploreLeft, CanWipe, CanFinish, FinishLeft, LimitedLeft, VisitsLeft};
+ghost use Rattle.searches.specs.Flags.{CanVerifyOnce, VerifiedOnce, CanVerifyAll, VerifiedAll, CanLook, Looked};
+ghost use Rattle.searches.specs.Eager.{CanSearch, HasPlaces, CanExploreEager, EagerExplored, CanWipe, CanFinish, FinishLeft, LimitedLeft, VisitsLeft};
 use crate::flags;
 use expansion::nearest;
 use expansion::step;
@@ -16,7 +16,7 @@ use expansion::words;
 use network::arcs::wide;
 
 // What a call leaves: refused, as the count would exceed the limit; or how many answers there are, and the count.
-pub enum Answer {
+pub enum Limited {
     Refused,
     Listed { size: usize, count: u32 },
 }
@@ -66,8 +66,8 @@ fn verify_once(
     q: u32,
     k: usize,
 )
-    requires { ⌜ CanVerify (network (now starts) (now neighbours) (now weights)) (now points) q k (now f) p ⌝ }
-    ensures { λ _. ⌜ Verified (network (now (starts .entry)) (now (neighbours .entry)) (now (weights .entry))) (now (points .entry)) q k (now (f .entry)) (now (f .exit)) p ⌝ }
+    requires { ⌜ CanVerifyOnce (network (now starts) (now neighbours) (now weights)) (now points) q k (now f) p ⌝ }
+    ensures { λ _. ⌜ VerifiedOnce (network (now (starts .entry)) (now (neighbours .entry)) (now (weights .entry))) (now (points .entry)) q k (now (f .entry)) (now (f .exit)) p ⌝ }
 {
     let n = starts.len() - 1;
     let at = wide(p);
@@ -154,8 +154,8 @@ fn explore(
     k: usize,
     limit: u32,
 ) -> End
-    requires { ⌜ CanExplore (network (now starts) (now neighbours) (now weights)) (now points) (now s) b q k ⌝ }
-    ensures { λ r. ⌜ ExploreLeft (network (now (starts .entry)) (now (neighbours .entry)) (now (weights .entry))) (now (points .entry)) q k limit (now (s .entry)) (now (s .exit)) b r ⌝ }
+    requires { ⌜ CanExploreEager (network (now starts) (now neighbours) (now weights)) (now points) (now s) b q k ⌝ }
+    ensures { λ r. ⌜ EagerExplored (network (now (starts .entry)) (now (neighbours .entry)) (now (weights .entry))) (now (points .entry)) q k limit (now (s .entry)) (now (s .exit)) b r ⌝ }
 {
     let n = starts.len() - 1;
     let visits = 2 * n;
@@ -203,7 +203,7 @@ fn wipe(s: &mut [u32], n: usize, b: usize, settled: usize, len: usize)
 }
 
 // Writes the list, unless the search is refused, and clears the words.
-fn finish(s: &mut [u32], answers: &mut [u32], n: usize, end: End) -> Answer
+fn finish(s: &mut [u32], answers: &mut [u32], n: usize, end: End) -> Limited
     requires { ⌜ CanFinish n (now s) (now answers) end ⌝ }
     ensures { λ r. ⌜ FinishLeft n (now (s .entry)) (now (s .exit)) (now (answers .entry)) (now (answers .exit)) end r ⌝ }
 {
@@ -213,11 +213,11 @@ fn finish(s: &mut [u32], answers: &mut [u32], n: usize, end: End) -> Answer
     let count = end.count;
     if end.refused {
         wipe(s, n, b, settled, len);
-        return Answer::Refused;
+        return Limited::Refused;
     }
     let size = flags::write_found(s, answers, n, n);
     wipe(s, n, b, settled, len);
-    Answer::Listed { size, count }
+    Limited::Listed { size, count }
 }
 
 // The points that list a site, how many nodes were expanded, and these nodes, by distance and then by node; refused where they are more than the limit.
@@ -233,7 +233,7 @@ pub fn eager(
     q: u32,
     k: usize,
     limit: u32,
-) -> Answer
+) -> Limited
     requires { ⌜ CanSearch (network (now starts) (now neighbours) (now weights)) (now points) (now s) q k ⌝ }
     requires { ⌜ HasPlaces (network (now starts) (now neighbours) (now weights)) (now answers) ⌝ }
     requires { ⌜ HasPlaces (network (now starts) (now neighbours) (now weights)) (now visits) ⌝ }
@@ -263,7 +263,7 @@ pub fn without_visits(
     q: u32,
     k: usize,
     limit: u32,
-) -> Answer
+) -> Limited
     requires { ⌜ CanSearch (network (now starts) (now neighbours) (now weights)) (now points) (now s) q k ⌝ }
     requires { ⌜ HasPlaces (network (now starts) (now neighbours) (now weights)) (now answers) ⌝ }
     ensures { λ r. ⌜ LimitedLeft (network (now (starts .entry)) (now (neighbours .entry)) (now (weights .entry))) (now (points .entry)) q k limit (now (s .entry)) (now (s .exit)) (now (answers .entry)) (now (answers .exit)) r ⌝ }

@@ -13,8 +13,8 @@ use Rattle.network.specs.Answers.{answered}
 use Rattle.network.specs.Points.{verified, listed, expanded, exceedsLimit}
 use Rattle.network.specs.Visits.{visits}
 use Rattle.expansion.specs.Area.{Wiped}
-use Rattle.searches.specs.declared.eager.Answer as search
-use Rattle.searches.specs.declared.eager.Answer.the-variants as found
+use Rattle.searches.specs.declared.eager.Limited as search
+use Rattle.searches.specs.declared.eager.Limited.the-variants as found
 use Rattle.searches.specs.Eager.{LimitedLeft, VisitsLeft}
 use Rattle.numbers.specs.declared.answers.Listing.{Listing}
 use Rattle.numbers.specs.declared.answers.Rule.{Rule}
@@ -93,7 +93,7 @@ module _ (g : Network) (P : List ℕ) (q k limit : ℕ) (scratch answers : List 
   limited-beyond {number} e z l h = rw (eq-eqb number 0 e, lt-ltb limit (expanded g P q k) l, z, h)
 
   -- what the search leaves is the outcome of number 0, whatever its answer
-  pub limited-outcome : {number : ℕ} {xs s new : List ℕ} (a : search.Answer) → number ≡ 0 → LimitedLeft g P q k limit xs s answers new a
+  pub limited-outcome : {number : ℕ} {xs s new : List ℕ} (a : search.Limited) → number ≡ 0 → LimitedLeft g P q k limit xs s answers new a
       → (Wiped xs s 0 → s ≡ replicate (length scratch) 0)
       → _≡_ {A = SearchOutcome} (record { answer = limitedListed a; scratch = s; answers = new }) (limitedOutcome number g P q k limit scratch answers)
   limited-outcome found.Refused e h z = limited-beyond e (z (h .area)) (h .beyond) (h .answers)
@@ -113,7 +113,7 @@ module _ (g : Network) (P : List ℕ) (q k limit : ℕ) (steps : List ℕ) where
   unfolding visitsOutcome limitNumber exceedsLimit
   visits-beyond {number} e l = rw (eq-eqb number 0 e, lt-ltb limit (expanded g P q k) l)
 
-  pub visits-outcome : {number : ℕ} (xs s old new left : List ℕ) (a : search.Answer) → number ≡ 0 → LimitedLeft g P q k limit xs s old new a
+  pub visits-outcome : {number : ℕ} (xs s old new left : List ℕ) (a : search.Limited) → number ≡ 0 → LimitedLeft g P q k limit xs s old new a
       → VisitsLeft g P q k steps left a → left ≡ visitsOutcome number g P q k limit steps
   visits-outcome xs s old new left found.Refused e h v = v ∙ visits-beyond e (h .beyond)
   visits-outcome xs s old new left (found.Listed size count) e h v = v ∙ visits-done e (h .within)

@@ -9,8 +9,8 @@ use Rattle.network.specs.Network.{Network}
 use Rattle.network.specs.Points.{listed, expanded}
 use Rattle.network.specs.Visits.{visits}
 use Rattle.network.specs.Answers.{answered}
-use Rattle.searches.specs.declared.eager.Answer.{Answer}
-use Rattle.searches.specs.declared.eager.Answer.the-variants as found
+use Rattle.searches.specs.declared.eager.Limited.{Limited}
+use Rattle.searches.specs.declared.eager.Limited.the-variants as found
 use Rattle.numbers.specs.declared.answers.Listed as call
 use Rattle.numbers.specs.declared.answers.Listed.the-variants as is
 use Rattle.numbers.specs.Conditions.{byNumber, overLimit, limitNumber}
@@ -52,6 +52,6 @@ unfoldable pub shortOutcome : Network → List ℕ → ℕ → List ℕ → List
 shortOutcome g P q scratch answers = limitedOutcome (limitedNumber g P q 1 scratch answers) g P q 1 65535 scratch answers
 
 -- the answer of either, from that of the search
-abbrev pub limitedListed : Answer → call.Listed
+abbrev pub limitedListed : Limited → call.Listed
 limitedListed found.Refused = is.Refused overLimit
 limitedListed (found.Listed size count) = is.Points size count

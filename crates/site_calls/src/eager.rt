@@ -7,15 +7,15 @@ use expansion::words;
 use network::arcs::wide;
 use numbers::answers::Listed;
 use numbers::calls;
-use searches::eager::Answer;
+use searches::eager::Limited;
 
 // The answer of a search with a limit, with the number of its refusal.
-pub fn listed_of(answer: Answer) -> Listed
+pub fn listed_of(answer: Limited) -> Listed
     ensures { λ r. ⌜ r ≡ limitedListed answer ⌝ }
 {
     match answer {
-        Answer::Refused => Listed::Refused(12),
-        Answer::Listed { size, count } => Listed::Points {
+        Limited::Refused => Listed::Refused(12),
+        Limited::Listed { size, count } => Listed::Points {
             length: size,
             count,
         },

@@ -11,7 +11,7 @@ use lib.ListN.{length, getD, set}
 use borrow.Rule.Slice.PartMut.{midOf, putMid, mid-len, put-same}
 use Rattle.network.proofs.Lends.{mid-length, mid-at}
 use Rattle.rows.specs.Check.{rowPart}
-use Rattle.table.specs.Build.{Stands, HasPlace, NoPlace, HasPlaceIs, HasPlaceAtIs, Takes, Refuses, CanLook, HasPlaceAt, NoPlaceAt, CanAppend, TakesAt, RefusesAt, run, often}
+use Rattle.table.specs.Build.{Stands, HasPlace, NoPlace, HasPlaceIs, HasPlaceAtIs, AppendTakes, AppendRefuses, CanReadRow, HasPlaceAt, NoPlaceAt, CanAppend, AppendTakesAt, AppendRefusesAt, withRun, often}
 use Rattle.table.proofs.Runs.{put-run}
 
 module _ (a e : ℕ) (xs : List ℕ) where
@@ -30,7 +30,7 @@ module _ (a e : ℕ) (xs : List ℕ) where
     none-part h = ⊎-elim (λ q. inl (omega (arith, mid-len a e xs fits))) (λ s. inr (stands-part size p (omega arith) s)) (h .why)
 
 -- the row of node i starts at a, and ends before e; w is the node's word
-module _ {xs ids : List ℕ} {K i : ℕ} (look : CanLook xs ids K i) (a e w size p : ℕ) (from : a ≡ i * K) (end : e ≡ a + K) (word : w ≡ i) (is : size ≡ getD xs w 0) where
+module _ {xs ids : List ℕ} {K i : ℕ} (look : CanReadRow xs ids K i) (a e w size p : ℕ) (from : a ≡ i * K) (end : e ≡ a + K) (word : w ≡ i) (is : size ≡ getD xs w 0) where
   size-is : size ≡ getD xs i 0
   size-is = is ∙ ap (λ (x : ℕ). getD xs x 0) word
 
@@ -43,11 +43,11 @@ module _ {xs ids : List ℕ} {K i : ℕ} (look : CanLook xs ids K i) (a e w size
   none-at h = record { why = rw (sym from, sym size-is) (none-part a e ids size p end (omega (arith, look .ids-room)) (omega (arith, look .size, size-is)) h) }
 
 -- the row of node w as `row_of` hands it out: its length, and whether it has a place for p
-pub part-size : {xs ids l : List ℕ} {K i : ℕ} → CanLook xs ids K i → (w : ℕ) → w ≡ i → l ≡ rowPart K w ids → length l ≡ K
+pub part-size : {xs ids l : List ℕ} {K i : ℕ} → CanReadRow xs ids K i → (w : ℕ) → w ≡ i → l ≡ rowPart K w ids → length l ≡ K
 unfolding rowPart
 part-size {ids} {K} look w word part = ap length part ∙ mid-length (w * K) K ids (omega (arith, ap (λ (x : ℕ). x * K) word, look .ids-room))
 
-pub place-look : {xs ids : List ℕ} {K i : ℕ} → CanLook xs ids K i → (w size p : ℕ) (l : List ℕ) → w ≡ i → size ≡ getD xs w 0 → l ≡ rowPart K w ids → {r : Bool}
+pub place-look : {xs ids : List ℕ} {K i : ℕ} → CanReadRow xs ids K i → (w size p : ℕ) (l : List ℕ) → w ≡ i → size ≡ getD xs w 0 → l ≡ rowPart K w ids → {r : Bool}
     → HasPlaceIs l size p r → HasPlaceAtIs xs ids K i p r
 unfolding rowPart
 place-look {xs} {ids} {K} {i} look w size p l word is part h =
@@ -65,8 +65,8 @@ module _ {xs ids dists : List ℕ} {K i all : ℕ} (can : CanAppend xs ids dists
   long : length (midOf a (e - a) ids) ≡ K
   long = omega (arith, mid-len a e ids (omega (arith, can .look .ids-room)))
 
-  pub takes-at : {zs es : List ℕ} {then : ℕ} → Takes (midOf a (e - a) ids) zs (midOf a (e - a) dists) es size p d all then
-      → TakesAt xs (set xs w then) ids (putMid a (e - a) ids zs) dists (putMid a (e - a) dists es) K i p d all
+  pub takes-at : {zs es : List ℕ} {then : ℕ} → AppendTakes (midOf a (e - a) ids) zs (midOf a (e - a) dists) es size p d all then
+      → AppendTakesAt xs (set xs w then) ids (putMid a (e - a) ids zs) dists (putMid a (e - a) dists es) K i p d all
   takes-at {zs} {es} {then} t =
       let s = size-is (can .look) a e w size p from end word is in
       let q : a + size ≡ i * K + getD xs i 0 = omega (arith, s) in
@@ -78,17 +78,17 @@ module _ {xs ids dists : List ℕ} {K i all : ℕ} (can : CanAppend xs ids dists
         place = place-at (can .look) a e w size p from end word is (t .place);
         words = ap (λ (x : ℕ). set xs x then) word ∙ ap (set xs i) c;
         new-ids =
-            ap (putMid a (e - a) ids) (t .new-ids ∙ ap (λ (x : ℕ). run (midOf a (e - a) ids) size x p) o)
+            ap (putMid a (e - a) ids) (t .new-ids ∙ ap (λ (x : ℕ). withRun (midOf a (e - a) ids) size x p) o)
             ∙ put-run a e ids (omega arith) (omega (arith, can .look .ids-room)) size n p l
-            ∙ ap (λ (x : ℕ). run ids x n p) q;
+            ∙ ap (λ (x : ℕ). withRun ids x n p) q;
         new-dists =
-            ap (putMid a (e - a) dists) (t .new-dists ∙ ap (λ (x : ℕ). run (midOf a (e - a) dists) size x d) o)
+            ap (putMid a (e - a) dists) (t .new-dists ∙ ap (λ (x : ℕ). withRun (midOf a (e - a) dists) size x d) o)
             ∙ put-run a e dists (omega arith) (omega (arith, can .dists-room)) size n d l
-            ∙ ap (λ (x : ℕ). run dists x n d) q;
+            ∙ ap (λ (x : ℕ). withRun dists x n d) q;
       }
 
-  pub refuses-at : {zs es : List ℕ} → Refuses (midOf a (e - a) ids) zs (midOf a (e - a) dists) es size p
-      → RefusesAt xs xs ids (putMid a (e - a) ids zs) dists (putMid a (e - a) dists es) K i p
+  pub refuses-at : {zs es : List ℕ} → AppendRefuses (midOf a (e - a) ids) zs (midOf a (e - a) dists) es size p
+      → AppendRefusesAt xs xs ids (putMid a (e - a) ids zs) dists (putMid a (e - a) dists es) K i p
   refuses-at t =
       record {
         place = none-at (can .look) a e w size p from end word is (t .place);

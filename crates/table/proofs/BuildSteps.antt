@@ -11,7 +11,7 @@ use lib.ListN.{length, getD, drop}
 use lib.Seq.{getD-drop}
 use Rattle.expansion.specs.Queue.{Queue}
 use Rattle.expansion.specs.Area.{Blank}
-use Rattle.table.specs.Build.{Stands, StandsIs, HasPlaceIs, CanLook, HasPlaceAt, NoPlaceAt, Appended, run, often}
+use Rattle.table.specs.Build.{Stands, StandsIs, HasPlaceIs, CanReadRow, HasPlaceAt, NoPlaceAt, Appended, withRun, often}
 
 -- stands: the j ids from place `from` on are not p
 pub stands-none : {ids : List ℕ} {from p : ℕ} → Stands ids from 0 p → ⊥
@@ -35,7 +35,7 @@ append-none {r = true} h e = absurd (false≢true e)
 append-none {r = false} h e = record { taken = λ l. absurd (omega arith); refused = λ l. record { place = h .no refl; new-ids = refl; new-dists = refl } }
 
 pub append-some : {ids ids′ dists dists′ : List ℕ} {size p d all end : ℕ} {r : Bool} → HasPlaceIs ids size p r → not r ≡ false → 0 < all
-    → end ≡ size + often (length ids) size all → ids′ ≡ run ids size (end - size) p → dists′ ≡ run dists size (end - size) d
+    → end ≡ size + often (length ids) size all → ids′ ≡ withRun ids size (end - size) p → dists′ ≡ withRun dists size (end - size) d
     → Appended ids ids′ dists dists′ size p d all end
 append-some {r = false} h e some c a b = absurd (true≢false e)
 append-some {ids} {dists = dists} {size = size} {p = p} {d = d} {all = all} {end = end} {r = true} h e some c a b =
@@ -46,8 +46,8 @@ append-some {ids} {dists = dists} {size = size} {p = p} {d = d} {all = all} {end
           record {
             place = h .yes refl;
             count = c;
-            new-ids = a ∙ ap (λ (n : ℕ). run ids size n p) q;
-            new-dists = b ∙ ap (λ (n : ℕ). run dists size n d) q;
+            new-ids = a ∙ ap (λ (n : ℕ). withRun ids size n p) q;
+            new-dists = b ∙ ap (λ (n : ℕ). withRun dists size n d) q;
           };
       refused = λ l. absurd (omega (arith, h .yes refl .free));
     }
@@ -60,7 +60,7 @@ module _ {xs ys ids : List ℕ} {K i p : ℕ} (same : getD ys i 0 ≡ getD xs i 
   pub none-kept : NoPlaceAt ys ids K i p → NoPlaceAt xs ids K i p
   none-kept h = record { why = rw same at (h .why) }
 
-pub look-kept : {xs ys ids : List ℕ} {K i : ℕ} → getD ys i 0 ≡ getD xs i 0 → length ys ≡ length xs → CanLook xs ids K i → CanLook ys ids K i
+pub look-kept : {xs ys ids : List ℕ} {K i : ℕ} → getD ys i 0 ≡ getD xs i 0 → length ys ≡ length xs → CanReadRow xs ids K i → CanReadRow ys ids K i
 look-kept same e c = record { word = omega (arith, c .word); size = omega (arith, c .size); ids-room = c .ids-room }
 
 -- a row has a place for p or has none

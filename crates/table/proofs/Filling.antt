@@ -24,14 +24,14 @@ use Rattle.network.proofs.NumberZero.{accepted-ranges}
 use Rattle.network.proofs.Least.{distance}
 use Rattle.network.proofs.Distances.{dist-walk}
 use Rattle.expansion.specs.Queue.{Holds, Queue, PoppedAt, NoLater}
-use Rattle.expansion.specs.Area.{PutIn, Entered}
+use Rattle.expansion.specs.Area.{PutAmong, Entered}
 use Rattle.table.specs.Room.{degree}
 use Rattle.expansion.proofs.TagLaws.{entry-same, no-later-parts}
 use Rattle.expansion.proofs.EnteredLaws.{entered-held}
 use Rattle.rows.specs.Exact.{Placed}
 use Rattle.rows.specs.Flat.{place, places, rowAt, Sized, IsTable}
 use Rattle.table.specs.Offer.{offerOf, arcOffer}
-use Rattle.table.specs.Build.{Stands, NoPlaceAt, CanAppend, TakesAt, RefusesAt, CanOfferOn, Offered, Seeded, CanSpread, often}
+use Rattle.table.specs.Build.{Stands, NoPlaceAt, CanAppend, AppendTakesAt, AppendRefusesAt, CanOfferOn, OfferedOn, PointsSeeded, CanSpread, often}
 use Rattle.rows.proofs.Exact.{exact-row}
 use Rattle.rows.proofs.Flat.{places-length, place-in, in-place, places-padded, places-same}
 use Rattle.network.proofs.Lends.{row-fits}
@@ -70,7 +70,7 @@ rows-order : (i p d j q e : ℕ) → i < 65536 → p < 65536 → j < 65536 → q
 rows-order i p d j q e a b a′ b′ l = ⊎-elim (λ h. omega arith) (λ h. omega arith) (no-later-parts d p i e q j b a b′ a′ l)
 
 -- ---- The start: all places are empty, and every point is offered to its own row.
-module _ {g : Network} {P xs ys ids dists : List ℕ} {K len : ℕ} (c : CanSpread g P xs ids dists K) (s : Seeded P xs ys (length P) len) where
+module _ {g : Network} {P xs ys ids dists : List ℕ} {K len : ℕ} (c : CanSpread g P xs ids dists K) (s : PointsSeeded P xs ys (length P) len) where
   nodes : length P ≡ nodeCount g
   nodes = c .can .points
 
@@ -84,7 +84,7 @@ module _ {g : Network} {P xs ys ids dists : List ℕ} {K len : ℕ} (c : CanSpre
   start-held i p d x =
       ⊎-elim (λ (h : Holds (drop (nodeCount g) xs) 0 (offerOf i p d)). absurd (omega (arith, h .inside))) from (seeded .holds (offerOf i p d) .0 (x .holds))
     where
-      from : PutIn (λ i. offerOf i i 0) (λ i. marked P i ≡ true) (nodeCount g) (offerOf i p d) → Offer g P i p d
+      from : PutAmong (λ i. offerOf i i 0) (λ i. marked P i ≡ true) (nodeCount g) (offerOf i p d) → Offer g P i p d
       from s =
           let f = c .can .accepted .few in
           let e = entry-same d p i 0 (s .place) (s .place) (x .point) (x .node) (omega (arith, s .low)) (omega (arith, s .low)) (s .is) in
@@ -217,7 +217,7 @@ module _ {g : Network} {P xs ys ids dists : List ℕ} {K len : ℕ} (ok : Accept
   stands-row s =
       stands-placed ok some built taken-out (getD dists (i * K + s .index) 0) (stands-in ids dists (i * K) (getD ys i 0) p s)
 
-  module _ {zs ids′ dists′ : List ℕ} (r : RefusesAt ys zs ids ids′ dists dists′ K i p) where
+  module _ {zs ids′ dists′ : List ℕ} (r : AppendRefusesAt ys zs ids ids′ dists dists′ K i p) where
     needless : Placed K (rowsOf K ys ids dists i) p d
     needless =
         ⊎-elim
@@ -243,7 +243,7 @@ module _ {g : Network} {P xs ys ids dists : List ℕ} {K len : ℕ} (ok : Accept
     pub refused-less : len - 1 + freeArcs g K zs (nodeCount g) < len + freeArcs g K xs (nodeCount g)
     refused-less = omega (arith, free-popped, ap (λ (l : List ℕ). freeArcs g K l (nodeCount g)) (r .words))
 
-  module _ {zs ids′ dists′ : List ℕ} (r : TakesAt ys zs ids ids′ dists dists′ K i p d (lockers P p)) where
+  module _ {zs ids′ dists′ : List ℕ} (r : AppendTakesAt ys zs ids ids′ dists dists′ K i p d (lockers P p)) where
     abbrev size : ℕ
     size = getD ys i 0
 
@@ -340,7 +340,7 @@ module _ {g : Network} {P xs ys ids dists : List ℕ} {K len : ℕ} (ok : Accept
     apart : (j m : ℕ) → j ≢ i → m < K → (j * K + m < i * K + size) ⊎ (i * K + size + new ≤ j * K + m)
     apart j m n l = ⊎-elim (λ h. inl (omega arith)) (λ h. inr (omega (arith, r .place .free))) (rows-apart j i m K n l)
 
-    module _ {ws : List ℕ} {then : ℕ} (o : Offered g zs ws ids′ K (len - 1) then i p d (length (neighboursOf g i))) where
+    module _ {ws : List ℕ} {then : ℕ} (o : OfferedOn g zs ws ids′ K (len - 1) then i p d (length (neighboursOf g i))) where
       row-takes : RowTakes g P K (rowsOf K ys ids dists) (rowsOf K ws ids′ dists′) i p d
       row-takes =
           record {
@@ -364,7 +364,7 @@ module _ {g : Network} {P xs ys ids dists : List ℕ} {K len : ℕ} (ok : Accept
       abbrev deg : ℕ
       deg = length (neighboursOf g i)
 
-      over : {Puts : ℕ → Type 0} (j q e : ℕ) → j < 65536 → q < 65536 → PutIn (arcOffer g i p d) Puts deg (offerOf j q e) → OverArc g i p d j q e
+      over : {Puts : ℕ → Type 0} (j q e : ℕ) → j < 65536 → q < 65536 → PutAmong (arcOffer g i p d) Puts deg (offerOf j q e) → OverArc g i p d j q e
       over j q e a b y =
           let arc = arc-at (accepted-ranges ok) i popped-node (y .place) (y .low) in
           let s = entry-same e q j (d + getD (weightsOf g i) (y .place) 0) p (getD (neighboursOf g i) (y .place) 0) b a point-fits (omega (arith, ok .leads-in arc, ok .few)) (y .is) in

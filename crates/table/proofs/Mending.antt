@@ -30,15 +30,15 @@ use Rattle.network.proofs.Prefix.{near-next}
 use Rattle.network.proofs.Ranges.{arc-at, arc-place}
 use Rattle.network.proofs.NumberZero.{accepted-ranges}
 use Rattle.expansion.specs.Queue.{Holds, PoppedAt}
-use Rattle.expansion.specs.Area.{PutIn}
+use Rattle.expansion.specs.Area.{PutAmong}
 use Rattle.expansion.proofs.TagLaws.{entry-same, no-later-key}
 use Rattle.expansion.proofs.EnteredLaws.{entered-held}
 use Rattle.rows.specs.Flat.{rowAt, IsTable}
 use Rattle.rows.specs.Update.{Added, Gains}
 use Rattle.rows.specs.Take.{takeOut, takeIf}
-use Rattle.table.specs.Candidate.{Fit, GivesOver}
+use Rattle.table.specs.Candidate.{FitsRow, GivesOver}
 use Rattle.table.specs.Offer.{offerOf, arcOffer}
-use Rattle.table.specs.Mend.{isShort, hasAll, Freed, Seeded, Takes, Refuses, Offered, Wants, Behind, Lead, Mending}
+use Rattle.table.specs.Mend.{isShort, hasAll, Freed, ShortSeeded, ShortTakes, ShortRefuses, OfferedShort, Wants, Behind, Lead, Mending}
 use Rattle.rows.proofs.Laid.{table-rows}
 use Rattle.rows.proofs.Update.{nearest-removed, row-kept, gains-or-not}
 use Rattle.rows.proofs.Changed.{removed-changes}
@@ -122,7 +122,7 @@ module _ {g : Network} (ok : Accepted g) {Q : List ℕ} {K : ℕ} {ids dists xs 
 
     module _ {zs ids′ dists′ : List ℕ} (others : (c : ℕ) → c ≢ i → rowAt ids′ dists′ K c ≡ rowAt ids dists K c) where
       -- it is dropped
-      pub mending-skipped : Refuses Q ys zs ids dists ids′ dists′ K i p d → Mending g Q K ids′ dists′ zs (len - 1)
+      pub mending-skipped : ShortRefuses Q ys zs ids dists ids′ dists′ K i p d → Mending g Q K ids′ dists′ zs (len - 1)
       mending-skipped t =
           rw (t .words)
           (record {
@@ -162,8 +162,8 @@ module _ {g : Network} (ok : Accepted g) {Q : List ℕ} {K : ℕ} {ids dists xs 
               (t .why)
 
       -- its row takes it, and offers it on
-      pub mending-taken : {ws : List ℕ} {more : ℕ} → i < length ys → Takes Q ys zs ids dists ids′ dists′ K i p d
-          → Offered g zs ws (len - 1) more i p d (length (neighboursOf g i)) → Mending g Q K ids′ dists′ ws more
+      pub mending-taken : {ws : List ℕ} {more : ℕ} → i < length ys → ShortTakes Q ys zs ids dists ids′ dists′ K i p d
+          → OfferedShort g zs ws (len - 1) more i p d (length (neighboursOf g i)) → Mending g Q K ids′ dists′ ws more
       mending-taken {ws} {more} room t f =
           record {
             lacking = λ c h s. let n = still c h s in others c (n .0) ∙ m .lacking c h (n .1);
@@ -207,7 +207,7 @@ module _ {g : Network} (ok : Accepted g) {Q : List ℕ} {K : ℕ} {ids dists xs 
               ∙ ap (λ v. set (pad K (nearest g Q i NONE (K - 1))) (K - 1) (p, v)) (want .1)
               ∙ taken-whole ok Q K i (omega arith) (want .0)
 
-          new-lead : {Puts : ℕ → Type 0} (k : ℕ) → PutIn (arcOffer g i p d) Puts (length (neighboursOf g i)) k → Lead g Q k
+          new-lead : {Puts : ℕ → Type 0} (k : ℕ) → PutAmong (arcOffer g i p d) Puts (length (neighboursOf g i)) k → Lead g Q k
           new-lead k u =
               let arc = arc-at (accepted-ranges ok) i low-i (u .place) (u .low) in
               let v : getD (weightsOf g i) (u .place) 0 + d ≡ d + getD (weightsOf g i) (u .place) 0 = omega arith in
@@ -322,7 +322,7 @@ module _ {g : Network} (ok : Accepted g) {P Q : List ℕ} {x K : ℕ} (low : x <
   freed-whole i h e = old-row i h ∙ row-kept ok low a K i (λ r. false≢true (sym e ∙ gains-had i h r))
 
   module _ {xs ys zs ids′ dists′ : List ℕ} {changed len : ℕ} (blank : (j : ℕ) → getD xs j 0 ≡ 0) (f : Freed xs ys ids dists ids′ dists′ K x (lockers P x) (nodeCount g) changed)
-      (s : Seeded g Q ys zs ids′ dists′ K (nodeCount g) len) where
+      (s : ShortSeeded g Q ys zs ids′ dists′ K (nodeCount g) len) where
     flag : (i : ℕ) → i < nodeCount g → isShort zs i ≡ isShort ys i
     flag i h = ap (λ v. eqb v 1) (s .frame .words i h)
 
@@ -390,7 +390,7 @@ module _ {g : Network} (ok : Accepted g) {P Q : List ℕ} {x K : ℕ} (low : x <
         let o = s .all i h e in
         let pl = arc-place (accepted-ranges ok) arc in
         let near : dist g c p ≢ NONE = omega (arith, v .nearer .less, sum) in
-        let fit : Fit Q (rowAt ids′ dists′ K i) p (dist g c p) = record {
+        let fit : FitsRow Q (rowAt ids′ dists′ K i) p (dist g c p) = record {
           low = distance ok c p .limit near;
           lacks = rw (lacking i h e) (wants-lacks ok Q K i v);
         } in

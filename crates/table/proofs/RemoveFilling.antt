@@ -19,7 +19,7 @@ use Rattle.network.proofs.Rank.{marked-inside}
 use Rattle.network.proofs.Ranges.{arc-at, neighbours-length}
 use Rattle.network.proofs.NumberZero.{accepted-ranges}
 use Rattle.expansion.specs.Queue.{PoppedAt}
-use Rattle.expansion.specs.Area.{PutIn}
+use Rattle.expansion.specs.Area.{PutAmong}
 use Rattle.table.specs.Room.{degree, arcsLeft}
 use Rattle.expansion.proofs.QueueLaws.{empty-queue}
 use Rattle.expansion.proofs.Settled.{zero-blank}
@@ -28,7 +28,7 @@ use Rattle.table.proofs.Room.{left-same, left-less, left-most}
 use Rattle.rows.specs.Flat.{Sized}
 use Rattle.rows.specs.Update.{Added}
 use Rattle.table.specs.Offer.{offerOf, arcOffer, CanOffer}
-use Rattle.table.specs.Mend.{isShort, CanFree, Freed, CanSeed, Seeded, CanTakeIn, TakenIn, Offered, Entry, Waiting, CanFill, Mending, FillLeft}
+use Rattle.table.specs.Mend.{isShort, CanFree, Freed, CanSeedShort, ShortSeeded, CanTakeIn, TakenIn, OfferedShort, OfferEntry, Waiting, CanFill, Mending, FillLeft}
 use Rattle.table.specs.Remove.{CanRemove}
 use Rattle.table.specs.Updated.{fewerAt, UpdateLeft}
 use Rattle.rows.proofs.Laid.{rows-table}
@@ -38,7 +38,7 @@ use Rattle.table.proofs.Mending.{mending-start, changed-rows, mending-e
 
 -- the first offers
 pub waiting-start : {g : Network} {Q ys zs ids dists : List ℕ} {K len : ℕ} → Accepted g → length Q ≡ nodeCount g
-    → nodeCount g + 2 * (nodeCount g + arcCount g) ≤ length ys → Seeded g Q ys zs ids dists K (nodeCount g) len → Waiting g zs len
+    → nodeCount g + 2 * (nodeCount g + arcCount g) ≤ length ys → ShortSeeded g Q ys zs ids dists K (nodeCount g) len → Waiting g zs len
 waiting-start {g} {Q} {ys} {zs} ok points room s =
     record {
       queue = s .queue;
@@ -112,7 +112,7 @@ module _ {g : Network} (ok : Accepted g) {xs : List ℕ} {len : ℕ} (w : Waitin
           room = simp length-set (omega (arith, w .size, w .room, arcs-of, taken-left (set xs i 0) (λ c h. refl)));
         }
 
-    module _ {ys : List ℕ} {p more : ℕ} (d : ℕ) (point : p < nodeCount g) (f : Offered g (set xs i 0) ys len more i p d (length (neighboursOf g i))) where
+    module _ {ys : List ℕ} {p more : ℕ} (d : ℕ) (point : p < nodeCount g) (f : OfferedShort g (set xs i 0) ys len more i p d (length (neighboursOf g i))) where
       left : arcsLeft g (isShort ys) (nodeCount g) + degree g i ≡ arcsLeft g (isShort xs) (nodeCount g)
       left = taken-left ys (f .frame .words)
 
@@ -125,7 +125,7 @@ module _ {g : Network} (ok : Accepted g) {xs : List ℕ} {len : ℕ} (w : Waitin
             size = omega (arith, w .size, f .frame .size ∙ length-set xs i 0);
           }
         where
-          new : {Puts : ℕ → Type 0} (k : ℕ) → PutIn (arcOffer g i p d) Puts (length (neighboursOf g i)) k → Entry (nodeCount g) k
+          new : {Puts : ℕ → Type 0} (k : ℕ) → PutAmong (arcOffer g i p d) Puts (length (neighboursOf g i)) k → OfferEntry (nodeCount g) k
           new k o =
               record {
                 node = getD (neighboursOf g i) (o .place) 0;
@@ -204,8 +204,8 @@ module _ {g : Network} {P : List ℕ} {K : ℕ} {xs ids dists : List ℕ} {len :
         let q = t .taken e in
         rw (q .words) (waiting-offer (can .accepted) after (inside .0) (q .short) (inside .1) (q .low))
 
-    module _ {vs : List ℕ} {more : ℕ} (e : r ≡ true) (u : Offered g ws vs (left - 1) more i p d (length (neighboursOf g i))) where
-      offered : Offered g (set zs i 0) vs (left - 1) more i p d (length (neighboursOf g i))
+    module _ {vs : List ℕ} {more : ℕ} (e : r ≡ true) (u : OfferedShort g ws vs (left - 1) more i p d (length (neighboursOf g i))) where
+      offered : OfferedShort g (set zs i 0) vs (left - 1) more i p d (length (neighboursOf g i))
       offered = rw (t .taken e .words) at u
 
       pub filling-taken : Filling g P K xs ids dists len vs ids″ dists″ more
@@ -249,7 +249,7 @@ module _ {g : Network} {P xs ids dists : List ℕ} {x K : ℕ} (can : CanRemove 
 
     -- what `seed` requires, of any bytes
     module _ {Q : List ℕ} (points : length Q ≡ nodeCount g) where
-      pub remove-seed : CanSeed g Q ys ids′ dists′ K
+      pub remove-seed : CanSeedShort g Q ys ids′ dists′ K
       remove-seed =
           record {
             accepted = can .accepted;
@@ -261,7 +261,7 @@ module _ {g : Network} {P xs ids dists : List ℕ} {x K : ℕ} (can : CanRemove 
             room = omega (arith, f .size, can .room);
           }
 
-      module _ {zs : List ℕ} {len : ℕ} (s : Seeded g Q ys zs ids′ dists′ K (nodeCount g) len) where
+      module _ {zs : List ℕ} {len : ℕ} (s : ShortSeeded g Q ys zs ids′ dists′ K (nodeCount g) len) where
         -- what `fill` requires
         pub remove-fill : CanFill g zs len ids′ dists′ K
         remove-fill =
@@ -276,8 +276,8 @@ module _ {g : Network} {P xs ids dists : List ℕ} {x K : ℕ} (can : CanRemove 
         remove-size {ws} u z = ap length z ∙ length-replicate (length ws) 0 ∙ u .size ∙ s .frame .size ∙ f .size
 
     -- what `remove` leaves; y is the node as an index
-    module _ {zs : List ℕ} {len y : ℕ} (is : y ≡ x) (seeded : Seeded g (fewerAt P y) ys zs ids′ dists′ K (nodeCount g) len) where
-      s : Seeded g (fewerAt P x) ys zs ids′ dists′ K (nodeCount g) len
+    module _ {zs : List ℕ} {len y : ℕ} (is : y ≡ x) (seeded : ShortSeeded g (fewerAt P y) ys zs ids′ dists′ K (nodeCount g) len) where
+      s : ShortSeeded g (fewerAt P x) ys zs ids′ dists′ K (nodeCount g) len
       s = rw is at seeded
 
       filled : {ws ids″ dists″ : List ℕ} → FillLeft g (fewerAt P y) zs ws len ids′ dists′ ids″ dists″ K → FillLeft g (fewerAt P x) zs ws len ids′ dists′ ids″ dists″ K

@@ -25,9 +25,9 @@ use Rattle.expansion.specs.Queue.{Queue, PushedAt}
 use Rattle.rows.specs.Flat.{place, rowAt, Sized}
 use Rattle.rows.specs.Take.{takeIf, TakenOutOfRow}
 use Rattle.rows.specs.Check.{among}
-use Rattle.table.specs.Candidate.{Fits, Better, Gives, BestOfRow, Fit, GivesOver, BestOf}
+use Rattle.table.specs.Candidate.{Fits, Better, Gives, BestOfRow, FitsRow, GivesOver, BestOf}
 use Rattle.table.specs.Offer.{offerOf}
-use Rattle.table.specs.Mend.{isShort, hasAll, Freed, SeedOf, Seeded, PutLast, CanTakeIn, TakenIn}
+use Rattle.table.specs.Mend.{isShort, hasAll, Freed, SeedOf, ShortSeeded, PutLast, CanTakeIn, TakenIn}
 use Rattle.rows.proofs.Flat.{place-in, in-place}
 use Rattle.rows.proofs.Laid.{part-places}
 use Rattle.rows.proofs.CheckRows.{times-places}
@@ -178,10 +178,10 @@ module _ (P ids dists : List ℕ) (K i : ℕ) (fits : i * K + K ≤ length ids) 
       ∙ sym (times-places (take K (drop (i * K) ids)) (take K (drop (i * K) dists)) p K)
       ∙ ap (times p) (part-places ids dists (i * K) K)
 
-  fit-fits : {p e : ℕ} → Fit P (rowAt ids dists K i) p e → Fits P (take K (drop (i * K) ids)) p e
+  fit-fits : {p e : ℕ} → FitsRow P (rowAt ids dists K i) p e → Fits P (take K (drop (i * K) ids)) p e
   fit-fits {p} f = record { low = f .low; lacks = omega (arith, f .lacks, part-times p) }
 
-  fits-fit : {p e : ℕ} → Fits P (take K (drop (i * K) ids)) p e → Fit P (rowAt ids dists K i) p e
+  fits-fit : {p e : ℕ} → Fits P (take K (drop (i * K) ids)) p e → FitsRow P (rowAt ids dists K i) p e
   fits-fit {p} f = record { low = f .low; lacks = omega (arith, f .lacks, part-times p) }
 
 pub row-inside : {g : Network} {ids dists : List ℕ} {K i : ℕ} → Sized g K ids dists → i < nodeCount g → (i * K + K ≤ length ids) × (i * K + K ≤ length dists)
@@ -226,7 +226,7 @@ module _ {g : Network} {P ids dists : List ℕ} {K i : ℕ} (sized : Sized g K i
       fits : i * K + K ≤ length ids
       fits = omega (arith, row-fits i (nodeCount g) K inside, sized .all-ids)
 
-      here : (p e : ℕ) → List·Memᴰ (p, e) (rowAt ids dists K (getD (neighboursOf g i) j 0)) → Fit P (rowAt ids dists K i) p e → key q ≤ key (p, e + getD (weightsOf g i) j 0)
+      here : (p e : ℕ) → List·Memᴰ (p, e) (rowAt ids dists K (getD (neighboursOf g i) j 0)) → FitsRow P (rowAt ids dists K i) p e → key q ≤ key (p, e + getD (weightsOf g i) j 0)
       here p e m fit =
           let a = in-place ids dists (getD (neighboursOf g i) j 0 * K) K (p, e) m in
           let u = mid-at (getD (neighboursOf g i) j 0 * K) K ids (a .index) (a .low) ∙ sym (ap (λ (x : ℕ × ℕ). x .0) (a .is)) in
@@ -269,7 +269,7 @@ best-point {g} {P} {ids} {dists} {K} {i} {end} {r} points b n =
 
 -- ---- seed: the short rows below i have their best candidates in the queue.
 module _ {g : Network} {P xs ids dists : List ℕ} {K : ℕ} where
-  pub seeded-none : Queue (drop (nodeCount g) xs) 0 → Seeded g P xs xs ids dists K 0 0
+  pub seeded-none : Queue (drop (nodeCount g) xs) 0 → ShortSeeded g P xs xs ids dists K 0 0
   seeded-none q =
       record {
         frame = record { size = refl; words = λ i h. refl };
@@ -279,12 +279,12 @@ module _ {g : Network} {P xs ids dists : List ℕ} {K : ℕ} where
         all = λ i h. absurd (omega arith);
       }
 
-  module _ {ys : List ℕ} {i len : ℕ} (f : Seeded g P xs ys ids dists K i len) where
+  module _ {ys : List ℕ} {i len : ℕ} (f : ShortSeeded g P xs ys ids dists K i len) where
     later : {k : ℕ} → SeedOf g P xs ids dists K i k → SeedOf g P xs ids dists K (i + 1) k
     later s = record { node = s .node; low = omega (arith, s .low); short = s .short; best = s .best; gives = s .gives; is = s .is }
 
     -- row i is not short, or there is nothing for it
-    pub seeded-whole : isShort xs i ≡ false → Seeded g P xs ys ids dists K (i + 1) len
+    pub seeded-whole : isShort xs i ≡ false → ShortSeeded g P xs ys ids dists K (i + 1) len
     seeded-whole e =
         record {
           frame = f .frame;
@@ -294,7 +294,7 @@ module _ {g : Network} {P xs ids dists : List ℕ} {K : ℕ} where
           all = λ j h s. elim (ℕ-discrete j i) [ yes q ↦ absurd (false≢true (sym e ∙ ap (isShort xs) (sym q) ∙ s)) | no n ↦ f .all j (omega arith) s ];
         }
 
-    pub seeded-nothing : {best : ℕ × ℕ} → BestOf g P ids dists K i (length (neighboursOf g i)) best → best .1 ≡ NONE → Seeded g P xs ys ids dists K (i + 1) len
+    pub seeded-nothing : {best : ℕ × ℕ} → BestOf g P ids dists K i (length (neighboursOf g i)) best → best .1 ≡ NONE → ShortSeeded g P xs ys ids dists K (i + 1) len
     seeded-nothing {best} b e =
         record {
           frame = f .frame;
@@ -310,7 +310,7 @@ module _ {g : Network} {P xs ids dists : List ℕ} {K : ℕ} where
         }
 
     pub seeded-push : {zs : List ℕ} {best : ℕ × ℕ} → isShort xs i ≡ true → BestOf g P ids dists K i (length (neighboursOf g i)) best → best .1 ≢ NONE
-        → PushedAt ys zs (nodeCount g) len (offerOf i (best .0) (best .1)) → Seeded g P xs zs ids dists K (i + 1) (len + 1)
+        → PushedAt ys zs (nodeCount g) len (offerOf i (best .0) (best .1)) → ShortSeeded g P xs zs ids dists K (i + 1) (len + 1)
     seeded-push {zs} {best} short b n p =
         record {
           frame = record { size = p .size ∙ f .frame .size; words = λ j h. p .before j h ∙ f .frame .words j h };

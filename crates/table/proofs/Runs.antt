@@ -1,4 +1,4 @@
--- A run of one word in a list (`run`): its words, the loop that writes it, a run in a part that was lent, and the entries of a row that ends with one.
+-- A run of one word in a list (`withRun`): its words, the loop that writes it, a run in a part that was lent, and the entries of a row that ends with one.
 -- Assumes nothing.
 use Prim.Native.Nat.{ℕ, zero, suc, _+_, _-_, _≤_, _<_}
 use mathlib.Core.Path.{_≡_, refl, sym, ap, _∙_}
@@ -11,38 +11,38 @@ use lib.ListN.{length, getD, set, take, replicate, length-set}
 use lib.Seq.{getD-set-same, getD-set-other, set-append-left, length-take-le}
 use borrow.Rule.Slice.PartMut.{midOf, putMid, postOf, mid-len, put-same}
 use Rattle.rows.specs.Flat.{place, places}
-use Rattle.table.specs.Build.{run}
+use Rattle.table.specs.Build.{withRun}
 
 module _ (xs : List ℕ) (at v : ℕ) where
-  pub run-length : (n : ℕ) → length (run xs at n v) ≡ length xs
-  unfolding run
+  pub run-length : (n : ℕ) → length (withRun xs at n v) ≡ length xs
+  unfolding withRun
   run-length zero = refl
-  run-length (suc n) = length-set (run xs at n v) (at + n) v ∙ run-length n
+  run-length (suc n) = length-set (withRun xs at n v) (at + n) v ∙ run-length n
 
   -- a word of the run, and a word before or behind it
-  pub run-in : (n j : ℕ) → at + n ≤ length xs → at ≤ j → j < at + n → getD (run xs at n v) j 0 ≡ v
-  unfolding run
+  pub run-in : (n j : ℕ) → at + n ≤ length xs → at ≤ j → j < at + n → getD (withRun xs at n v) j 0 ≡ v
+  unfolding withRun
   run-in zero j f l h = absurd (omega arith)
   run-in (suc n) j f l h =
       elim (ℕ-discrete j (at + n)) [
-        | yes e ↦ ap (λ (i : ℕ). getD (set (run xs at n v) (at + n) v) i 0) e ∙ getD-set-same (run xs at n v) (at + n) v 0 (omega (arith, run-length n))
-        | no m ↦ getD-set-other (run xs at n v) (at + n) j v 0 m ∙ run-in n j (omega arith) l (omega arith)
+        | yes e ↦ ap (λ (i : ℕ). getD (set (withRun xs at n v) (at + n) v) i 0) e ∙ getD-set-same (withRun xs at n v) (at + n) v 0 (omega (arith, run-length n))
+        | no m ↦ getD-set-other (withRun xs at n v) (at + n) j v 0 m ∙ run-in n j (omega arith) l (omega arith)
       ]
 
-  pub run-out : (n j : ℕ) → (j < at) ⊎ (at + n ≤ j) → getD (run xs at n v) j 0 ≡ getD xs j 0
-  unfolding run
+  pub run-out : (n j : ℕ) → (j < at) ⊎ (at + n ≤ j) → getD (withRun xs at n v) j 0 ≡ getD xs j 0
+  unfolding withRun
   run-out zero j h = refl
   run-out (suc n) j h =
-      getD-set-other (run xs at n v) (at + n) j v 0 (λ e. ⊎-elim (λ a. omega arith) (λ a. omega arith) h)
+      getD-set-other (withRun xs at n v) (at + n) j v 0 (λ e. ⊎-elim (λ a. omega arith) (λ a. omega arith) h)
       ∙ run-out n j (⊎-elim (λ a. inl a) (λ a. inr (omega arith)) h)
 
-  pub run-none : xs ≡ run xs at (at - at) v
-  unfolding run
+  pub run-none : xs ≡ withRun xs at (at - at) v
+  unfolding withRun
   run-none = let q : at - at ≡ 0 = omega arith in rw q
 
   -- as the loop writes it, from place `at` up to `to`
-  pub run-more : (to : ℕ) → at ≤ to → set (run xs at (to - at) v) to v ≡ run xs at (to + 1 - at) v
-  unfolding run
+  pub run-more : (to : ℕ) → at ≤ to → set (withRun xs at (to - at) v) to v ≡ withRun xs at (to + 1 - at) v
+  unfolding withRun
   run-more to h =
       let e : at + (to - at) ≡ to = omega arith in
       let f : to + 1 - at ≡ suc (to - at) = omega arith in
@@ -61,13 +61,13 @@ module _ (a e : ℕ) (xs : List ℕ) (low : a ≤ e) (fits : e ≤ length xs) wh
       ∙ sym (set-behind (take a xs) (zs ++ postOf a (e - a) xs) j v)
       ∙ ap (λ (i : ℕ). set (putMid a (e - a) xs zs) (i + j) v) (length-take-le a xs (omega arith))
 
-  pub put-run : (j n v : ℕ) → j + n ≤ e - a → putMid a (e - a) xs (run (midOf a (e - a) xs) j n v) ≡ run xs (a + j) n v
-  unfolding run
+  pub put-run : (j n v : ℕ) → j + n ≤ e - a → putMid a (e - a) xs (withRun (midOf a (e - a) xs) j n v) ≡ withRun xs (a + j) n v
+  unfolding withRun
   put-run j zero v h = put-same a (e - a) xs
   put-run j (suc n) v h =
       let q : a + (j + n) ≡ a + j + n = omega arith in
-      put-set (run (midOf a (e - a) xs) j n v) (j + n) v (omega (arith, run-length (midOf a (e - a) xs) j v n, mid-len a e xs fits))
-      ∙ ap (λ (i : ℕ). set (putMid a (e - a) xs (run (midOf a (e - a) xs) j n v)) i v) q
+      put-set (withRun (midOf a (e - a) xs) j n v) (j + n) v (omega (arith, run-length (midOf a (e - a) xs) j v n, mid-len a e xs fits))
+      ∙ ap (λ (i : ℕ). set (putMid a (e - a) xs (withRun (midOf a (e - a) xs) j n v)) i v) q
       ∙ ap (λ (l : List ℕ). set l (a + j + n) v) (put-run j n v (omega arith))
 
 -- places that are all the same, and places that end with such

@@ -45,7 +45,7 @@ pub record CanChoose (g : Network) (ids dists : List ℕ) (K i : ℕ) : Type 0 w
   pub sized : Sized g K ids dists
 
 -- the same of rows as lists: (p, e) of the row of a neighbour may go into the row
-pub record Fit (P : List ℕ) (own : List (ℕ × ℕ)) (p e : ℕ) : Type 0 where
+pub record FitsRow (P : List ℕ) (own : List (ℕ × ℕ)) (p e : ℕ) : Type 0 where
   pub low : e ≤ LONGEST
   pub lacks : times p own < lockers P p
 
@@ -56,12 +56,12 @@ pub record GivesOver (g : Network) (P ids dists : List ℕ) (K i end : ℕ) (r :
   pub point : ℕ
   pub far : ℕ
   pub mem : List·Memᴰ (point, far) (rowAt ids dists K (getD (neighboursOf g i) place 0))
-  pub fit : Fit P (rowAt ids dists K i) point far
+  pub fit : FitsRow P (rowAt ids dists K i) point far
   pub is : r ≡ (point, far + getD (weightsOf g i) place 0)
 
 -- r is the best entry that the rows of the neighbours by the arcs of i before place `end` hold and its own lacks; none, where r's distance is NONE
 pub record BestOf (g : Network) (P ids dists : List ℕ) (K i end : ℕ) (r : ℕ × ℕ) : Type 0 where
   pub least :
-      (j p e : ℕ) → j < end → List·Memᴰ (p, e) (rowAt ids dists K (getD (neighboursOf g i) j 0)) → Fit P (rowAt ids dists K i) p e
+      (j p e : ℕ) → j < end → List·Memᴰ (p, e) (rowAt ids dists K (getD (neighboursOf g i) j 0)) → FitsRow P (rowAt ids dists K i) p e
       → key r ≤ key (p, e + getD (weightsOf g i) j 0)
   pub from : (r ≡ (0, NONE)) ⊎ GivesOver g P ids dists K i end r

@@ -55,7 +55,7 @@ pub record Freed (xs ys ids dists ids′ dists′ : List ℕ) (K x all end chang
 
 -- ---- The first offers.
 -- an empty queue behind the flags, with room for an entry for each row
-pub record CanSeed (g : Network) (P xs ids dists : List ℕ) (K : ℕ) : Type 0 where
+pub record CanSeedShort (g : Network) (P xs ids dists : List ℕ) (K : ℕ) : Type 0 where
   pub accepted : Accepted g
   pub points : length P ≡ nodeCount g
   pub sized : Sized g K ids dists
@@ -78,7 +78,7 @@ pub record HasSeed (g : Network) (P ids dists : List ℕ) (K i : ℕ) (Held : �
   pub held : (best .1 ≡ NONE) ⊎ Held (offerOf i (best .0) (best .1))
 
 -- the short rows below `end` have their best candidates in the queue, and nothing else is there
-pub record Seeded (g : Network) (P xs ys ids dists : List ℕ) (K end len : ℕ) : Type 0 where
+pub record ShortSeeded (g : Network) (P xs ys ids dists : List ℕ) (K end len : ℕ) : Type 0 where
   pub frame : Kept xs ys (nodeCount g)
   pub few : len ≤ end
   pub queue : Queue (drop (nodeCount g) ys) len
@@ -99,14 +99,14 @@ pub record CanTakeIn (xs ids dists : List ℕ) (K i : ℕ) : Type 0 where
   pub same : length dists ≡ length ids
 
 -- short row i takes (p, d) at its last place and is short no more; or it stays as it is, for one of three reasons
-pub record Takes (P xs ys ids dists ids′ dists′ : List ℕ) (K i p d : ℕ) : Type 0 where
+pub record ShortTakes (P xs ys ids dists ids′ dists′ : List ℕ) (K i p d : ℕ) : Type 0 where
   pub short : isShort xs i ≡ true
   pub low : d ≤ LONGEST
   pub lacks : times p (rowAt ids dists K i) < lockers P p
   pub words : ys ≡ set xs i 0
   pub row : rowAt ids′ dists′ K i ≡ set (rowAt ids dists K i) (K - 1) (p, d)
 
-pub record Refuses (P xs ys ids dists ids′ dists′ : List ℕ) (K i p d : ℕ) : Type 0 where
+pub record ShortRefuses (P xs ys ids dists ids′ dists′ : List ℕ) (K i p d : ℕ) : Type 0 where
   pub words : ys ≡ xs
   pub row : rowAt ids′ dists′ K i ≡ rowAt ids dists K i
   pub why : (isShort xs i ≡ false) ⊎ ((LONGEST < d) ⊎ (lockers P p ≤ times p (rowAt ids dists K i)))
@@ -117,18 +117,18 @@ pub record TakenIn (P xs ys ids dists ids′ dists′ : List ℕ) (K i p d : ℕ
   pub ids-size : length ids′ ≡ length ids
   pub dists-size : length dists′ ≡ length dists
   pub others : (c : ℕ) → c ≢ i → rowAt ids′ dists′ K c ≡ rowAt ids dists K c
-  pub taken : r ≡ true → Takes P xs ys ids dists ids′ dists′ K i p d
-  pub refused : r ≡ false → Refuses P xs ys ids dists ids′ dists′ K i p d
+  pub taken : r ≡ true → ShortTakes P xs ys ids dists ids′ dists′ K i p d
+  pub refused : r ≡ false → ShortRefuses P xs ys ids dists ids′ dists′ K i p d
 
 -- ---- Offering it on.
 -- the arcs of v before place `end` have each put in an entry, or lead to a row that is not short
-abbrev pub Offered : Network → List ℕ → List ℕ → ℕ → ℕ → ℕ → ℕ → ℕ → ℕ → Type 0
-Offered g xs ys len more v p d end =
+abbrev pub OfferedShort : Network → List ℕ → List ℕ → ℕ → ℕ → ℕ → ℕ → ℕ → ℕ → Type 0
+OfferedShort g xs ys len more v p d end =
     Entered (nodeCount g) xs ys len more end (arcOffer g v p d) (λ j. isShort xs (getD (neighboursOf g v) j 0) ≡ true)
 
 -- ---- Filling.
 -- an entry is of nodes
-pub record Entry (n k : ℕ) : Type 0 where
+pub record OfferEntry (n k : ℕ) : Type 0 where
   pub node : ℕ
   pub point : ℕ
   pub far : ℕ
@@ -139,7 +139,7 @@ pub record Entry (n k : ℕ) : Type 0 where
 -- what waits, for a table of any contents: each short row takes once at the most, so the queue has room
 pub record Waiting (g : Network) (xs : List ℕ) (len : ℕ) : Type 0 where
   pub queue : Queue (drop (nodeCount g) xs) len
-  pub entries : (k : ℕ) → Holds (drop (nodeCount g) xs) len k → Entry (nodeCount g) k
+  pub entries : (k : ℕ) → Holds (drop (nodeCount g) xs) len k → OfferEntry (nodeCount g) k
   pub room : len + arcsLeft g (isShort xs) (nodeCount g) ≤ nodeCount g + arcCount g
   pub size : nodeCount g + 2 * (nodeCount g + arcCount g) ≤ length xs
 

@@ -6,7 +6,7 @@ ghost use Prim.Native.Nat.{_≤_, _<_};
 ghost use lib.ListN.{length, replicate};
 ghost use Rattle.network.specs.Network.{network, neighboursOf};
 ghost use Rattle.network.specs.Distance.{NONE};
-ghost use Rattle.table.specs.Build.{StandsIs, HasPlaceIs, CanLook, HasPlaceAtIs, Appended, CanAppend, AppendedAt, CanOfferOn, Offered, CanSeed, Seeded, CanSpread, SpreadLeft, CanBuild, BuildLeft};
+ghost use Rattle.table.specs.Build.{StandsIs, HasPlaceIs, CanReadRow, HasPlaceAtIs, Appended, CanAppend, AppendedAt, CanOfferOn, OfferedOn, CanSeedPoints, PointsSeeded, CanSpread, SpreadLeft, CanBuild, BuildLeft};
 use expansion::queue;
 use expansion::tags;
 use expansion::words;
@@ -56,7 +56,7 @@ fn has_place(ids_row: &[u32], size: usize, p: u32) -> bool
 
 // The same of a node's row, lent as the part of the ids that it is. Its size is the node's word of scratch.
 fn has_place_at(s: &[u32], ids: &[u32], places: usize, node: u32, p: u32) -> bool
-    requires { ⌜ CanLook (now s) (now ids) places node ⌝ }
+    requires { ⌜ CanReadRow (now s) (now ids) places node ⌝ }
     ensures { λ r. ⌜ HasPlaceAtIs (now (s .entry)) (now (ids .entry)) places node p r ⌝ }
 {
     let at = wide(node);
@@ -139,7 +139,7 @@ fn offer(
     d: u32,
 ) -> usize
     requires { ⌜ CanOfferOn (network (now starts) (now neighbours) (now weights)) (now s) (now ids) places len node p d ⌝ }
-    ensures { λ r. ⌜ Offered (network (now (starts .entry)) (now (neighbours .entry)) (now (weights .entry))) (now (s .entry)) (now (s .exit)) (now (ids .entry)) places len r node p d (length (neighboursOf (network (now (starts .entry)) (now (neighbours .entry)) (now (weights .entry))) node)) ⌝ }
+    ensures { λ r. ⌜ OfferedOn (network (now (starts .entry)) (now (neighbours .entry)) (now (weights .entry))) (now (s .entry)) (now (s .exit)) (now (ids .entry)) places len r node p d (length (neighboursOf (network (now (starts .entry)) (now (neighbours .entry)) (now (weights .entry))) node)) ⌝ }
 {
     let at = starts.len() - 1;
     let ahead = arcs::neighbours_of(starts, neighbours, wide(node));
@@ -161,8 +161,8 @@ fn offer(
 
 // Offers every point to its own node's row. Returns how many there are.
 fn seed(points: &[u8], s: &mut [u32]) -> usize
-    requires { ⌜ CanSeed (now points) (now s) ⌝ }
-    ensures { λ r. ⌜ Seeded (now (points .entry)) (now (s .entry)) (now (s .exit)) (length (now (points .entry))) r ⌝ }
+    requires { ⌜ CanSeedPoints (now points) (now s) ⌝ }
+    ensures { λ r. ⌜ PointsSeeded (now (points .entry)) (now (s .entry)) (now (s .exit)) (length (now (points .entry))) r ⌝ }
 {
     let n = points.len();
     let mut len = 0;

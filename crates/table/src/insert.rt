@@ -18,10 +18,10 @@ pub fn insert(
     ids: &mut [u32],
     distances: &mut [u32],
     x: u32,
-    k: usize,
+    places: usize,
 ) -> u32
-    requires { ⌜ CanInsert (network (now starts) (now neighbours) (now weights)) (now points) (now s) (now ids) (now distances) x k ⌝ }
-    ensures { λ r. ⌜ UpdateLeft (network (now (starts .entry)) (now (neighbours .entry)) (now (weights .entry))) (now (points .entry)) (moreAt (now (points .entry)) x) (now (points .exit)) (now (s .entry)) (now (s .exit)) (now (ids .entry)) (now (distances .entry)) (now (ids .exit)) (now (distances .exit)) k r ⌝ }
+    requires { ⌜ CanInsert (network (now starts) (now neighbours) (now weights)) (now points) (now s) (now ids) (now distances) x places ⌝ }
+    ensures { λ r. ⌜ UpdateLeft (network (now (starts .entry)) (now (neighbours .entry)) (now (weights .entry))) (now (points .entry)) (moreAt (now (points .entry)) x) (now (points .exit)) (now (s .entry)) (now (s .exit)) (now (ids .entry)) (now (distances .entry)) (now (ids .exit)) (now (distances .exit)) places r ⌝ }
 {
     let n = starts.len() - 1;
     step::start(s, 0, n, x);
@@ -41,7 +41,7 @@ pub fn insert(
             points[wide(x)] += 1;
             return changed;
         };
-        let took = put::put_in_row(ids, distances, k, wide(node), x, label);
+        let took = put::put_in_row(ids, distances, places, wide(node), x, label);
         step::settle(s, 0, n, settled, node, label);
         settled += 1;
         len = left;

@@ -10,7 +10,7 @@ ghost use Rattle.network.specs.Points.{lockers};
 ghost use Rattle.rows.specs.Check.{among};
 ghost use Rattle.table.specs.Candidate.{Better, BestOfRow, CanChoose, BestOf};
 ghost use Rattle.table.specs.Offer.{CanOffer};
-ghost use Rattle.table.specs.Mend.{CanFree, Freed, CanSeed, Seeded, PutLast, CanTakeIn, TakenIn, Offered, CanFill, FillLeft};
+ghost use Rattle.table.specs.Mend.{CanFree, Freed, CanSeedShort, ShortSeeded, PutLast, CanTakeIn, TakenIn, OfferedShort, CanFill, FillLeft};
 ghost use Rattle.table.specs.Remove.{CanRemove};
 ghost use Rattle.table.specs.Updated.{fewerAt, UpdateLeft};
 use expansion::queue;
@@ -34,17 +34,17 @@ fn free(
     ids: &mut [u32],
     distances: &mut [u32],
     n: usize,
-    k: usize,
+    places: usize,
     x: u32,
     all: usize,
 ) -> u32
-    requires { ⌜ CanFree (now s) (now ids) (now distances) n k ⌝ }
-    ensures { λ r. ⌜ Freed (now (s .entry)) (now (s .exit)) (now (ids .entry)) (now (distances .entry)) (now (ids .exit)) (now (distances .exit)) k x all n r ⌝ }
+    requires { ⌜ CanFree (now s) (now ids) (now distances) n places ⌝ }
+    ensures { λ r. ⌜ Freed (now (s .entry)) (now (s .exit)) (now (ids .entry)) (now (distances .entry)) (now (ids .exit)) (now (distances .exit)) places x all n r ⌝ }
 {
     let mut changed = 0;
     let mut i = 0;
     while i < n {
-        let was = take::take_out_of_row(ids, distances, k, i, x, all);
+        let was = take::take_out_of_row(ids, distances, places, i, x, all);
         if was {
             s[i] = 1;
             changed += 1;
@@ -118,24 +118,24 @@ fn best_candidate(
     points: &[u8],
     ids: &[u32],
     distances: &[u32],
-    k: usize,
+    places: usize,
     i: usize,
 ) -> Candidate
-    requires { ⌜ CanChoose (network (now starts) (now neighbours) (now weights)) (now ids) (now distances) k i ⌝ }
-    ensures { λ r. ⌜ BestOf (network (now (starts .entry)) (now (neighbours .entry)) (now (weights .entry))) (now (points .entry)) (now (ids .entry)) (now (distances .entry)) k i (length (neighboursOf (network (now (starts .entry)) (now (neighbours .entry)) (now (weights .entry))) i)) (r .point, r .distance) ⌝ }
+    requires { ⌜ CanChoose (network (now starts) (now neighbours) (now weights)) (now ids) (now distances) places i ⌝ }
+    ensures { λ r. ⌜ BestOf (network (now (starts .entry)) (now (neighbours .entry)) (now (weights .entry))) (now (points .entry)) (now (ids .entry)) (now (distances .entry)) places i (length (neighboursOf (network (now (starts .entry)) (now (neighbours .entry)) (now (weights .entry))) i)) (r .point, r .distance) ⌝ }
 {
     let ahead = arcs::neighbours_of(starts, neighbours, i);
     let weighed = arcs::weights_of(starts, weights, i);
-    let from = i * k;
-    let end = from + k;
+    let from = i * places;
+    let end = from + places;
     let mut best = Candidate {
         point: 0,
         distance: Distance::NONE,
     };
     let mut j = 0;
     while j < ahead.len() {
-        let a = wide(ahead[j]) * k;
-        let e = a + k;
+        let a = wide(ahead[j]) * places;
+        let e = a + places;
         let w = weighed[j];
         best = best_of_row(
             points,
@@ -159,10 +159,10 @@ fn seed(
     s: &mut [u32],
     ids: &[u32],
     distances: &[u32],
-    k: usize,
+    places: usize,
 ) -> usize
-    requires { ⌜ CanSeed (network (now starts) (now neighbours) (now weights)) (now points) (now s) (now ids) (now distances) k ⌝ }
-    ensures { λ r. ⌜ Seeded (network (now (starts .entry)) (now (neighbours .entry)) (now (weights .entry))) (now (points .entry)) (now (s .entry)) (now (s .exit)) (now (ids .entry)) (now (distances .entry)) k (nodeCount (network (now (starts .entry)) (now (neighbours .entry)) (now (weights .entry)))) r ⌝ }
+    requires { ⌜ CanSeedShort (network (now starts) (now neighbours) (now weights)) (now points) (now s) (now ids) (now distances) places ⌝ }
+    ensures { λ r. ⌜ ShortSeeded (network (now (starts .entry)) (now (neighbours .entry)) (now (weights .entry))) (now (points .entry)) (now (s .entry)) (now (s .exit)) (now (ids .entry)) (now (distances .entry)) places (nodeCount (network (now (starts .entry)) (now (neighbours .entry)) (now (weights .entry)))) r ⌝ }
 {
     let n = starts.len() - 1;
     let mut len = 0;
@@ -175,7 +175,16 @@ fn seed(
         if flag != 1 {
             continue;
         }
-        let best = best_candidate(starts, neighbours, weights, points, ids, distances, k, at);
+        let best = best_candidate(
+            starts,
+            neighbours,
+            weights,
+            points,
+            ids,
+            distances,
+            places,
+            at,
+        );
         let point = best.point;
         let distance = best.distance;
         if distance == Distance::NONE {
@@ -208,13 +217,13 @@ fn take_in(
     s: &mut [u32],
     ids: &mut [u32],
     distances: &mut [u32],
-    k: usize,
+    places: usize,
     i: usize,
     p: u32,
     d: u32,
 ) -> bool
-    requires { ⌜ CanTakeIn (now s) (now ids) (now distances) k i ⌝ }
-    ensures { λ r. ⌜ TakenIn (now (points .entry)) (now (s .entry)) (now (s .exit)) (now (ids .entry)) (now (distances .entry)) (now (ids .exit)) (now (distances .exit)) k i p d r ⌝ }
+    requires { ⌜ CanTakeIn (now s) (now ids) (now distances) places i ⌝ }
+    ensures { λ r. ⌜ TakenIn (now (points .entry)) (now (s .entry)) (now (s .exit)) (now (ids .entry)) (now (distances .entry)) (now (ids .exit)) (now (distances .exit)) places i p d r ⌝ }
 {
     let flag = s[i];
     if flag != 1 {
@@ -223,8 +232,8 @@ fn take_in(
     if Distance::LONGEST < d {
         return false;
     }
-    let a = i * k;
-    let e = a + k;
+    let a = i * places;
+    let e = a + places;
     let took = put_last(points, &mut ids[a..e], &mut distances[a..e], p, d);
     if took {
         s[i] = 0;
@@ -245,7 +254,7 @@ fn offer(
     d: u32,
 ) -> usize
     requires { ⌜ CanOffer (network (now starts) (now neighbours) (now weights)) (now s) len node p d ⌝ }
-    ensures { λ r. ⌜ Offered (network (now (starts .entry)) (now (neighbours .entry)) (now (weights .entry))) (now (s .entry)) (now (s .exit)) len r node p d (length (neighboursOf (network (now (starts .entry)) (now (neighbours .entry)) (now (weights .entry))) node)) ⌝ }
+    ensures { λ r. ⌜ OfferedShort (network (now (starts .entry)) (now (neighbours .entry)) (now (weights .entry))) (now (s .entry)) (now (s .exit)) len r node p d (length (neighboursOf (network (now (starts .entry)) (now (neighbours .entry)) (now (weights .entry))) node)) ⌝ }
 {
     let n = starts.len() - 1;
     let ahead = arcs::neighbours_of(starts, neighbours, node);
@@ -276,10 +285,10 @@ fn fill(
     len: usize,
     ids: &mut [u32],
     distances: &mut [u32],
-    k: usize,
+    places: usize,
 )
-    requires { ⌜ CanFill (network (now starts) (now neighbours) (now weights)) (now s) len (now ids) (now distances) k ⌝ }
-    ensures { λ _. ⌜ FillLeft (network (now (starts .entry)) (now (neighbours .entry)) (now (weights .entry))) (now (points .entry)) (now (s .entry)) (now (s .exit)) len (now (ids .entry)) (now (distances .entry)) (now (ids .exit)) (now (distances .exit)) k ⌝ }
+    requires { ⌜ CanFill (network (now starts) (now neighbours) (now weights)) (now s) len (now ids) (now distances) places ⌝ }
+    ensures { λ _. ⌜ FillLeft (network (now (starts .entry)) (now (neighbours .entry)) (now (weights .entry))) (now (points .entry)) (now (s .entry)) (now (s .exit)) len (now (ids .entry)) (now (distances .entry)) (now (ids .exit)) (now (distances .exit)) places ⌝ }
 {
     let n = starts.len() - 1;
     let mut left = len;
@@ -290,7 +299,7 @@ fn fill(
         let tag = entry.tag;
         let p = tags::tag_node(tag);
         let i = wide(tags::tag_parent(tag));
-        let took = take_in(points, s, ids, distances, k, i, p, d);
+        let took = take_in(points, s, ids, distances, places, i, p, d);
         if took {
             left = offer(starts, neighbours, weights, s, left, i, p, d);
         }
@@ -307,18 +316,27 @@ pub fn remove(
     ids: &mut [u32],
     distances: &mut [u32],
     x: u32,
-    k: usize,
+    places: usize,
 ) -> u32
-    requires { ⌜ CanRemove (network (now starts) (now neighbours) (now weights)) (now points) (now s) (now ids) (now distances) x k ⌝ }
-    ensures { λ r. ⌜ UpdateLeft (network (now (starts .entry)) (now (neighbours .entry)) (now (weights .entry))) (now (points .entry)) (fewerAt (now (points .entry)) x) (now (points .exit)) (now (s .entry)) (now (s .exit)) (now (ids .entry)) (now (distances .entry)) (now (ids .exit)) (now (distances .exit)) k r ⌝ }
+    requires { ⌜ CanRemove (network (now starts) (now neighbours) (now weights)) (now points) (now s) (now ids) (now distances) x places ⌝ }
+    ensures { λ r. ⌜ UpdateLeft (network (now (starts .entry)) (now (neighbours .entry)) (now (weights .entry))) (now (points .entry)) (fewerAt (now (points .entry)) x) (now (points .exit)) (now (s .entry)) (now (s .exit)) (now (ids .entry)) (now (distances .entry)) (now (ids .exit)) (now (distances .exit)) places r ⌝ }
 {
     let n = starts.len() - 1;
     let all = lockers_at(points, x);
     let at = wide(x);
     let byte = points[at];
     points[at] = byte - 1;
-    let changed = free(s, ids, distances, n, k, x, all);
-    let len = seed(starts, neighbours, weights, points, s, ids, distances, k);
+    let changed = free(s, ids, distances, n, places, x, all);
+    let len = seed(
+        starts,
+        neighbours,
+        weights,
+        points,
+        s,
+        ids,
+        distances,
+        places,
+    );
     fill(
         starts,
         neighbours,
@@ -328,7 +346,7 @@ pub fn remove(
         len,
         ids,
         distances,
-        k,
+        places,
     );
     words::zero(s);
     changed

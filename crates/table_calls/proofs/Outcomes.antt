@@ -14,7 +14,7 @@ use Rattle.numbers.specs.declared.answers.Update.{Update}
 use Rattle.numbers.specs.declared.answers.Listing.{Listing}
 use Rattle.numbers.specs.Values.{listedListing, updatedUpdate}
 use Rattle.rows.specs.Flat.{IsTable}
-use Rattle.rows.specs.Check.{isTable}
+use Rattle.rows.specs.Check.{sameTable}
 use Rattle.numbers.specs.declared.answers.Rule.{Rule}
 use Rattle.numbers.specs.declared.answers.Rule.the-variants.{Refused, Answer}
 use Rattle.numbers.specs.Numbers.{buildNumber, tableCheckNumber, changeNumber, tableQueryNumber}
@@ -40,7 +40,7 @@ module _ (g : Network) (P : List ℕ) (K : ℕ) (ids distances : List ℕ) where
   unfolding tableCheckAnswer
   check-refused number e n = rw (← e, ne-eqb number 0 n)
 
-  pub check-done : {L : ℕ} {yes : Bool} → L ≡ K → tableCheckNumber g P K ids distances ≡ 0 → yes ≡ isTable g P L ids distances
+  pub check-done : {L : ℕ} {yes : Bool} → L ≡ K → tableCheckNumber g P K ids distances ≡ 0 → yes ≡ sameTable g P L ids distances
       → _≡_ {A = Rule} (Answer yes) (tableCheckAnswer g P K ids distances)
   unfolding tableCheckAnswer
   check-done l e h = rw (eq-eqb (tableCheckNumber g P K ids distances) 0 e, h, l)

@@ -4,7 +4,7 @@
 use Prim.Native.Nat.{ℕ}
 use mathlib.Core.List.{List}
 use Rattle.network.specs.Network.{Network}
-use Rattle.rows.specs.Check.{isTable}
+use Rattle.rows.specs.Check.{sameTable}
 use Rattle.numbers.specs.declared.answers.Rule.{Rule}
 use Rattle.numbers.specs.declared.answers.Rule.the-variants.{Refused, Answer}
 use Rattle.numbers.specs.Conditions.{byNumber}
@@ -12,4 +12,4 @@ use Rattle.numbers.specs.Numbers.{tableCheckNumber}
 
 unfoldable pub tableCheckAnswer : Network → List ℕ → ℕ → List ℕ → List ℕ → Rule
 tableCheckAnswer g P K ids distances =
-    byNumber (tableCheckNumber g P K ids distances) (Refused (tableCheckNumber g P K ids distances)) (Answer (isTable g P K ids distances))
+    byNumber (tableCheckNumber g P K ids distances) (Refused (tableCheckNumber g P K ids distances)) (Answer (sameTable g P K ids distances))

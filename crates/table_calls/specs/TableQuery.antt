@@ -39,13 +39,13 @@ pub record QueryAccepted (g : Network) (P : List ℕ) (q k K : ℕ) (lent : Quer
   pub done : QueryDone g P q k K lent scratch answers found
 
 -- what a call of this number answers and leaves: 'A refusal returns its number, count 0 [..], and changes no buffer'
-pub record QueryLeft (number : ℕ) (g : Network) (P : List ℕ) (q k K : ℕ) (lent : QueryArrays) (scratch answers : List ℕ) (answer : Listed) : Type 0 where
+pub record QueryByNumber (number : ℕ) (g : Network) (P : List ℕ) (q k K : ℕ) (lent : QueryArrays) (scratch answers : List ℕ) (answer : Listed) : Type 0 where
   pub refused : number ≢ 0 → (answer ≡ is.Refused number) × (scratch ≡ lent .scratch) × (answers ≡ lent .answers)
   pub accepted : number ≡ 0 → QueryAccepted g P q k K lent scratch answers answer
 
 -- of the table query
 abbrev pub TableQueryLeft : Network → List ℕ → ℕ → ℕ → ℕ → QueryArrays → List ℕ → List ℕ → Listed → Type 0
-TableQueryLeft g P q k K lent = QueryLeft (tableQueryNumber g P q k K (lent .ids) (lent .distances) (lent .scratch) (lent .answers)) g P q k K lent
+TableQueryLeft g P q k K lent = QueryByNumber (tableQueryNumber g P q k K (lent .ids) (lent .distances) (lent .scratch) (lent .answers)) g P q k K lent
 
 -- what the exported call returns of it
 pub record TableQueryExported (g : Network) (P : List ℕ) (q k K : ℕ) (lent : QueryArrays) (scratch answers : List ℕ) (r : Listing) : Type 0 where

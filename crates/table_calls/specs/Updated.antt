@@ -47,14 +47,14 @@ pub record UpdateAccepted (g : Network) (Q : List ℕ) (K : ℕ) (old new : Arra
   pub done : UpdateDone g Q K old new changed
 
 -- what a call of this number answers and leaves: 'A refusal returns its number, count 0 [..], and changes no buffer'
-pub record UpdateLeft (number : ℕ) (g : Network) (Q : List ℕ) (K : ℕ) (old new : Arrays) (answer : Updated) : Type 0 where
+pub record UpdateByNumber (number : ℕ) (g : Network) (Q : List ℕ) (K : ℕ) (old new : Arrays) (answer : Updated) : Type 0 where
   pub refused : number ≢ 0 → (answer ≡ is.Refused number) × (new ≡ old)
   pub accepted : number ≡ 0 → UpdateAccepted g Q K old new answer
 
 -- of insert and of remove
 abbrev pub ChangeLeft : Kind → Network → ℕ → ℕ → Arrays → Arrays → Updated → Type 0
 ChangeLeft kind g node K old new answer =
-    UpdateLeft (changeNumber kind g (old .points) node K (old .scratch) (old .ids) (old .distances)) g (kindMarks kind (old .points) node) K old new answer
+    UpdateByNumber (changeNumber kind g (old .points) node K (old .scratch) (old .ids) (old .distances)) g (kindMarks kind (old .points) node) K old new answer
 
 -- what the exported calls return of it
 pub record ChangeExported (kind : Kind) (g : Network) (node K : ℕ) (old new : Arrays) (r : Update) : Type 0 where

@@ -1,4 +1,4 @@
--- `lazy_searches::second::offer` meets its contract. The loop's invariant: the arcs before place j are offered (`Offered`). The measure is what is
+-- `lazy_searches::second::offer` meets its contract. The loop's invariant: the arcs before place j are offered (`OfferedSecond`). The measure is what is
 -- left of the node's arcs.
 -- Assumes nothing.
 use Prim.Native.Nat.{_+_, _-_, _≤_}
@@ -10,14 +10,14 @@ use Rattle.network.proofs.NumberZero.{accepted-searchable}
 use Rattle.network.proofs.ArcAt.{ArcAt, arc-handed}
 use Rattle.expansion.specs.Queue.{keyOf}
 use Rattle.expansion.specs.Tags.{tagOf}
-use Rattle.lazy_searches.specs.Second.{Offered}
+use Rattle.lazy_searches.specs.Second.{OfferedSecond}
 use Rattle.lazy_searches.proofs.SecondLaws.{offered-none, offered-skip, offered-push}
 use borrow.Author.Needs.{needs}
 use Rattle.lazy_searches.proofs.second.offer.Statement.{statement}
 use Rattle.lazy_searches.proofs.second.offer.Tie as tie
 
 abbrev Inv-loop : tie.InvT-loop
-Inv-loop starts neighbours weights s₀ k len p u d n at ahead weighed more₀ j₀ s more j = (j ≤ length ahead) × Offered (network starts neighbours weights) s₀ s k len more p u d j
+Inv-loop starts neighbours weights s₀ k len p u d n at ahead weighed more₀ j₀ s more j = (j ≤ length ahead) × OfferedSecond (network starts neighbours weights) s₀ s k len more p u d j
 
 abbrev μ-loop : tie.MeasureT-loop
 μ-loop starts neighbours weights s₀ k len p u d n at ahead weighed more₀ j₀ s more j = length ahead - j

@@ -6,7 +6,7 @@ use native.Mathlib.Omega.{arith}
 use lib.ListN.{length, length-take}
 use Rattle.table_calls.specs.Updated.{Arrays}
 use Rattle.network.specs.Network.{network}
-use Rattle.replay.specs.declared.replay.Call as words
+use Rattle.replay.specs.declared.replay.CallWords.{CallWords}
 use Rattle.replay.proofs.Following.{Before, none-before, one-more}
 use borrow.Author.Needs.{needs}
 use Rattle.replay.proofs.replay.follow.Statement.{statement}
@@ -37,7 +37,7 @@ fits : (k : tie.After-call-at Inv-loop μ-loop) → k .call-at .result .length �
 fits k =
     let i = k .before in
     let l = i .before in
-    omega (arith, ap (λ (w : words.Call). w .length) (k .call-at .ensures), start-of l .pre .room (l .loop .j) (i .loop-test .taken), l .loop .inv .scratch)
+    omega (arith, ap (λ (w : CallWords). w .length) (k .call-at .ensures), start-of l .pre .room (l .loop .j) (i .loop-test .taken), l .loop .inv .scratch)
 
 -- an index's bytes can be counted
 small : (i : tie.In-loop Inv-loop μ-loop) → 4 * i .before .loop .j + 4 < 18446744073709551616

@@ -7,7 +7,7 @@ use lib.ListN.{length}
 use Rattle.network.specs.Count.{any}
 use Rattle.network.proofs.Tests.{any-start, any-more, found, not-found}
 use mathlib.Core.Logic.{⊎-elim}
-use Rattle.rows.specs.Check.{isEntry, holds}
+use Rattle.rows.specs.Check.{isEntry, rowHolds}
 use Rattle.rows.proofs.CheckTests.{entry-yes, entry-other, entry-far}
 use borrow.Author.Needs.{needs}
 use Rattle.rows.proofs.check.holds.Statement.{statement}
@@ -35,7 +35,7 @@ shared-slice-read-e : tie.Need-shared-slice-read-e Inv-loop μ-loop
 shared-slice-read-e c = search needs
 
 returns : tie.Need-returns Inv-loop μ-loop
-unfolding holds
+unfolding rowHolds
 returns c = found _ _ _ (c .before .before .before .before .loop-test .taken) (entry-yes _ _ _ _ _ (c .before .if1 .taken) (c .if2 .taken))
 
 add-j : tie.Need-add-j Inv-loop μ-loop
@@ -48,7 +48,7 @@ loop-again : tie.Need-loop-again Inv-loop μ-loop
 loop-again c = (search needs, any-more _ _ (c .before .before .before .before .loop .inv .1) (⊎-elim (λ a. entry-far _ _ _ _ _ (a .1 .left)) (λ a. entry-other _ _ _ _ _ (a .left)) (c .if1 .came)))
 
 returns-2 : tie.Need-returns-2 Inv-loop μ-loop
-unfolding holds
+unfolding rowHolds
 returns-2 c = not-found _ _ _ (c .before .loop .inv .0) (c .loop-test .left) (c .before .loop .inv .1)
 
 pub holds-spec : {M : Type 1} → statement M

@@ -20,7 +20,7 @@ use Rattle.expansion.specs.Area.{Took, Followed}
 use Rattle.expansion.proofs.AreaLaws.{moved-same, settledAs}
 use Rattle.expansion.proofs.AreaSearch.{took-area}
 use Rattle.expansion.proofs.Progress.{took-place, took-fits, took-follow, frame-settled}
-use Rattle.searches.specs.Eager.{Visited}
+use Rattle.searches.specs.Eager.{VisitsKept}
 use Rattle.searches.proofs.Finds.{met-leads}
 use Rattle.searches.proofs.Exploring.{can-expand, Exploring, exploring-start, few-counted, few-visits, can-look, beside-old, looked-took, looked-exploring, looked-visited, looked-told, few-expanded, many-beaten, beyond, next-visit, visited-kept, exploring-stopped, exploring-opened, exploring-kept, visited-more, count-all, found-all}
 use Rattle.searches.proofs.eager.explore.Statement.{statement}
@@ -28,7 +28,7 @@ use Rattle.searches.proofs.eager.explore.Tie as tie
 
 abbrev Inv-loop : tie.InvT-loop
 Inv-loop starts neighbours weights points s₀ b q k limit n visits settled₀ len₀ count₀ s settled len count =
-    (length s ≡ length s₀) × Exploring (network starts neighbours weights) points q k limit s b settled len count × Visited (network starts neighbours weights) points q k s count
+    (length s ≡ length s₀) × Exploring (network starts neighbours weights) points q k limit s b settled len count × VisitsKept (network starts neighbours weights) points q k s count
 
 abbrev μ-loop : tie.MeasureT-loop
 μ-loop starts neighbours weights points s₀ b q k limit n visits settled₀ len₀ count₀ s settled len count = nodeCount (network starts neighbours weights) - settled
@@ -88,7 +88,7 @@ told k = let l = loop-of (taken-of k) in looked-told (start-of l .pre) (l .loop 
 visited : (k : tie.After-look Inv-loop μ-loop)
     → let l = loop-of (taken-of k) in
     let a = start-of l .args in
-    Visited (G l) (a .points .now) (a .q) (a .k) (k .look .last .1 .1 .1 .1 .0 ++ drop (a .b) (l .loop .s)) (l .loop .count)
+    VisitsKept (G l) (a .points .now) (a .q) (a .k) (k .look .last .1 .1 .1 .1 .0 ++ drop (a .b) (l .loop .s)) (l .loop .count)
 visited k = let l = loop-of (taken-of k) in looked-visited (start-of l .pre) (l .loop .inv .1) (took (taken-of k)) (k .look .ensures) (l .loop .inv .2)
 
 -- where fewer than k are found, the count is below the limit

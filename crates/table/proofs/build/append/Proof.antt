@@ -7,13 +7,13 @@ use Prim.Native.Nat.{_+_, _-_, _≤_}
 use mathlib.Core.Path.{_≡_, ap, _∙_}
 use native.Mathlib.Omega.{arith}
 use lib.ListN.{length, set}
-use Rattle.table.specs.Build.{run}
+use Rattle.table.specs.Build.{withRun}
 use borrow.Author.Needs.{needs}
 use Rattle.table.proofs.build.append.Statement.{statement}
 use Rattle.table.proofs.build.append.Tie as tie
 
 abbrev Inv-loop : tie.InvT-loop
-Inv-loop ids-row₀ distances-row₀ size p d all end at₀ ids-row distances-row at = (size ≤ at) × (at ≤ end) × (ids-row ≡ run ids-row₀ size (at - size) p) × (distances-row ≡ run distances-row₀ size (at - size) d)
+Inv-loop ids-row₀ distances-row₀ size p d all end at₀ ids-row distances-row at = (size ≤ at) × (at ≤ end) × (ids-row ≡ withRun ids-row₀ size (at - size) p) × (distances-row ≡ withRun distances-row₀ size (at - size) d)
 
 abbrev μ-loop : tie.MeasureT-loop
 μ-loop ids-row₀ distances-row₀ size p d all end at₀ ids-row distances-row at = end - at

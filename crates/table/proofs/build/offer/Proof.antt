@@ -1,10 +1,10 @@
 -- `table::build::offer` meets its contract. The invariant: the arcs before place j have put in their entries, where the row that they lead to has a place
--- (`Offered`). The measure is what is left of the node's arcs. An entry fits: its distance by `CanOffer`, the queue by its room.
+-- (`OfferedOn`). The measure is what is left of the node's arcs. An entry fits: its distance by `CanOffer`, the queue by its room.
 -- Assumes nothing.
 use Rattle.expansion.specs.Queue.{keyOf}
 use Rattle.expansion.proofs.EnteredLaws.{entered-none, entered-passed, entered-pushed}
 use Rattle.table.specs.Offer.{arcOffer}
-use Rattle.table.specs.Build.{Offered}
+use Rattle.table.specs.Build.{OfferedOn}
 use Rattle.network.specs.Network.{Network, neighboursOf, weightsOf, network}
 use Rattle.network.proofs.NumberZero.{accepted-searchable}
 use Rattle.network.proofs.ArcAt.{ArcAt, arc-handed}
@@ -19,7 +19,7 @@ use Rattle.table.proofs.build.offer.Tie as tie
 
 abbrev Inv-loop : tie.InvT-loop
 Inv-loop starts neighbours weights s₀ ids places len node p d at ahead weighed more₀ j₀ s more j =
-    (j ≤ length ahead) × Offered (network starts neighbours weights) s₀ s ids places len more node p d j
+    (j ≤ length ahead) × OfferedOn (network starts neighbours weights) s₀ s ids places len more node p d j
 
 abbrev μ-loop : tie.MeasureT-loop
 μ-loop starts neighbours weights s₀ ids places len node p d at ahead weighed more₀ j₀ s more j = length ahead - j

@@ -1,4 +1,4 @@
--- `table::build::seed` meets its contract. The invariant: the points below v have put in their entries (`Seeded`). The measure is what is left of the
+-- `table::build::seed` meets its contract. The invariant: the points below v have put in their entries (`PointsSeeded`). The measure is what is left of the
 -- nodes.
 -- Assumes nothing.
 use Prim.Native.Nat.{_-_, _≤_}
@@ -7,14 +7,14 @@ use native.Mathlib.Omega.{arith}
 use lib.ListN.{length, getD}
 use borrow.Author.Tests.{lt-ltb, ltb-true}
 use Rattle.expansion.proofs.EnteredLaws.{entered-none, entered-passed, entered-pushed}
-use Rattle.table.specs.Build.{Seeded}
+use Rattle.table.specs.Build.{PointsSeeded}
 use Rattle.table.proofs.BuildSteps.{seed-queue}
 use borrow.Author.Needs.{needs}
 use Rattle.table.proofs.build.seed.Statement.{statement}
 use Rattle.table.proofs.build.seed.Tie as tie
 
 abbrev Inv-loop : tie.InvT-loop
-Inv-loop points s₀ n len₀ v₀ s len v = (v ≤ n) × Seeded points s₀ s v len
+Inv-loop points s₀ n len₀ v₀ s len v = (v ≤ n) × PointsSeeded points s₀ s v len
 
 abbrev μ-loop : tie.MeasureT-loop
 μ-loop points s₀ n len₀ v₀ s len v = n - v

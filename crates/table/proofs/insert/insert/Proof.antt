@@ -19,11 +19,11 @@ use Rattle.table.proofs.insert.insert.Statement.{statement}
 use Rattle.table.proofs.insert.insert.Tie as tie
 
 abbrev Inv-loop : tie.InvT-loop
-Inv-loop starts neighbours weights points₀ s₀ ids₀ distances₀ x k n settled₀ len₀ changed₀ points s ids distances settled len changed =
-    (points ≡ points₀) × (length s ≡ length s₀) × Inserting (network starts neighbours weights) points₀ ids₀ distances₀ x k s settled len changed ids distances
+Inv-loop starts neighbours weights points₀ s₀ ids₀ distances₀ x places n settled₀ len₀ changed₀ points s ids distances settled len changed =
+    (points ≡ points₀) × (length s ≡ length s₀) × Inserting (network starts neighbours weights) points₀ ids₀ distances₀ x places s settled len changed ids distances
 
 abbrev μ-loop : tie.MeasureT-loop
-μ-loop starts neighbours weights points₀ s₀ ids₀ distances₀ x k n settled₀ len₀ changed₀ points s ids distances settled len changed =
+μ-loop starts neighbours weights points₀ s₀ ids₀ distances₀ x places n settled₀ len₀ changed₀ points s ids distances settled len changed =
     nodeCount (network starts neighbours weights) - settled
 
 -- the places: where the loop begins, the entry that was taken, the point put into its node's row, and the node settled
@@ -58,7 +58,7 @@ took c = rw (c .taken .given .1) at (c .before .before .before .before .next .en
 put : (p : tie.After-put-in-row Inv-loop μ-loop)
     → let c = taken-of p in
     let l = loop-of c in
-    PutInRow (l .loop .ids) (l .loop .distances) (p .put-in-row .last .0) (p .put-in-row .last .1 .0) (start-of l .args .k)
+    PutInRow (l .loop .ids) (l .loop .distances) (p .put-in-row .last .0) (p .put-in-row .last .1 .0) (start-of l .args .places)
     (c .taken .given .0 .1 .0) (start-of l .args .x) (c .taken .given .0 .0) (p .put-in-row .result)
 put p = rw (p .before .wide2 .ensures) at (p .put-in-row .ensures)
 

@@ -15,10 +15,10 @@ use Rattle.table.proofs.remove.best_candidate.Statement.{statement}
 use Rattle.table.proofs.remove.best_candidate.Tie as tie
 
 abbrev Inv-loop : tie.InvT-loop
-Inv-loop starts neighbours weights points ids distances k i ahead weighed from end best₀ j₀ best j = (j ≤ length ahead) × BestOf (network starts neighbours weights) points ids distances k i j (best .point, best .distance)
+Inv-loop starts neighbours weights points ids distances places i ahead weighed from end best₀ j₀ best j = (j ≤ length ahead) × BestOf (network starts neighbours weights) points ids distances places i j (best .point, best .distance)
 
 abbrev μ-loop : tie.MeasureT-loop
-μ-loop starts neighbours weights points ids distances k i ahead weighed from end best₀ j₀ best j = length ahead - j
+μ-loop starts neighbours weights points ids distances places i ahead weighed from end best₀ j₀ best j = length ahead - j
 
 abbrev G : tie.Start Inv-loop μ-loop → Network
 G s = network (s .args .starts .now) (s .args .neighbours .now) (s .args .weights .now)
@@ -42,7 +42,7 @@ place c =
     arc-handed (s .pre .accepted) (s .pre .inside) (ahead w) (weighed w) (c .loop-test .taken)
 
 -- row i, and the row of the node that the arc leads to
-own-fits : (s : tie.Start Inv-loop μ-loop) → s .args .i * s .args .k + s .args .k ≤ length (s .args .ids .now)
+own-fits : (s : tie.Start Inv-loop μ-loop) → s .args .i * s .args .places + s .args .places ≤ length (s .args .ids .now)
 own-fits s = row-inside (s .pre .sized) (s .pre .inside) .0
 
 to-low : (c : tie.In-loop Inv-loop μ-loop) → getD (c .before .before .before .neighbours-of .result .now) (c .before .loop .j) 0 < nodeCount (G (start (c .before .before)))
@@ -51,10 +51,10 @@ to-low c = omega (arith, place c .to, start (c .before .before) .pre .accepted .
 row-low : (c : tie.After-wide Inv-loop μ-loop) → c .wide .result < nodeCount (G (start (c .before .before .before .before)))
 row-low c = omega (arith, c .wide .ensures, to-low (c .before .before))
 
-row-ids : (c : tie.After-wide Inv-loop μ-loop) → c .wide .result * start (c .before .before .before .before) .args .k + start (c .before .before .before .before) .args .k ≤ length (start (c .before .before .before .before) .args .ids .now)
+row-ids : (c : tie.After-wide Inv-loop μ-loop) → c .wide .result * start (c .before .before .before .before) .args .places + start (c .before .before .before .before) .args .places ≤ length (start (c .before .before .before .before) .args .ids .now)
 row-ids c = row-inside (start (c .before .before .before .before) .pre .sized) (row-low c) .0
 
-row-dists : (c : tie.After-wide Inv-loop μ-loop) → c .wide .result * start (c .before .before .before .before) .args .k + start (c .before .before .before .before) .args .k ≤ length (start (c .before .before .before .before) .args .distances .now)
+row-dists : (c : tie.After-wide Inv-loop μ-loop) → c .wide .result * start (c .before .before .before .before) .args .places + start (c .before .before .before .before) .args .places ≤ length (start (c .before .before .before .before) .args .distances .now)
 row-dists c = row-inside (start (c .before .before .before .before) .pre .sized) (row-low c) .1
 
 neighbours-of-requires : tie.Need-neighbours-of-requires Inv-loop μ-loop
@@ -70,7 +70,7 @@ add-end : tie.Need-add-end Inv-loop μ-loop
 add-end c = omega (arith, own-fits (start (c)))
 
 loop-holds : tie.Need-loop-holds Inv-loop μ-loop
-loop-holds c = let s = start c in (omega arith, chosen-none (G s) (s .args .points .now) (s .args .ids .now) (s .args .distances .now) (s .args .k) (s .args .i))
+loop-holds c = let s = start c in (omega arith, chosen-none (G s) (s .args .points .now) (s .args .ids .now) (s .args .distances .now) (s .args .places) (s .args .i))
 
 mul-wide : tie.Need-mul-wide Inv-loop μ-loop
 mul-wide c = search needs

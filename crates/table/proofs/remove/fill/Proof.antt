@@ -13,10 +13,10 @@ use Rattle.table.proofs.remove.fill.Statement.{statement}
 use Rattle.table.proofs.remove.fill.Tie as tie
 
 abbrev Inv-loop : tie.InvT-loop
-Inv-loop starts neighbours weights points s₀ len ids₀ distances₀ k n left₀ s ids distances left = Filling (network starts neighbours weights) points k s₀ ids₀ distances₀ len s ids distances left
+Inv-loop starts neighbours weights points s₀ len ids₀ distances₀ places n left₀ s ids distances left = Filling (network starts neighbours weights) points places s₀ ids₀ distances₀ len s ids distances left
 
 abbrev μ-loop : tie.MeasureT-loop
-μ-loop starts neighbours weights points s₀ len ids₀ distances₀ k n left₀ s ids distances left = work (network starts neighbours weights) s left
+μ-loop starts neighbours weights points s₀ len ids₀ distances₀ places n left₀ s ids distances left = work (network starts neighbours weights) s left
 
 abbrev start : tie.After-wide Inv-loop μ-loop → tie.Start Inv-loop μ-loop
 start c = c .before .before .before .before .before .before .before .before .before .before .before .before .before .before .before .before

@@ -12,20 +12,20 @@ use Rattle.table.proofs.remove.free.Statement.{statement}
 use Rattle.table.proofs.remove.free.Tie as tie
 
 abbrev Inv-loop : tie.InvT-loop
-Inv-loop s₀ ids₀ distances₀ n k x all changed₀ i₀ s ids distances changed i = (i ≤ n) × Freed s₀ s ids₀ distances₀ ids distances k x all i changed
+Inv-loop s₀ ids₀ distances₀ n places x all changed₀ i₀ s ids distances changed i = (i ≤ n) × Freed s₀ s ids₀ distances₀ ids distances places x all i changed
 
 abbrev μ-loop : tie.MeasureT-loop
-μ-loop s₀ ids₀ distances₀ n k x all changed₀ i₀ s ids distances changed i = n - i
+μ-loop s₀ ids₀ distances₀ n places x all changed₀ i₀ s ids distances changed i = n - i
 
 loop-holds : tie.Need-loop-holds Inv-loop μ-loop
-loop-holds c = let a = c .before .before .before .args in (omega arith, freed-none (a .s .now) (a .ids .now) (a .distances .now) (a .k) (a .x) (a .all))
+loop-holds c = let a = c .before .before .before .args in (omega arith, freed-none (a .s .now) (a .ids .now) (a .distances .now) (a .places) (a .x) (a .all))
 
 take-out-of-row-requires : tie.Need-take-out-of-row-requires Inv-loop μ-loop
 take-out-of-row-requires c κs =
     let l = c .before .before .before .loop in
     let s = c .before .before .before .before .before .before .before in
     let f = l .inv .1 in
-    let h = row-fits (l .i) (s .args .n) (s .args .k) (omega (arith, c .before .before .loop-test .taken)) in
+    let h = row-fits (l .i) (s .args .n) (s .args .places) (omega (arith, c .before .before .loop-test .taken)) in
     record { fits = omega (arith, h, s .pre .fits, f .ids-size); same = f .dists-size ∙ s .pre .same ∙ sym (f .ids-size) }
 
 mul-s : tie.Need-mul-s Inv-loop μ-loop

@@ -1,4 +1,4 @@
--- `table::remove::offer` meets its contract. The invariant: the arcs before place j have put in their entries (`Offered`). The measure is what is
+-- `table::remove::offer` meets its contract. The invariant: the arcs before place j have put in their entries (`OfferedShort`). The measure is what is
 -- left of the arcs. An entry fits: its distance by `CanOffer`, the queue by its room.
 -- Assumes nothing.
 use Prim.Native.Nat.{ℕ, _+_, _-_, _≤_, _<_}
@@ -11,14 +11,14 @@ use Rattle.network.proofs.ArcAt.{ArcAt, arc-handed}
 use Rattle.expansion.specs.Queue.{keyOf}
 use Rattle.expansion.proofs.EnteredLaws.{entered-none, entered-passed, entered-pushed}
 use Rattle.table.specs.Offer.{arcOffer}
-use Rattle.table.specs.Mend.{Offered}
+use Rattle.table.specs.Mend.{OfferedShort}
 use borrow.Author.Needs.{needs}
 use borrow.Author.Tests.{eq-eqb, eqb-true}
 use Rattle.table.proofs.remove.offer.Statement.{statement}
 use Rattle.table.proofs.remove.offer.Tie as tie
 
 abbrev Inv-loop : tie.InvT-loop
-Inv-loop starts neighbours weights s₀ len node p d n ahead weighed more₀ j₀ s more j = (j ≤ length ahead) × Offered (network starts neighbours weights) s₀ s len more node p d j
+Inv-loop starts neighbours weights s₀ len node p d n ahead weighed more₀ j₀ s more j = (j ≤ length ahead) × OfferedShort (network starts neighbours weights) s₀ s len more node p d j
 
 abbrev μ-loop : tie.MeasureT-loop
 μ-loop starts neighbours weights s₀ len node p d n ahead weighed more₀ j₀ s more j = length ahead - j

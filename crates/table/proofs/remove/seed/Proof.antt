@@ -1,4 +1,4 @@
--- `table::remove::seed` meets its contract. The invariant: the short rows below `next` have their best candidates in the queue (`Seeded`). The
+-- `table::remove::seed` meets its contract. The invariant: the short rows below `next` have their best candidates in the queue (`ShortSeeded`). The
 -- measure is what is left of the rows.
 -- Assumes nothing.
 use Prim.Native.Nat.{_-_, _≤_}
@@ -7,17 +7,17 @@ use native.Mathlib.Omega.{arith}
 use lib.ListN.{length, getD}
 use borrow.Author.Tests.{eq-eqb, ne-eqb}
 use Rattle.network.specs.Network.{network}
-use Rattle.table.specs.Mend.{Seeded}
+use Rattle.table.specs.Mend.{ShortSeeded}
 use Rattle.table.proofs.RemoveSteps.{best-point, seeded-none, seeded-whole, seeded-nothing, seeded-push}
 use borrow.Author.Needs.{needs}
 use Rattle.table.proofs.remove.seed.Statement.{statement}
 use Rattle.table.proofs.remove.seed.Tie as tie
 
 abbrev Inv-loop : tie.InvT-loop
-Inv-loop starts neighbours weights points s₀ ids distances k n len₀ next₀ s len next = (next ≤ n) × Seeded (network starts neighbours weights) points s₀ s ids distances k next len
+Inv-loop starts neighbours weights points s₀ ids distances places n len₀ next₀ s len next = (next ≤ n) × ShortSeeded (network starts neighbours weights) points s₀ s ids distances places next len
 
 abbrev μ-loop : tie.MeasureT-loop
-μ-loop starts neighbours weights points s₀ ids distances k n len₀ next₀ s len next = n - next
+μ-loop starts neighbours weights points s₀ ids distances places n len₀ next₀ s len next = n - next
 
 sub-n : tie.Need-sub-n Inv-loop μ-loop
 sub-n c = search needs
