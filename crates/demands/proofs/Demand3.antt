@@ -32,16 +32,12 @@ use Rattle.numbers.specs.declared.answers.Update.{Update}
 use Rattle.numbers.specs.declared.answers.Listing.{Listing}
 use Rattle.numbers.specs.declared.kind.Kind.{Kind}
 use Rattle.numbers.specs.declared.kind.Kind.the-variants.{Insert, Remove}
-use Rattle.numbers.specs.Conditions.{firstNumber, badByteAt, pointsNumber, nodeNumber, kNumber, tableNumber, tableKNumber, shortNumber}
-use Rattle.numbers.specs.Interim.{scratchWords}
-use Rattle.numbers.specs.Numbers.{networkPointsNumber, siteNumber, queryNumber, tableCheckNumber, tableNodeNumber, buildNumber, tableQueryNumber}
-use Rattle.numbers.specs.Numbers.{searchNumber}
-use Rattle.numbers.specs.Numbers.{limitedNumber, eagerNumber}
+use Rattle.numbers.specs.Conditions.{firstNumber, badByteAt, pointsNumber, nodeNumber, kNumber, tableNumber, tableKNumber, shortNumber, scratchWords}
+use Rattle.numbers.specs.Numbers.{networkPointsNumber, siteNumber, queryNumber, tableCheckNumber, tableNodeNumber, buildNumber, tableQueryNumber, searchNumber, limitedNumber, eagerNumber, kindNumber, changeNumber}
 use Rattle.site_calls.specs.Eager.{limitedOutcome, shortOutcome}
 use Rattle.site_calls.specs.Exported.{SearchExported}
 use Rattle.table_calls.specs.Build.{BuildOutcome, buildOutcome}
 use Rattle.table_calls.specs.Updated.{kindMarks, Arrays, ChangeExported}
-use Rattle.numbers.specs.Numbers.{kindNumber, changeNumber}
 use Rattle.demands.specs.Book.{Call, bookNumber, bookCall, bookAnswers, bookMarks}
 use Rattle.demands.specs.Demand3.{OursAfter, Run, ends, call, foreign, Quotes, Agree, EagerCall, SameSteps, demand-3}
 use Rattle.numbers.proofs.Ready.{first-is, first-later, first-none, first-zero, number-none, points-ready, node-ready, table-ready, kind-ready, eager-ready}

@@ -12,18 +12,12 @@ use Rattle.network.specs.Rows.{row, rowsBelow, tableIds, tableDistances}
 use Rattle.network.specs.Answers.{answered}
 use Rattle.rows.specs.Check.{sameList, sameTable}
 use Rattle.numbers.specs.Conditions.{limitNumber, firstNumber, badByteAt, pointsNumber, nodeNumber, kNumber, tableKNumber, tableNumber, shortNumber, fullNumber, unmarkedNumber}
-use Rattle.numbers.specs.Numbers.{queryNumber, tableCheckNumber, buildNumber, tableNodeNumber, networkPointsNumber, siteNumber, tableQueryNumber}
-use Rattle.numbers.specs.Numbers.{distancesNumber}
+use Rattle.numbers.specs.Numbers.{queryNumber, tableCheckNumber, buildNumber, tableNodeNumber, networkPointsNumber, siteNumber, tableQueryNumber, distancesNumber, nearestNumber, verifyNumber, searchNumber, limitedNumber, eagerNumber, changeNumber}
 use Rattle.site_calls.specs.Distances.{distancesOutcome}
-use Rattle.numbers.specs.Numbers.{nearestNumber}
 use Rattle.site_calls.specs.Nearest.{nearestIds, nearestDistances, nearestOutcome}
-use Rattle.numbers.specs.Numbers.{verifyNumber}
 use Rattle.site_calls.specs.Verify.{verifyOutcome}
-use Rattle.numbers.specs.Numbers.{searchNumber}
-use Rattle.numbers.specs.Numbers.{limitedNumber, eagerNumber}
 use Rattle.site_calls.specs.Eager.{limitedOutcome, visitsOutcome, eagerOutcome, shortOutcome}
 use Rattle.site_calls.specs.Lazy.{lazyOutcome}
-use Rattle.numbers.specs.Numbers.{changeNumber}
 use Rattle.table_calls.specs.TableCheck.{tableCheckAnswer}
 use Rattle.demands.specs.Examples.{Examples}
 

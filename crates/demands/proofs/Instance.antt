@@ -9,9 +9,8 @@ use mathlib.Core.List.{List, [], _∷_}
 use native.Mathlib.Decide.{ℕ-discrete}
 use native.Mathlib.Omega.{arith}
 use lib.ListN.{length, replicate, length-replicate}
-use Rattle.network.specs.Network.{Network, nodeCount}
+use Rattle.network.specs.Network.{Network, nodeCount, arcsFrom, arcsOf, partOf}
 use Rattle.network.specs.Count.{any, count, total}
-use Rattle.network.specs.Network.{arcsFrom, arcsOf, partOf}
 use Rattle.network.specs.Check.{badSize, fallsAt, badStarts, badNeighbourAt, badPart, badNeighboursOf, badNeighbours, badWeightAt, badWeights, isArcAt, hasArc, lacksReturnAt, lacksReturnOf, lacksReturn, networkNumber}
 use Rattle.network.specs.Distance.{plus, leastOver, within, dist}
 use Rattle.network.specs.Points.{isNearer}
@@ -25,10 +24,9 @@ use Rattle.numbers.specs.declared.kind.Kind.the-variants.{Insert, Remove}
 use Rattle.numbers.specs.declared.answers.Update.{Update}
 use Rattle.numbers.specs.declared.answers.Updated.the-variants as is
 use Rattle.numbers.specs.Conditions.{firstNumber, badByteAt, pointsNumber, nodeNumber, tableNumber, shortNumber, fullNumber, unmarkedNumber}
-use Rattle.numbers.specs.Numbers.{networkPointsNumber, siteNumber, tableCheckNumber, tableNodeNumber, buildNumber}
+use Rattle.numbers.specs.Numbers.{networkPointsNumber, siteNumber, tableCheckNumber, tableNodeNumber, buildNumber, changeNumber}
 use Rattle.table_calls.specs.Build.{buildOutcome}
 use Rattle.table_calls.specs.Updated.{kindMarks, Arrays, ChangeExported}
-use Rattle.numbers.specs.Numbers.{changeNumber}
 use Rattle.demands.specs.Book.{Call, bookNumber, bookCall, bookAnswers, bookMarks}
 use Rattle.demands.specs.Demand3.{Run, ends, call, foreign, Demand3}
 use Rattle.demands.proofs.Demand3.{demand}

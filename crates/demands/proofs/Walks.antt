@@ -8,13 +8,12 @@ use mathlib.Core.List.{List, List·Memᴰ}
 use native.Mathlib.Decide.{ℕ-discrete, decLt}
 use native.Mathlib.Omega.{arith}
 use lib.Dec.{eqb, ltb}
-use lib.ListN.{length, getD, set}
+use lib.ListN.{length, getD}
 use lib.Seq.{getD-set-same, getD-set-other}
 use borrow.Author.Tests.{ltb-true, lt-ltb, le-ltb, eq-eqb, ne-eqb, eqb-false, not-true}
 use Rattle.network.specs.Network.{Network, nodeCount}
 use Rattle.network.specs.Accepted.{Accepted}
-use Rattle.network.specs.Walk.{Walk}
-use Rattle.network.specs.Count.{bit, weighed, sumOver}
+use Rattle.network.specs.Count.{weighed, sumOver}
 use Rattle.network.specs.Distance.{NONE, dist}
 use Rattle.network.specs.Points.{lockers, marked, isNearer, countNearer, othersAt, othersNearer, isListed, listed, isExpanded}
 use Rattle.network.specs.Visits.{visits, Earlier}

@@ -6,8 +6,7 @@ use Rattle.network.specs.Network.{Network, nodeCount}
 use Rattle.network.specs.Rows.{rowsChanged}
 use Rattle.numbers.specs.declared.kind.Kind.{Kind}
 use Rattle.numbers.specs.declared.answers.Update.{Update}
-use Rattle.numbers.specs.Conditions.{firstNumber, byNumber, nodeNumber, tableNumber, shortNumber}
-use Rattle.numbers.specs.Interim.{scratchWords}
+use Rattle.numbers.specs.Conditions.{firstNumber, byNumber, nodeNumber, tableNumber, shortNumber, scratchWords}
 use Rattle.table_calls.specs.Updated.{kindMarks}
 use Rattle.numbers.specs.Numbers.{kindNumber}
 

@@ -16,7 +16,7 @@ use Rattle.searches.specs.Eager.{eagerWords}
 use Rattle.numbers.specs.declared.answers.Update.{Update}
 use Rattle.numbers.specs.declared.answers.Listing.{Listing}
 use Rattle.numbers.specs.declared.kind.Kind.{Kind}
-use Rattle.numbers.specs.Interim.{scratchWords}
+use Rattle.numbers.specs.Conditions.{scratchWords}
 use Rattle.numbers.specs.Numbers.{buildNumber}
 use Rattle.table_calls.specs.Build.{buildOutcome}
 use Rattle.table_calls.specs.Updated.{Arrays, ChangeExported}

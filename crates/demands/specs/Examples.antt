@@ -13,13 +13,12 @@ use Rattle.network.specs.Cases.{roads, points}
 use Rattle.numbers.specs.declared.answers.Listed.the-variants as is
 use Rattle.numbers.specs.declared.answers.Rule.the-variants as rule
 use Rattle.numbers.specs.declared.kind.Kind.the-variants.{Insert, Remove}
-use Rattle.numbers.specs.Numbers.{buildNumber, tableQueryNumber}
+use Rattle.numbers.specs.Numbers.{buildNumber, tableQueryNumber, changeNumber}
 use Rattle.site_calls.specs.Distances.{distancesOutcome}
 use Rattle.site_calls.specs.Nearest.{nearestOutcome}
 use Rattle.site_calls.specs.Verify.{verifyOutcome}
 use Rattle.site_calls.specs.Eager.{eagerOutcome, shortOutcome}
 use Rattle.site_calls.specs.Lazy.{lazyOutcome}
-use Rattle.numbers.specs.Numbers.{changeNumber}
 use Rattle.table_calls.specs.TableCheck.{tableCheckAnswer}
 
 -- N; a scratch of S entries for m = 2, of any contents; six old answers; seven old visits; and the table of N with K = 2

@@ -9,7 +9,7 @@ use native.Mathlib.Decide.{ℕ-discrete, decLt}
 use lib.ListN.{length, getD, set, drop, length-set, length-drop}
 use lib.Seq.{getD-set-same, getD-set-other}
 use borrow.Rule.Slice.PartMut.{midOf, putMid}
-use Rattle.expansion.specs.Queue.{keyOf, keyAt, parentOf, Holds, HoldsBeside, HeapOrdered, ZeroFrom, Put, Hole, AtLeastParent, AtMostChildren, CanSink, CanRise, Filled, LeastChild, Children, Chosen, Queue, Pushed, Popped, PushedAt, PoppedAt, NoLater}
+use Rattle.expansion.specs.Queue.{keyOf, keyAt, parentOf, Holds, HoldsBeside, HeapOrdered, ZeroFrom, Put, Hole, AtLeastParent, AtMostChildren, CanSink, CanRise, Filled, LeastChild, Children, Chosen, Queue, Pushed, Popped, LeastDistance, PushedAt, PoppedAt, NoLater}
 use Rattle.expansion.proofs.LentParts.{lent-part, rejoined}
 use Rattle.expansion.proofs.TagLaws.{at-most-no-later}
 
@@ -315,6 +315,17 @@ first-least xs len o (suc n) i le lt =
           omega (arith, o i pos lt, first-least xs len o n (parentOf i) (omega arith) (omega arith))
     ]
 
+-- the first entry has the least distance
+pub least-first : (xs : List ℕ) (len r : ℕ) → Queue xs len → 0 < len → getD xs 0 0 < 4294967296 → r ≡ getD xs 1 0 → LeastDistance xs len r
+unfolding keyAt
+least-first xs len r q some tag e =
+    record {
+      key = keyAt xs 0;
+      holds = record { index = 0; inside = some; is = refl };
+      is = omega (arith, e, tag);
+      least = λ k h. omega (arith, e, tag, h .is, first-least xs len (q .ordered) (h .index) (h .index) (omega arith) (h .inside));
+    }
+
 -- push: the hole is behind the last entry
 module _ (xs : List ℕ) (len key : ℕ) (q : Queue xs len) (room : 2 * len + 2 ≤ length xs) where
   pub push-rises : CanRise xs (len + 1) len key
@@ -431,6 +442,9 @@ module _ (xs : List ℕ) (at : ℕ) where
   lent-queue len q = rw (lent-part at xs) q
 
   -- a queue with an entry starts inside the list
+  pub first-inside : (len : ℕ) → Queue (drop at xs) len → 0 < len → at + 2 ≤ length xs
+  first-inside len q some = omega (arith, q .room, length-drop at xs)
+
   pub starts-inside : (len : ℕ) → Queue (drop at xs) len → 0 < len → at < length xs
   starts-inside len q some = omega (arith, q .room, length-drop at xs)
 

@@ -15,8 +15,8 @@ use Rattle.network.specs.Distance.{NONE, dist, distancesFrom}
 use Rattle.network.specs.Count.{tabulate}
 use Rattle.network.proofs.Tabulate.{tabulate-same}
 use Rattle.network.proofs.Distances.{dist-walk}
-use Rattle.expansion.specs.Area.{Kept, Blank, Wiped}
-use Rattle.expansion.specs.Expand.{labelWord, wordDistance, SettledAll}
+use Rattle.expansion.specs.Area.{LabelAt, Kept, Blank, Wiped}
+use Rattle.expansion.specs.Expand.{labelWord, wordDistance, labelIn, SettledAll}
 use Rattle.expansion.proofs.Origins.{one}
 use Rattle.expansion.proofs.AreaLaws.{kept-trans}
 use Rattle.expansion.proofs.AreaSearch.{word-label, search-finished}
@@ -41,6 +41,20 @@ word-distance n d =
     elim (ℕ-discrete d NONE) [
       | yes e ↦ rw (label-none n d e, le-leb 0 n (omega arith)) (sym e)
       | no h ↦ rw (label-some n d h, lt-leb (suc (n + d)) n (omega arith)) (omega arith)
+    ]
+
+-- what the reader of a label says: a settled node's label; and a label that is not NONE is that of a settled node
+pub label-settled : {n : ℕ} {xs : List ℕ} {b v l : ℕ} → LabelAt n xs b v l → labelIn n xs b v ≡ l
+label-settled {n} {l} a = ap (wordDistance n) (a .is) ∙ word-some n l
+
+pub label-known : (n : ℕ) (xs : List ℕ) (b v l : ℕ) → v < n → l ≡ labelIn n xs b v → l ≢ NONE → LabelAt n xs b v l
+unfolding wordDistance
+label-known n xs b v l h e some =
+    elim (decLe (getD xs (b + v) 0) n) [
+      | yes z ↦ absurd (some (rw (le-leb (getD xs (b + v) 0) n z) at e))
+      | no s ↦
+          let m : l ≡ getD xs (b + v) 0 - n - 1 = rw (lt-leb (getD xs (b + v) 0) n (omega arith)) at e in
+          record { inside = h; is = omega (arith, m, s) }
     ]
 
 -- nothing waits: all is settled

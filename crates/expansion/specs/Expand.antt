@@ -25,6 +25,13 @@ labelWord n d = cond (eqb d NONE) 0 (suc (n + d))
 unfoldable pub wordDistance : ℕ → ℕ → ℕ
 wordDistance n word = cond (leb word n) NONE (word - n - 1)
 
+-- what an area tells its readers: the label of node v, NONE where it is not settled; and the node that was settled as number i
+abbrev pub labelIn : ℕ → List ℕ → ℕ → ℕ → ℕ
+labelIn n xs b v = wordDistance n (getD xs (b + v) 0)
+
+abbrev pub settledIn : ℕ → List ℕ → ℕ → ℕ → ℕ
+settledIn n xs b i = getD xs (b + n + i) 0
+
 -- every node that can be reached is settled at its distance, and no entry waits
 pub record SettledAll (g : Network) (xs ys : List ℕ) (b source settled : ℕ) : Type 0 where
   pub frame : Kept xs ys b

@@ -11,7 +11,7 @@ use Rattle.network.specs.Distance.{dist}
 use Rattle.network.specs.Points.{lockers}
 use Rattle.network.specs.Nearest.{nearest}
 use Rattle.expansion.specs.Area.{LabelAt, Area, Blank}
-use Rattle.expansion.specs.Expand.{CanExpand, wordDistance}
+use Rattle.expansion.specs.Expand.{CanExpand, labelIn}
 use Rattle.expansion.specs.declared.nearest.Near.{Near}
 use Rattle.expansion.specs.declared.nearest.Search.{Search}
 
@@ -94,7 +94,7 @@ pub record WrittenOut (P xs ys : List ℕ) (n k found : ℕ) : Type 0 where
   pub ids : (i j : ℕ) → i < found → tallied P xs i ≤ j → j < tallied P xs (suc i) → j < k → getD ys (k + j) 0 ≡ getD xs i 0
   pub distances :
       (i j : ℕ) → i < found → tallied P xs i ≤ j → j < tallied P xs (suc i) → j < k
-      → getD ys (2 * k + j) 0 ≡ wordDistance n (getD xs (3 * k + getD xs i 0) 0)
+      → getD ys (2 * k + j) 0 ≡ labelIn n xs (3 * k) (getD xs i 0)
   pub rest : (j : ℕ) → tallied P xs found ≤ j → j < k → (getD ys (k + j) 0 ≡ getD xs (k + j) 0) × (getD ys (2 * k + j) 0 ≡ getD xs (2 * k + j) 0)
   pub before : (j : ℕ) → j < k → getD ys j 0 ≡ getD xs j 0
   pub behind : (j : ℕ) → 3 * k ≤ j → getD ys j 0 ≡ getD xs j 0

@@ -73,6 +73,13 @@ pub record Popped (xs ys : List ℕ) (len key : ℕ) : Type 0 where
   pub old : (k : ℕ) → Holds ys (len - 1) k → Holds xs len k
   pub kept : (k : ℕ) → Holds xs len k → Holds ys (len - 1) k ⊎ (k ≡ key)
 
+-- least: r is the distance of an entry, and none has a lesser one
+pub record LeastDistance (xs : List ℕ) (len r : ℕ) : Type 0 where
+  pub key : ℕ
+  pub holds : Holds xs len key
+  pub is : r ≡ distanceOf key
+  pub least : (k : ℕ) → Holds xs len k → r ≤ distanceOf k
+
 -- The same of a queue that starts at the word `at` of a longer list and reaches to its end: what stands before it stays as it is.
 pub record PushedAt (xs ys : List ℕ) (at len key : ℕ) : Type 0 where
   pub size : length ys ≡ length xs

@@ -7,10 +7,9 @@ ghost use Rattle.network.specs.Count.{tabulate};
 ghost use Rattle.network.specs.Answers.{answered};
 ghost use Rattle.expansion.specs.Expand.{CanExpand, SettledAll, wordDistance};
 ghost use Rattle.expansion.specs.Distances.{DistancesLeft};
+use crate::labels;
 use crate::step;
 use crate::step::Taken;
-use network::arcs::wide;
-use network::distance::Distance;
 
 // Settles every node that can be reached from the source, each with its distance. Returns how many.
 pub fn settle_all(
@@ -52,21 +51,10 @@ fn write_distances(words: &[u32], answers: &mut [u32], n: usize)
 {
     let mut v = 0;
     while v < n {
-        let distance = distance_of(n, words[v]);
+        let distance = labels::distance_of(n, words[v]);
         answers[v] = distance.value;
         v += 1;
     }
-}
-
-// The distance that a node's seat stands for.
-pub fn distance_of(n: usize, word: u32) -> Distance
-    ensures { λ r. ⌜ r .value ≡ wordDistance n word ⌝ }
-{
-    let all = wide(word);
-    if all <= n {
-        return Distance::new(Distance::NONE);
-    }
-    Distance::new(word - 1 - n as u32)
 }
 
 // The distances from a node. The area is blank before and after.

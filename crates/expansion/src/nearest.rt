@@ -1,16 +1,14 @@
 // The expansion that looks for lockers: document 01, Nearest. The lent words are: found nodes, each once | the area of the expansion, from word b on.
 ghost use mathlib.Core.Path.{_≡_};
 ghost use Prim.Native.Nat.{_+_, _*_, _≤_, _<_, min};
-ghost use lib.ListN.{length, getD};
+ghost use lib.ListN.{length};
 ghost use Rattle.network.specs.Network.{network};
 ghost use Rattle.network.specs.Points.{lockers};
-ghost use Rattle.expansion.specs.Expand.{wordDistance};
 ghost use Rattle.expansion.specs.Found.{CanFind, Noted, FindLeft, NodesLeft, Repeated, CanWrite, WrittenOut, NearestLeft};
-use crate::distances;
+use crate::labels;
 use crate::step;
 use crate::step::Taken;
 use crate::words;
-use network::arcs::wide;
 use network::points::lockers_at;
 
 // What is found: how many nodes, and how many lockers on them, cut at k.
@@ -149,16 +147,6 @@ fn repeat(points: &[u8], s: &mut [u32], k: usize, from: usize, node: u32, label:
     at
 }
 
-// The distance that a node's seat stands for, in the area from word b on.
-fn label_of(s: &[u32], b: usize, n: usize, v: u32) -> u32
-    requires { ⌜ b + v < length (now s) ⌝ }
-    ensures { λ r. ⌜ r ≡ wordDistance n (getD (now (s .entry)) (b + v) 0) ⌝ }
-{
-    let at = b + wide(v);
-    let d = distances::distance_of(n, s[at]);
-    d.value
-}
-
 // Writes the found nodes and their labels out, up to k places.
 fn write_out(points: &[u8], s: &mut [u32], n: usize, k: usize, found: usize)
     requires { ⌜ CanWrite (now points) (now s) n k found ⌝ }
@@ -169,7 +157,7 @@ fn write_out(points: &[u8], s: &mut [u32], n: usize, k: usize, found: usize)
     let mut i = 0;
     while i < found {
         let v = s[i];
-        let label = label_of(s, b, n, v);
+        let label = labels::label_of(s, b, n, v);
         at = repeat(points, s, k, at, v, label);
         i += 1;
     }

@@ -4,7 +4,7 @@
 ghost use mathlib.Core.Path.{_≡_};
 ghost use Prim.Native.Nat.{_+_, _*_, _≤_, _<_};
 ghost use lib.ListN.{length, getD, drop};
-ghost use Rattle.expansion.specs.Queue.{keyOf, keyAt, Queue, Pushed, Popped, PushedAt, PoppedAt, Put, LeastChild, Children, Chosen, CanSink, CanRise, Filled, Sank};
+ghost use Rattle.expansion.specs.Queue.{keyOf, keyAt, Queue, Pushed, Popped, LeastDistance, PushedAt, PoppedAt, Put, LeastChild, Children, Chosen, CanSink, CanRise, Filled, Sank};
 
 // An entry of a queue.
 pub struct Entry {
@@ -228,4 +228,13 @@ pub fn pop_at(s: &mut [u32], at: usize, len: usize) -> Entry
     ensures { λ r. ⌜ PoppedAt (now (s .entry)) (now (s .exit)) at len (keyOf (r .distance) (r .tag)) ⌝ }
 {
     pop(&mut s[at..], len)
+}
+
+// The least distance that waits in the same.
+pub fn least_at(s: &[u32], at: usize, len: usize) -> u32
+    requires { ⌜ Queue (drop at (now s)) len ⌝ }
+    requires { ⌜ 0 < len ⌝ }
+    ensures { λ r. ⌜ LeastDistance (drop at (now (s .entry))) len r ⌝ }
+{
+    s[at + 1]
 }

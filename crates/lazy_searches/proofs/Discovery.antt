@@ -1,6 +1,6 @@
 -- Lazy comes to a node and verifies it, where it is a point: its found flag, and the counts of the nodes to which it is nearer than the site.
 -- Assumes nothing.
-use Prim.Native.Nat.{ℕ, suc, _+_, _≤_, _<_}
+use Prim.Native.Nat.{ℕ, _+_, _≤_, _<_}
 use mathlib.Core.Path.{_≡_, refl, sym, ap, _∙_}
 use mathlib.Core.Bool.{true, false, false≢true}
 use mathlib.Core.Logic.{_≢_, _⊎_, inl, inr, ⊎-elim}
@@ -9,27 +9,28 @@ use native.Mathlib.Decide.{decLt}
 use native.Mathlib.Omega.{arith}
 use lib.ListN.{length, getD, set, take, drop, length-set, List·getD-eq-default}
 use lib.Seq.{getD-set-same, getD-set-other, getD-take, length-take-le}
-use borrow.Author.Tests.{le-leb, lt-leb, leb-true, ltb-true, lt-ltb}
+use lib.Dec.{ltb}
+use borrow.Author.Tests.{ltb-true, lt-ltb}
 use Rattle.network.specs.Network.{Network, nodeCount}
 use Rattle.network.specs.Distance.{dist}
 use Rattle.network.specs.Points.{lockers, isListed}
 use Rattle.expansion.specs.declared.verify.VisitEnd.{VisitEnd}
 use Rattle.expansion.specs.Area.{AmongSettled, Area, Wiped}
 use Rattle.expansion.specs.Visited.{CanVisit, Visited}
+use Rattle.expansion.specs.Expand.{wordDistance, labelIn, settledIn}
 use Rattle.expansion.proofs.AreaSearch.{word-label}
+use Rattle.expansion.proofs.Settled.{label-settled}
 use Rattle.expansion.proofs.Beside.{Beside, area-beside}
 use Rattle.lazy_searches.specs.Lazy.{visitBase, isLess, CanCount, CountedAll, CanDiscover, CountedBy, Discovered}
 use Rattle.searches.proofs.Listed.{listed-parts}
+use Rattle.network.proofs.Tests.{and-parts}
 use Rattle.network.proofs.Lends.{first-size, first-part, first-after}
 use Rattle.searches.proofs.FlagLaws.{listed-verified, verified-listed}
 use Rattle.lazy_searches.proofs.Places.{place-labelled, places-distinct}
 
--- the test, for a node that the search has not settled, and for one that it has
-less-ahead : (n near word l : ℕ) → word ≤ n → isLess n near word l ≡ true → near ≤ l + n
-less-ahead n near word l z e = leb-true near (l + n) (rw (le-leb word n z) at e)
-
-less-behind : (n near word l : ℕ) → n < word → isLess n near word l ≡ true → near < word
-less-behind n near word l h e = ltb-true near word (rw (lt-leb word n h) at e)
+-- the two halves of the test
+less-parts : (near far l : ℕ) → isLess near far l ≡ true → (near < far) × (near < l)
+less-parts near far l e = let p = and-parts (ltb near far) (ltb near l) e in (ltb-true near far (p .0), ltb-true near l (p .1))
 
 module _ {g : Network} {P : List ℕ} {q k : ℕ} {xs : List ℕ} {b v : ℕ} (c : CanDiscover g P q k xs b v) where
   fits : b ≤ length xs
@@ -81,7 +82,7 @@ module _ {g : Network} {P : List ℕ} {q k : ℕ} {xs : List ℕ} {b v : ℕ} (c
     few : r .settled ≤ nodeCount g
     few = omega (arith, w .area .counted)
 
-    place : (i : ℕ) → i < r .settled → getD (zs ++ drop b xs) (visitBase (nodeCount g) + nodeCount g + i) 0 ≡ getD zs (visitBase (nodeCount g) + nodeCount g + i) 0
+    place : (i : ℕ) → i < r .settled → settledIn (nodeCount g) (zs ++ drop b xs) (visitBase (nodeCount g)) i ≡ settledIn (nodeCount g) zs (visitBase (nodeCount g)) i
     place i h = inner (visitBase (nodeCount g) + nodeCount g + i) (omega (arith, few, c .base))
 
     pub visit-size : length (zs ++ drop b xs) ≡ length xs
@@ -128,12 +129,12 @@ module _ {g : Network} {P : List ℕ} {q k : ℕ} {xs : List ℕ} {b v : ℕ} (c
               }
 
       -- the point is nearer to u than the site
-      word : (u : ℕ) → AmongSettled (nodeCount g) (zs ++ drop b xs) (visitBase (nodeCount g)) (r .settled) u → u < nodeCount g
-          → getD (zs ++ drop b xs) (visitBase (nodeCount g) + u) 0 ≡ suc (nodeCount g + dist g v u)
-      word u s h =
+      near : (u : ℕ) → AmongSettled (nodeCount g) (zs ++ drop b xs) (visitBase (nodeCount g)) (r .settled) u → u < nodeCount g
+          → labelIn (nodeCount g) (zs ++ drop b xs) (visitBase (nodeCount g)) u ≡ dist g v u
+      near u s h =
           let e = sym (place (s .place) (s .low)) ∙ s .is in
           let d = word-label {n = nodeCount g} {xs = zs} (visitBase (nodeCount g)) u h (rw e at (place-labelled (w .area) (s .place) (s .low))) in
-          inner (visitBase (nodeCount g) + u) (omega (arith, c .base)) ∙ d .1 .is ∙ ap (λ (m : ℕ). suc (nodeCount g + m)) (w .exact u (d .0) (d .1))
+          ap (wordDistance (nodeCount g)) (inner (visitBase (nodeCount g) + u) (omega (arith, c .base))) ∙ label-settled (d .1) ∙ w .exact u (d .0) (d .1)
 
       -- ---- Its area is cleared.
       module _ {vs : List ℕ} (e : Wiped (take b us) vs (visitBase (nodeCount g))) where
@@ -159,15 +160,14 @@ module _ {g : Network} {P : List ℕ} {q k : ℕ} {xs : List ℕ} {b v : ℕ} (c
             ⊎-elim
             (λ a. inl (low-word u (omega arith) ∙ a ∙ front u (omega arith)))
             (λ a.
-            let near = word u (a .0) h in
-            let far = outer (b + u) (omega arith) in
-            let less = rw (near, far) at (a .1 .less) in
+            let far : labelIn (nodeCount g) (zs ++ drop b xs) b u ≡ labelIn (nodeCount g) xs b u = ap (wordDistance (nodeCount g)) (outer (b + u) (omega arith)) in
+            let less = less-parts (dist g v u) (labelIn (nodeCount g) xs b u) l (rw (near u (a .0) h, far) at (a .1 .less)) in
             inr
             (record {
               byte = omega (arith, byte .0, byte .1);
               more = omega (arith, byte .0, low-word u (omega arith), a .1 .more, front u (omega arith));
-              ahead = λ z. omega (arith, less-ahead (nodeCount g) (suc (nodeCount g + dist g v u)) (getD xs (b + u) 0) l z less);
-              behind = λ m y. omega (arith, y .is, less-behind (nodeCount g) (suc (nodeCount g + dist g v u)) (getD xs (b + u) 0) l (omega (arith, y .is)) less);
+              ahead = less .1;
+              behind = λ m y. omega (arith, label-settled y, less .0);
             }))
             (t .counts u h)
 

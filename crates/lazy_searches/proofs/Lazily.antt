@@ -160,7 +160,7 @@ module _ {g : Network} {P : List ℕ} {q b : ℕ} {s₀ : List ℕ} (c : CanExpl
             | yes z ↦
                 omega (
                   arith,
-                  r .ahead z,
+                  r .ahead,
                   label-least ok low (e .searched) t x h (unsettled x h z) o,
                   dist-symmetric ok x v,
                   dist-symmetric ok x q,

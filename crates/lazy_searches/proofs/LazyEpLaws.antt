@@ -369,7 +369,7 @@ module _ {g : Network} {P s₀ : List ℕ} {inner outer q k : ℕ} (c : CanSettl
       back-parent h o =
           let at : LabelAt (nodeCount g) xs outer u (h .label) =
           label-back (took-moved ok (d .progress .area) (d .progress .searched) t) u (h .label)
-          (beside-label-at beside-outer (record { inside = parent-inside; is = h .is }))
+          (beside-label-at beside-outer (h .settled))
           in
           let area = d .progress .area in
           o

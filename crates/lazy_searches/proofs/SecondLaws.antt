@@ -23,7 +23,7 @@ use Rattle.network.proofs.NumberZero.{accepted-ranges}
 use Rattle.network.proofs.Distances.{dist-walk}
 use Rattle.network.proofs.Rank.{nearer-passes}
 use Rattle.network.proofs.Totals.{total-same, sum-le, sum-different}
-use Rattle.expansion.specs.Queue.{PushedAt, PoppedAt, keyOf, keyAt}
+use Rattle.expansion.specs.Queue.{LeastDistance, PushedAt, PoppedAt, keyOf}
 use Rattle.expansion.specs.Tags.{tagOf, tagNode, tagParent}
 use Rattle.expansion.specs.Area.{Kept}
 use Rattle.lazy_searches.specs.Second.{rowDistance, pointOf, besideOf, farOf, wordsBase, secondBase, secondQueue, idAt, wordAt, Source, Second, SecondSound, spread, work, PlaceFor, CanAdmit, OfferedSecond, Admitted, Advanced, isBelow, Closed}
@@ -317,20 +317,9 @@ module _ {g : Network} {xs ys zs : List ℕ} {k len left : ℕ} (far tag : ℕ) 
   pub popped-node : tagParent tag < nodeCount g
   popped-node = omega (arith, a .second .nodes (keyOf far tag) (t .queue .was))
 
-  -- its distance is no more than that of the first entry
-  pub popped-low : 0 < left → getD ys (secondBase (nodeCount g) k) 0 < 4294967296 → far ≤ getD ys (secondBase (nodeCount g) k + 1) 0
-  unfolding keyAt
-  popped-low some word =
-      let q = secondQueue (nodeCount g) k ys in
-      omega (
-        arith,
-        no-later-key (keyOf far tag) (keyAt q 0) (t .queue .first (keyAt q 0) (record { index = 0; inside = some; is = refl })),
-        word-at (2 * 0) (secondBase (nodeCount g) k) (omega arith),
-        word-at (2 * 0 + 1) (secondBase (nodeCount g) k + 1) (omega arith),
-      )
-    where
-      word-at : (i j : ℕ) → secondBase (nodeCount g) k + i ≡ j → getD (secondQueue (nodeCount g) k ys) i 0 ≡ getD ys j 0
-      word-at i j e = getD-drop (secondBase (nodeCount g) k) ys i 0 ∙ ap (λ (x : ℕ). getD ys x 0) e
+  -- its distance is no more than the least that waited
+  pub popped-low : {r : ℕ} → LeastDistance (secondQueue (nodeCount g) k ys) left r → far ≤ r
+  popped-low h = omega (arith, no-later-key (keyOf far tag) (h .key) (t .queue .first (h .key) (h .holds)), h .is)
 
   popped-sound : (M : List ℕ) → SecondSound g M ys k left → SecondSound g M zs k (left - 1)
   popped-sound M s = record { stands = stands-kept popped-frame s; waits = λ key h. s .waits key (t .queue .old key h) }

@@ -4,9 +4,9 @@
 use Prim.Native.Nat.{ℕ, _+_, _*_, _≤_, _<_}
 use mathlib.Core.Path.{_≡_}
 use mathlib.Core.Logic.{_≢_, _⊎_}
-use mathlib.Core.Bool.{Bool, true, cond}
+use mathlib.Core.Bool.{Bool, true, _&&_}
 use mathlib.Core.List.{List}
-use lib.Dec.{ltb, leb}
+use lib.Dec.{ltb}
 use lib.ListN.{length, getD}
 use Rattle.network.specs.Network.{Network, nodeCount}
 use Rattle.network.specs.Accepted.{Accepted}
@@ -15,6 +15,7 @@ use Rattle.network.specs.Count.{select}
 use Rattle.network.specs.Points.{lockers, isListed, listed}
 use Rattle.network.specs.Answers.{answered}
 use Rattle.expansion.specs.Area.{queueBase, LabelAt, AmongSettled, Blank, Wiped}
+use Rattle.expansion.specs.Expand.{labelIn, settledIn}
 use Rattle.searches.specs.Eager.{isFound}
 
 -- 'Lazy (000, 3.3) and lazy-EP (000, 4.2): the list.' All words are 0 again.
@@ -37,21 +38,19 @@ pub record CanCount (n : ℕ) (xs : List ℕ) (b settled c : ℕ) : Type 0 where
   pub fits : b + n ≤ length xs
   pub few : settled ≤ n
   pub small : (u : ℕ) → u < n → getD xs u 0 + c < 4294967296
-  pub nodes : (i : ℕ) → i < settled → getD xs (visitBase n + n + i) 0 < n
-  pub distinct :
-      (i j : ℕ) → i < settled → j < settled
-      → getD xs (visitBase n + n + i) 0 ≡ getD xs (visitBase n + n + j) 0
-      → i ≡ j
+  pub nodes : (i : ℕ) → i < settled → settledIn n xs (visitBase n) i < n
+  pub distinct : (i j : ℕ) → i < settled → j < settled → settledIn n xs (visitBase n) i ≡ settledIn n xs (visitBase n) j → i ≡ j
 
--- A verification settled a node with the seat `near`; the search has the seat `word` for it, and has come to label l. Whether the verified point is
--- strictly nearer to the node than the site: a node that the search has not settled is no nearer to the site than l. Equal distances never count.
-abbrev pub isLess : ℕ → ℕ → ℕ → ℕ → Bool
-isLess n near word l = cond (leb word n) (leb near (l + n)) (ltb near word)
+-- A verification settled a node at label `near`; the search at label `far`, NONE where it has not, and has come to label l. Whether the verified point
+-- is strictly nearer to the node than the site: a node that the search has not settled is no nearer to the site than l, and one that it has no farther.
+-- Equal distances never count.
+abbrev pub isLess : ℕ → ℕ → ℕ → Bool
+isLess near far l = ltb near far && ltb near l
 
 -- the count of u rises by c
 pub record Rises (n : ℕ) (xs ys : List ℕ) (b l c u : ℕ) : Type 0 where
   pub more : getD ys u 0 ≡ getD xs u 0 + c
-  pub less : isLess n (getD xs (visitBase n + u) 0) (getD xs (b + u) 0) l ≡ true
+  pub less : isLess (labelIn n xs (visitBase n) u) (labelIn n xs b u) l ≡ true
 
 pub record CountedNode (n : ℕ) (xs ys : List ℕ) (b l c u : ℕ) : Type 0 where
   pub size : length ys ≡ length xs
@@ -75,11 +74,11 @@ pub record CanDiscover (g : Network) (P : List ℕ) (q k : ℕ) (xs : List ℕ) 
   pub blank : (j : ℕ) → visitBase (nodeCount g) ≤ j → j < b → getD xs j 0 ≡ 0
   pub sound : getD xs (nodeCount g + v) 0 ≢ 0 → isListed g P q k v ≡ true
 
--- the count of u rises by the lockers of v: v is nearer to u than u's label, or than l where the search has not settled u
+-- the count of u rises by the lockers of v: v is nearer to u than l, and than u's label where the search has settled u
 pub record CountedBy (g : Network) (P xs ys : List ℕ) (b l v u : ℕ) : Type 0 where
   pub byte : lockers P v ≤ 255
   pub more : getD ys u 0 ≡ getD xs u 0 + lockers P v
-  pub ahead : getD xs (b + u) 0 ≤ nodeCount g → dist g v u < l
+  pub ahead : dist g v u < l
   pub behind : (m : ℕ) → LabelAt (nodeCount g) xs b u m → dist g v u < m
 
 pub record Discovered (g : Network) (P : List ℕ) (q k : ℕ) (xs ys : List ℕ) (b v l : ℕ) : Type 0 where

@@ -1,7 +1,7 @@
 -- What lazy with extended pruning requires, and what its functions leave. The lent words are: found flags n | row ids n k | row words n k | the
 -- second queue | the area of the inner expansions, from word `inner` on | the area of the outer expansion, from word `outer` on.
 -- Assumes nothing.
-use Prim.Native.Nat.{ℕ, suc, _+_, _*_, _≤_, _<_}
+use Prim.Native.Nat.{ℕ, _+_, _*_, _≤_, _<_}
 use mathlib.Core.Path.{_≡_}
 use mathlib.Core.Logic.{_≢_, _⊎_}
 use mathlib.Core.Bool.{true}
@@ -11,7 +11,7 @@ use Rattle.network.specs.Network.{Network, nodeCount}
 use Rattle.network.specs.Accepted.{Accepted}
 use Rattle.network.specs.Count.{select}
 use Rattle.network.specs.Points.{marked, isListed, listed}
-use Rattle.expansion.specs.Area.{Blank}
+use Rattle.expansion.specs.Area.{LabelAt, Blank}
 use Rattle.searches.specs.Eager.{isFound}
 use Rattle.lazy_searches.specs.Second.{secondBase, Second, SecondSound, Closed}
 
@@ -47,7 +47,7 @@ pub record SettledFound (g : Network) (P : List ℕ) (q k : ℕ) (xs ys : List �
 -- node u is settled, and k lockers stand in its row at distances below its label
 pub record ClosedBehind (P : List ℕ) (n : ℕ) (xs : List ℕ) (outer k u : ℕ) : Type 0 where
   pub label : ℕ
-  pub is : getD xs (outer + u) 0 ≡ suc (n + label)
+  pub settled : LabelAt n xs outer u label
   pub closed : Closed P n xs k u label
 
 -- an entry of v at label l, put in by u, is taken back: v's row has k lockers below l, or u's has k below its own label

@@ -9,6 +9,7 @@ ghost use Rattle.network.specs.Network.{network};
 ghost use Rattle.expansion.specs.Area.{queueBase};
 ghost use Rattle.searches.specs.Eager.{CanSearch, HasPlaces};
 ghost use Rattle.lazy_searches.specs.Lazy.{visitBase, isLess, CanCount, CountedNode, CountedAll, CanDiscover, Discovered, CanExploreLazy, LazyExplored, SearchLeft};
+use expansion::labels;
 use expansion::step;
 use expansion::step::Taken;
 use expansion::verify;
@@ -27,17 +28,15 @@ fn is_closed(s: &[u32], node: u32, k: usize) -> bool
     k <= count
 }
 
-// Whether a verified point is strictly nearer to a node than the site, by the seats of the node: `near` in the verification, `word` in the search, which
+// Whether a verified point is strictly nearer to a node than the site, by the labels of the node: `near` in the verification, `far` in the search, which
 // has come to the label.
-fn is_nearer(n: usize, near: u32, word: u32, label: u32) -> bool
-    requires { ⌜ n ≤ 65535 ⌝ }
-    ensures { λ r. ⌜ r ≡ isLess n near word label ⌝ }
+fn is_nearer(near: u32, far: u32, label: u32) -> bool
+    ensures { λ r. ⌜ r ≡ isLess near far label ⌝ }
 {
-    let all = wide(word);
-    if all <= n {
-        return wide(near) <= wide(label) + n;
+    if near < far {
+        return near < label;
     }
-    near < word
+    false
 }
 
 // Adds so many lockers to the count of a node that a verification has settled, where its point is strictly nearer to the node than the site.
@@ -45,10 +44,10 @@ fn count_node(s: &mut [u32], n: usize, b: usize, node: u32, label: u32, lockers:
     requires { ⌜ (queueBase n (visitBase n) ≤ b) × (b + n ≤ length (now s)) × (node < n) × (getD (now s) node 0 + lockers < 4294967296) × (n ≤ 65535) ⌝ }
     ensures { λ _. ⌜ CountedNode n (now (s .entry)) (now (s .exit)) b label lockers node ⌝ }
 {
-    let at = wide(node);
-    let near = s[2 * n + at];
-    let word = s[b + at];
-    if is_nearer(n, near, word, label) {
+    let near = labels::label_of(s, 2 * n, n, node);
+    let far = labels::label_of(s, b, n, node);
+    if is_nearer(near, far, label) {
+        let at = wide(node);
         s[at] += lockers;
     }
 }
@@ -60,7 +59,7 @@ fn count_visited(s: &mut [u32], n: usize, b: usize, settled: usize, label: u32, 
 {
     let mut i = 0;
     while i < settled {
-        let node = s[3 * n + i];
+        let node = labels::settled_node(s, 2 * n, n, i);
         count_node(s, n, b, node, label, lockers);
         i += 1;
     }

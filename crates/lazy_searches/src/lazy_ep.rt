@@ -12,7 +12,7 @@ ghost use Rattle.lazy_searches.specs.Second.{secondBase};
 ghost use Rattle.lazy_searches.specs.Lazy.{SearchLeft};
 ghost use Rattle.lazy_searches.specs.LazyEp.{CanExtend, CanSettle, SettledFound, TakenBack, CanDiscoverEp, PointVerified, DiscoveredEp};
 use crate::second;
-use expansion::distances;
+use expansion::labels;
 use expansion::step;
 use expansion::step::Taken;
 use expansion::verify;
@@ -39,9 +39,7 @@ fn taken_back(
     if second::closed(points, s, n, k, v, l) {
         return true;
     }
-    let at = outer + wide(u);
-    let distance = distances::distance_of(n, s[at]);
-    let label = distance.value;
+    let label = labels::label_of(s, outer, n, u);
     if label == Distance::NONE {
         return false;
     }

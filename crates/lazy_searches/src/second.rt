@@ -6,7 +6,7 @@ ghost use Prim.Native.Nat.{_+_, _*_, _≤_, _<_};
 ghost use lib.ListN.{length, getD};
 ghost use Rattle.network.specs.Network.{network, neighboursOf};
 ghost use Rattle.lazy_searches.specs.Second.{rowDistance, wordsBase, secondBase, PlaceFor, CanAdmit, OfferedSecond, Admitted, CanAdvance, Advanced, Closed};
-use expansion::distances;
+use expansion::labels;
 use expansion::queue;
 use expansion::tags;
 use network::arcs;
@@ -19,7 +19,7 @@ pub fn distance_at(s: &[u32], at: usize) -> u32
     requires { ⌜ at < length (now s) ⌝ }
     ensures { λ r. ⌜ r ≡ rowDistance (getD (now (s .entry)) at 0) ⌝ }
 {
-    let distance = distances::distance_of(0, s[at]);
+    let distance = labels::distance_of(0, s[at]);
     distance.value
 }
 
@@ -140,7 +140,7 @@ pub fn advance(
     let n = starts.len() - 1;
     let at = n + 2 * (n * k);
     let mut left = len;
-    while 0 < left && s[at + 1] < l {
+    while 0 < left && queue::least_at(s, at, left) < l {
         let e = queue::pop_at(s, at, left);
         let d = e.distance;
         let tag = e.tag;

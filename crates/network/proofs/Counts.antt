@@ -54,6 +54,21 @@ unfolding count
 count-none t zero h = refl
 count-none t (suc n) h = omega (arith, count-none t n (λ x l. h x (omega arith)), bit-mono (t n) false (λ a. absurd (h n (omega arith) a)))
 
+-- a count grows, and stays where no more pass
+pub count-up : (t : ℕ → Bool) (m n : ℕ) → m ≤ n → count t m ≤ count t n
+unfolding count
+count-up t m zero h = let q : m ≡ 0 = omega arith in rw q (omega arith)
+count-up t m (suc n) h = ⊎-elim (λ (q : m ≡ suc n). rw q (omega arith)) (λ l. omega (arith, count-up t m n (le-of-suc-le-suc l))) (eq-or-lt-of-le h)
+
+pub count-still : (t : ℕ → Bool) (m n : ℕ) → m ≤ n → ((x : ℕ) → m ≤ x → x < n → t x ≡ false) → count t n ≡ count t m
+unfolding count
+count-still t m zero h f = let q : m ≡ 0 = omega arith in rw q
+count-still t m (suc n) h f =
+    ⊎-elim
+    (λ (q : m ≡ suc n). rw q)
+    (λ l. rw (f n (le-of-suc-le-suc l) (omega arith)) (omega (arith, count-still t m n (le-of-suc-le-suc l) (λ x a b. f x a (omega arith)))))
+    (eq-or-lt-of-le h)
+
 -- v passes the second test alone
 pub count-more : (t u : ℕ → Bool) (v n : ℕ) → v < n → t v ≡ false → u v ≡ true → ((x : ℕ) → x ≢ v → u x ≡ t x) → count u n ≡ suc (count t n)
 unfolding count

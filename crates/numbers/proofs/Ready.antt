@@ -20,8 +20,7 @@ use Rattle.network.proofs.NumberZero.{number-zero}
 use Rattle.searches.specs.Eager.{eagerWords}
 use Rattle.numbers.specs.declared.kind.Kind.{Kind}
 use Rattle.numbers.specs.declared.kind.Kind.the-variants.{Insert, Remove}
-use Rattle.numbers.specs.Interim.{scratchWords}
-use Rattle.numbers.specs.Conditions.{firstNumber, badByteAt, pointsNumber, nodeNumber, tableNumber, kNumber, tableKNumber, shortNumber, fullNumber, unmarkedNumber}
+use Rattle.numbers.specs.Conditions.{scratchWords, firstNumber, badByteAt, pointsNumber, nodeNumber, tableNumber, kNumber, tableKNumber, shortNumber, fullNumber, unmarkedNumber}
 use Rattle.numbers.specs.Numbers.{networkPointsNumber, siteNumber, queryNumber, distancesNumber, nearestNumber, verifyNumber, searchNumber, limitedNumber, eagerNumber, tableCheckNumber, buildNumber, tableNodeNumber, kindNumber, changeNumber, tableQueryNumber}
 use Rattle.numbers.specs.Ready.{DistancesReady, QueryReady, NearestReady, SearchReady, LimitedReady, VerifyReady, TableReady, BuildReady, KindReady, ChangeReady, TableQueryReady}
 

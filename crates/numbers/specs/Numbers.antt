@@ -7,10 +7,9 @@ use lib.ListN.{length}
 use Rattle.network.specs.Network.{Network, nodeCount}
 use Rattle.network.specs.Check.{networkNumber}
 use Rattle.searches.specs.Eager.{eagerWords}
-use Rattle.numbers.specs.Interim.{scratchWords}
+use Rattle.numbers.specs.Conditions.{scratchWords, firstNumber, pointsNumber, nodeNumber, tableNumber, kNumber, tableKNumber, shortNumber, fullNumber, unmarkedNumber}
 use Rattle.numbers.specs.declared.kind.Kind.{Kind}
 use Rattle.numbers.specs.declared.kind.Kind.the-variants.{Insert, Remove}
-use Rattle.numbers.specs.Conditions.{firstNumber, pointsNumber, nodeNumber, tableNumber, kNumber, tableKNumber, shortNumber, fullNumber, unmarkedNumber}
 
 -- what every call with points tests first: 1 to 5, 6
 unfoldable pub networkPointsNumber : Network → List ℕ → ℕ

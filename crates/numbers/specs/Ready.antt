@@ -10,7 +10,7 @@ use Rattle.network.specs.Network.{Network, nodeCount}
 use Rattle.network.specs.Accepted.{Accepted}
 use Rattle.network.specs.Points.{lockers, marked}
 use Rattle.searches.specs.Eager.{eagerWords}
-use Rattle.numbers.specs.Interim.{scratchWords}
+use Rattle.numbers.specs.Conditions.{scratchWords}
 use Rattle.rows.specs.Flat.{Sized}
 use Rattle.numbers.specs.declared.kind.Kind.{Kind}
 use Rattle.numbers.specs.declared.kind.Kind.the-variants.{Insert, Remove}

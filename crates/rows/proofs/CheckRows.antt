@@ -19,7 +19,7 @@ use Rattle.network.specs.Points.{lockers}
 use Rattle.network.specs.Nearest.{key, times}
 use Rattle.network.specs.Rows.{pad}
 use Rattle.network.proofs.Tests.{and-parts, and-intro, or-parts, or-cases, or-left, or-right, any-none, none-any, one-any, any-passes}
-use Rattle.network.proofs.Counts.{member-at, count-same}
+use Rattle.network.proofs.Counts.{member-at, count-same, count-up, count-still, count-without}
 use Rattle.network.proofs.Ordered.{ordered-at, key-pair}
 use Rattle.rows.specs.Exact.{Full, Sorted, Placed, stands, full}
 use Rattle.rows.specs.Flat.{unpadded, place, places}
@@ -131,34 +131,10 @@ unfolding among isId
 times-places xs ys p k =
     times-from xs ys p 0 k ∙ count-same (λ j. eqb (getD xs j 0) p) (λ j. eqb (getD xs (0 + j) 0) p) k (λ j l. rw (zero-add j))
 
--- one that passes is counted; a count that is not 0 counts one; it grows; it stays where no more pass
-count-has : (t : ℕ → Bool) (n x : ℕ) → x < n → t x ≡ true → 1 ≤ count t n
-unfolding count
-count-has t zero x h e = absurd (omega arith)
-count-has t (suc n) x h e =
-    ⊎-elim
-    (λ (q : x ≡ n). rw (← q, e) (omega arith))
-    (λ l. omega (arith, count-has t n x l e))
-    (eq-or-lt-of-le (le-of-suc-le-suc h))
-
-count-up : (t : ℕ → Bool) (m n : ℕ) → m ≤ n → count t m ≤ count t n
-unfolding count
-count-up t m zero h = let q : m ≡ 0 = omega arith in rw q (omega arith)
-count-up t m (suc n) h = ⊎-elim (λ (q : m ≡ suc n). rw q (omega arith)) (λ l. omega (arith, count-up t m n (le-of-suc-le-suc l))) (eq-or-lt-of-le h)
-
-count-still : (t : ℕ → Bool) (m n : ℕ) → m ≤ n → ((x : ℕ) → m ≤ x → x < n → t x ≡ false) → count t n ≡ count t m
-unfolding count
-count-still t m zero h f = let q : m ≡ 0 = omega arith in rw q
-count-still t m (suc n) h f =
-    ⊎-elim
-    (λ (q : m ≡ suc n). rw q)
-    (λ l. rw (f n (le-of-suc-le-suc l) (omega arith)) (omega (arith, count-still t m n (le-of-suc-le-suc l) (λ x a b. f x a (omega arith)))))
-    (eq-or-lt-of-le h)
-
 module _ (xs : List ℕ) (p : ℕ) where
   pub among-has : (n x : ℕ) → x < n → getD xs x 0 ≡ p → 1 ≤ among xs p n
   unfolding among isId
-  among-has n x h e = count-has (λ j. eqb (getD xs j 0) p) n x h (eq-eqb (getD xs x 0) p e)
+  among-has n x h e = omega (arith, count-without (λ j. eqb (getD xs j 0) p) x n h (eq-eqb (getD xs x 0) p e))
 
   pub among-up : (m n : ℕ) → m ≤ n → among xs p m ≤ among xs p n
   unfolding among

@@ -1,8 +1,8 @@
--- What a search from q has found where it has settled all that it comes to: with all the marks, and with some of them.
+-- What eager's search from q has found where it has settled all that it comes to.
 -- Assumes nothing.
 use Prim.Native.Nat.{ℕ, suc, _<_}
 use mathlib.Core.Path.{_≡_}
-use mathlib.Core.Bool.{true, false}
+use mathlib.Core.Bool.{true}
 use mathlib.Core.Logic.{_≢_}
 use mathlib.Core.List.{List}
 use native.Mathlib.Omega.{arith}
@@ -10,15 +10,13 @@ use Rattle.network.specs.Network.{Network, nodeCount}
 use Rattle.network.specs.Accepted.{Accepted}
 use Rattle.network.specs.Walk.{Walk}
 use Rattle.network.specs.Distance.{NONE, dist}
-use Rattle.network.specs.Points.{lockers, marked, countNearer, isListed, isExpanded}
+use Rattle.network.specs.Points.{lockers, countNearer, isListed, isExpanded}
 use Rattle.network.specs.Nearest.{key, Nearer, before}
 use borrow.Author.Tests.{ltb-true}
 use Rattle.network.proofs.Distances.{dist-walk, dist-symmetric}
 use Rattle.network.proofs.Rank.{Near, before-step, before-most}
-use Rattle.expansion.proofs.Origins.{one, one-lawful}
-use Rattle.expansion.proofs.Search.{Explored, closed-leads, finished}
-use Rattle.searches.proofs.Beaten.{Unbeaten, Part, unbeaten-closed, expanded-unbeaten}
-use Rattle.searches.proofs.Listed.{listed-parts, lazy-open}
+use Rattle.searches.proofs.Beaten.{Unbeaten, expanded-unbeaten}
+use Rattle.searches.proofs.Listed.{listed-parts}
 use Rattle.searches.proofs.Finds.{Met, eager-finds}
 
 -- a point does not come before itself
@@ -61,9 +59,3 @@ module _ {g : Network} (ok : Accepted g) (P : List ℕ) (q k : ℕ) (Settled : �
 pub come-expanded : {g : Network} → Accepted g → (P : List ℕ) (q k m : ℕ) {l : ℕ} → Walk g q m l → Unbeaten g P q k m → isExpanded g P q k m ≡ true
 come-expanded {g} ok P q k m walk n =
     expanded-unbeaten g P q k m .1 (omega (arith, dist-walk ok walk .some, dist-symmetric ok q m), n)
-
--- with some of the marks, M: each point that is listed is among them, or its node is settled
-pub lazy-finished : {g : Network} → Accepted g → (P M : List ℕ) (q k : ℕ) {Settled : ℕ → ℕ → Type 0} {Held : ℕ → ℕ → Type 0} → Explored g (one g q) (Unbeaten g M q k) Settled Held → ((u x : ℕ) → Held u x → ⊥) → Part M P → (p : ℕ) → isListed g P q k p ≡ true → marked M p ≡ false → Settled p (dist g q p)
-lazy-finished {g} ok P M q k e none sub p h new =
-    finished ok (closed-leads (one-lawful ok q) (unbeaten-closed ok M q k)) e none p (lazy-open g P M q k p h sub new)
-    (omega (arith, listed-parts g P q k p .0 h .reach, dist-symmetric ok q p))

@@ -22,18 +22,14 @@ use Rattle.numbers.specs.declared.answers.Rule.the-variants.{Answer}
 use Rattle.numbers.specs.declared.answers.Listed as call
 use Rattle.numbers.specs.declared.answers.Listed.the-variants as is
 use Rattle.site_calls.specs.Distances.{DistancesOutcome, distancesOutcome}
-use Rattle.numbers.specs.Numbers.{distancesNumber}
+use Rattle.numbers.specs.Numbers.{distancesNumber, nearestNumber, verifyNumber, searchNumber, limitedNumber, eagerNumber}
 use Rattle.site_calls.specs.Nearest.{NearestOutcome, nearestOutcome}
-use Rattle.numbers.specs.Numbers.{nearestNumber}
 use Rattle.site_calls.specs.Work.{NearestDone}
 use Rattle.site_calls.specs.Verify.{VerifyOutcome, verifyOutcome}
-use Rattle.numbers.specs.Numbers.{verifyNumber}
 use Rattle.numbers.specs.Conditions.{limitNumber}
 use Rattle.site_calls.specs.Searched.{SearchOutcome}
-use Rattle.numbers.specs.Numbers.{searchNumber}
 use Rattle.numbers.specs.Values.{listedListing}
 use Rattle.site_calls.specs.Eager.{EagerOutcome, limitedOutcome, visitsOutcome, eagerOutcome, shortOutcome, limitedListed}
-use Rattle.numbers.specs.Numbers.{limitedNumber, eagerNumber}
 use Rattle.site_calls.specs.Lazy.{lazyOutcome}
 use Rattle.site_calls.specs.Exported.{NearestExported, SearchExported, EagerExported}
 

@@ -7,35 +7,26 @@ use borrow.Author.Needs.{needs}
 use Rattle.lazy_searches.proofs.lazy.count_node.Statement.{statement}
 use Rattle.lazy_searches.proofs.lazy.count_node.Tie as tie
 
-abbrev wide-of : tie.After-is-nearer → tie.After-wide
-wide-of n = n .before .before .before
+abbrev near-of : tie.After-slice-known2 → tie.After-is-nearer
+near-of c = c .before .before .before
 
-wide-requires : tie.Need-wide-requires
-wide-requires c κs = search needs
+abbrev start-of : tie.After-is-nearer → tie.Start
+start-of n = n .before .before .before .before .before .before
 
-mul-near : tie.Need-mul-near
-mul-near c = search needs
+mul-label-of : tie.Need-mul-label-of
+mul-label-of c = search needs
 
-add-near : tie.Need-add-near
-add-near c = search needs
+label-of-requires : tie.Need-label-of-requires
+label-of-requires c κs = search needs
 
-mul-near-2 : tie.Need-mul-near-2
-mul-near-2 c = search needs
-
-slice-read-near : tie.Need-slice-read-near
-slice-read-near c = search needs
-
-add-word : tie.Need-add-word
-add-word c = search needs
-
-mul-word : tie.Need-mul-word
-mul-word c = search needs
-
-slice-read-word : tie.Need-slice-read-word
-slice-read-word c = search needs
+label-of-requires-2 : tie.Need-label-of-requires-2
+label-of-requires-2 c κs = search needs
 
 is-nearer-requires : tie.Need-is-nearer-requires
 is-nearer-requires c κs = search needs
+
+wide-requires : tie.Need-wide-requires
+wide-requires c κs = search needs
 
 mul-s : tie.Need-mul-s
 mul-s c = search needs
@@ -44,9 +35,7 @@ slice-read-s : tie.Need-slice-read-s
 slice-read-s c = search needs
 
 add-s : tie.Need-add-s
-add-s c =
-    let w = wide-of (c .before .before) in
-    record { fits = rw (w .wide .ensures) (omega (arith, w .before .before .pre .3)) }
+add-s c = record { fits = rw (c .before .wide .ensures) (omega (arith, start-of (near-of c) .pre .3)) }
 
 slice-write-s : tie.Need-slice-write-s
 slice-write-s c = search needs
@@ -56,9 +45,13 @@ same-length c = search needs
 
 returns : tie.Need-returns
 returns c =
-    let n = c .before .before in
-    let w = wide-of n in
-    rw (w .wide .ensures) (counted-more (omega (arith, w .before .before .pre .1)) (rw (w .wide .ensures) at (sym (n .is-nearer .ensures) ∙ c .before .if1 .taken)))
+    let n = near-of c in
+    let far = n .before in
+    let less = sym (n .is-nearer .ensures) ∙ c .before .before .if1 .taken in
+    rw (c .before .wide .ensures) (counted-more (far .before .before .label-of .ensures) (far .label-of2 .ensures) less (omega (arith, start-of n .pre .1)))
+
+same-length-2 : tie.Need-same-length-2
+same-length-2 c = search needs
 
 returns-2 : tie.Need-returns-2
 returns-2 c = counted-same
@@ -67,19 +60,16 @@ pub count-node-spec : {M : Type 1} → statement M
 count-node-spec =
     tie.close
     (tie.spec
-    wide-requires
-    mul-near
-    add-near
-    mul-near-2
-    slice-read-near
-    add-word
-    mul-word
-    slice-read-word
+    mul-label-of
+    label-of-requires
+    label-of-requires-2
     is-nearer-requires
+    wide-requires
     mul-s
     slice-read-s
     add-s
     slice-write-s
     same-length
     returns
+    same-length-2
     returns-2)

@@ -19,24 +19,24 @@ abbrev μ-loop : tie.MeasureT-loop
 loop-holds : tie.Need-loop-holds Inv-loop μ-loop
 loop-holds c = (omega arith, counted-none)
 
-mul-node : tie.Need-mul-node Inv-loop μ-loop
-mul-node c = search needs
+mul-settled-node : tie.Need-mul-settled-node Inv-loop μ-loop
+mul-settled-node c = search needs
 
-add-node : tie.Need-add-node Inv-loop μ-loop
-add-node c = search needs
-
-mul-node-2 : tie.Need-mul-node-2 Inv-loop μ-loop
-mul-node-2 c = search needs
-
-slice-read-node : tie.Need-slice-read-node Inv-loop μ-loop
-slice-read-node c = search needs
+settled-node-requires : tie.Need-settled-node-requires Inv-loop μ-loop
+settled-node-requires c κs =
+    let l = c .before .before in
+    let p = l .before .before .pre in
+    omega (arith, p .low, p .fits, p .few, l .loop .inv .1 .size, c .before .loop-test .taken)
 
 count-node-requires : tie.Need-count-node-requires Inv-loop μ-loop
 count-node-requires c κs =
-    let l = c .before .before .before in
+    let r = c .before in
+    let i = r .before .before in
+    let l = i .before in
     let p = l .before .before .pre in
     let w = l .loop .inv .1 in
-    (p .low, omega (arith, p .fits, w .size), place-node p w (c .before .before .loop-test .taken), place-small p w (c .before .before .loop-test .taken), p .bound)
+    let h = i .loop-test .taken in
+    (p .low, omega (arith, p .fits, w .size), omega (arith, r .settled-node .ensures, place-node p w h), rw (r .settled-node .ensures) (place-small p w h), p .bound)
 
 add-i : tie.Need-add-i Inv-loop μ-loop
 add-i c = search needs
@@ -47,9 +47,12 @@ loop-less c = search needs
 loop-again : tie.Need-loop-again Inv-loop μ-loop
 loop-again c =
     let n = c .before .before in
-    let i = n .before .before .before in
-    let l = i .before in
-    (omega (arith, i .loop-test .taken), counted-next (l .before .before .pre) (l .loop .inv .1) (i .loop-test .taken) (n .count-node .ensures))
+    let r = n .before .before in
+    let i = r .before .before in
+    let l = i .before in (
+      omega (arith, i .loop-test .taken),
+      counted-next (l .before .before .pre) (l .loop .inv .1) (i .loop-test .taken) (rw (r .settled-node .ensures) at (n .count-node .ensures)),
+    )
 
 same-length : tie.Need-same-length Inv-loop μ-loop
 same-length c = c .before .loop .inv .1 .size
@@ -67,10 +70,8 @@ count-visited-spec =
     Inv-loop
     μ-loop
     loop-holds
-    mul-node
-    add-node
-    mul-node-2
-    slice-read-node
+    mul-settled-node
+    settled-node-requires
     count-node-requires
     add-i
     loop-less

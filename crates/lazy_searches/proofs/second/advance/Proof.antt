@@ -1,13 +1,12 @@
 -- `lazy_searches::second::advance` meets its contract. The loop's invariant: `Advanced`. The measure is the work that is left: it falls by one where
 -- an entry leaves, and does not rise where its point comes to its node.
 -- Assumes nothing.
-use Prim.Native.Nat.{_+_, _-_, _<_}
-use lib.ListN.{length, getD, length-drop}
+use Prim.Native.Nat.{_-_, _<_}
 use borrow.Author.Tests.{ltb-true}
 use native.Mathlib.Omega.{arith}
 use Rattle.network.specs.Network.{network}
 use Rattle.expansion.specs.Tags.{tagNode, tagParent}
-use Rattle.lazy_searches.specs.Second.{secondBase, work, Admitted, Advanced}
+use Rattle.lazy_searches.specs.Second.{work, Admitted, Advanced}
 use Rattle.lazy_searches.proofs.SecondLaws.{advanced-none, popped-second, popped-point, popped-node, popped-low, advanced-more, advanced-less}
 use borrow.Author.Needs.{needs}
 use Rattle.lazy_searches.proofs.second.advance.Statement.{statement}
@@ -23,7 +22,7 @@ abbrev start-of : tie.At-loop Inv-loop μ-loop → tie.Start Inv-loop μ-loop
 start-of l = l .before .before .before .before .before
 
 abbrev loop-of : tie.After-pop-at Inv-loop μ-loop → tie.At-loop Inv-loop μ-loop
-loop-of p = p .before .before .before .before .before
+loop-of p = p .before .before .before .before .before .before
 
 abbrev pop-of : tie.After-tag-parent Inv-loop μ-loop → tie.After-pop-at Inv-loop μ-loop
 pop-of t = t .before .before .before .before
@@ -34,15 +33,10 @@ fits p = omega arith
 -- the distance of the entry that left
 near : (p : tie.After-pop-at Inv-loop μ-loop) → p .pop-at .result .distance < start-of (loop-of p) .args .l
 near p =
-    let l = loop-of p in
-    let a = start-of l .args in
     let i = p .before .before in
-    let word = i .before .slice-known2 .given (secondBase (length (a .starts .now) - 1) (a .k)) in
-    omega (
-      arith,
-      popped-low (p .pop-at .result .distance) (p .pop-at .result .tag) (l .loop .inv) (p .pop-at .ensures) (fits p) (i .before .before .loop-test .taken) (omega (arith, word)),
-      ltb-true (getD (l .loop .s) (secondBase (length (a .starts .now) - 1) (a .k) + 1) 0) (a .l) (i .if1 .taken),
-    )
+    let q = i .before in
+    let r = p .pop-at .result in
+    omega (arith, popped-low (r .distance) (r .tag) (loop-of p .loop .inv) (p .pop-at .ensures) (fits p) (q .least-at .ensures), ltb-true (q .least-at .result) (start-of (loop-of p) .args .l) (i .if1 .taken))
 
 -- its point has come to its node
 came : (m : tie.After-admit Inv-loop μ-loop)
@@ -68,18 +62,8 @@ add-at c = search needs
 loop-holds : tie.Need-loop-holds Inv-loop μ-loop
 loop-holds c = advanced-none (c .before .before .before .before .pre .second)
 
-add-if1 : tie.Need-add-if1 Inv-loop μ-loop
-add-if1 c = search needs
-
-mul-if1 : tie.Need-mul-if1 Inv-loop μ-loop
-mul-if1 c = search needs
-
-slice-read-if1 : tie.Need-slice-read-if1 Inv-loop μ-loop
-slice-read-if1 c =
-    let l = c .before .before in
-    let a = start-of l .args in
-    let s = l .loop .inv .second in
-    omega (arith, s .fits, s .queue .room, length-drop (secondBase (length (a .starts .now) - 1) (a .k)) (l .loop .s), c .before .loop-test .taken)
+least-at-requires : tie.Need-least-at-requires Inv-loop μ-loop
+least-at-requires c κs = search needs
 
 pop-at-requires : tie.Need-pop-at-requires Inv-loop μ-loop
 pop-at-requires c κs = search needs
@@ -113,7 +97,7 @@ loop-less c =
     let m = c .before .before in
     let p = pop-of (m .before .before) in
     let r = p .pop-at .result in
-    advanced-less (r .distance) (r .tag) (loop-of p .loop .inv) (p .pop-at .ensures) (fits p) (came m) (p .before .before .before .before .loop-test .taken)
+    advanced-less (r .distance) (r .tag) (loop-of p .loop .inv) (p .pop-at .ensures) (fits p) (came m) (p .before .before .before .before .before .loop-test .taken)
 
 loop-again : tie.Need-loop-again Inv-loop μ-loop
 loop-again c =
@@ -145,9 +129,7 @@ advance-spec =
     mul-at-2
     add-at
     loop-holds
-    add-if1
-    mul-if1
-    slice-read-if1
+    least-at-requires
     pop-at-requires
     tag-node-requires
     tag-parent-requires

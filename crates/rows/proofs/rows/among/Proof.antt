@@ -1,11 +1,10 @@
 -- `rows::rows::among` meets its contract. The invariant: so many of the places before j hold p. The measure is what is left of the places.
 -- Assumes nothing.
-use Rattle.rows.proofs.CheckTests.{among-turn, among-end}
+use Rattle.rows.proofs.CheckTests.{among-turn, among-end, among-start}
 use Prim.Native.Nat.{_-_, _≤_}
 use mathlib.Core.Path.{_≡_, sym}
 use native.Mathlib.Omega.{arith}
 use Rattle.rows.specs.Check.{among}
-use Rattle.rows.proofs.CheckTests.{among-start}
 use borrow.Author.Needs.{needs}
 use Rattle.rows.proofs.rows.among.Statement.{statement}
 use Rattle.rows.proofs.rows.among.Tie as tie

@@ -8,8 +8,6 @@ use Rattle.rows.proofs.TakeLaws.{point-more}
 use borrow.Author.Needs.{needs}
 use Rattle.rows.proofs.take.place_of_point.Statement.{statement}
 use Rattle.rows.proofs.take.place_of_point.Tie as tie
-use Rattle.rows.proofs.take.place_of_point.Reads as reads
-use Rattle.rows.proofs.take.place_of_point.Lts as lts
 
 abbrev Inv-loop : tie.InvT-loop
 Inv-loop ids p at₀ at = (at ≤ length ids) × ((j : _) → j < at → getD ids j 0 ≢ p)

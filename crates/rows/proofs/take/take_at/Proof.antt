@@ -5,8 +5,6 @@ use Rattle.rows.proofs.TakeLaws.{Shifting, shift-none, shift-more, shif
 use borrow.Author.Needs.{needs}
 use Rattle.rows.proofs.take.take_at.Statement.{statement}
 use Rattle.rows.proofs.take.take_at.Tie as tie
-use Rattle.rows.proofs.take.take_at.Reads as reads
-use Rattle.rows.proofs.take.take_at.Lts as lts
 
 abbrev Inv-loop : tie.InvT-loop
 Inv-loop row₀ place held₀ at₀ row held at = Shifting row₀ row place at held

@@ -4,8 +4,6 @@ use Rattle.rows.proofs.RowLends.{taken-out-of-row}
 use borrow.Author.Needs.{needs}
 use Rattle.rows.proofs.take.take_out_of_row.Statement.{statement}
 use Rattle.rows.proofs.take.take_out_of_row.Tie as tie
-use Rattle.rows.proofs.take.take_out_of_row.Reads as reads
-use Rattle.rows.proofs.take.take_out_of_row.Lts as lts
 use Rattle.rows.proofs.take.take_out.Reads as take-out-reads
 
 -- src/take.rt:60:13

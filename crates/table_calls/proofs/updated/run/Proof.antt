@@ -9,8 +9,7 @@ use Rattle.network.specs.Network.{Network, network, nodeCount, arcCount}
 use Rattle.expansion.specs.Area.{Blank}
 use Rattle.numbers.specs.declared.kind.Kind.{Kind}
 use Rattle.numbers.specs.declared.kind.Kind.the-variants.{Insert, Remove}
-use Rattle.numbers.specs.Ready.{TableReady}
-use Rattle.numbers.specs.Ready.{KindReady}
+use Rattle.numbers.specs.Ready.{TableReady, KindReady}
 use Rattle.table_calls.specs.Work.{CanChange}
 use Rattle.numbers.proofs.Ready.{ready-same}
 use Rattle.numbers.proofs.Cleared.{zero-length, part-blank, part-wiped}

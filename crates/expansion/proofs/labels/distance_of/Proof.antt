@@ -1,4 +1,4 @@
--- `expansion::distances::distance_of` meets its contract: each return is what its test says.
+-- `expansion::labels::distance_of` meets its contract: each return is what its test says.
 -- Assumes nothing.
 use Prim.Native.Nat.{ℕ, _-_, _≤_, _<_}
 use mathlib.Core.Path.{_≡_}
@@ -7,8 +7,8 @@ use borrow.Author.Tests.{le-leb, lt-leb}
 use borrow.Author.Needs.{needs}
 use Rattle.network.specs.Distance.{NONE}
 use Rattle.expansion.specs.Expand.{wordDistance}
-use Rattle.expansion.proofs.distances.distance_of.Statement.{statement}
-use Rattle.expansion.proofs.distances.distance_of.Tie as tie
+use Rattle.expansion.proofs.labels.distance_of.Statement.{statement}
+use Rattle.expansion.proofs.labels.distance_of.Tie as tie
 
 no-word : (n word v : ℕ) → word ≤ n → v ≡ NONE → v ≡ wordDistance n word
 unfolding wordDistance

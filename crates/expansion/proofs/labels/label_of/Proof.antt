@@ -1,12 +1,12 @@
--- `expansion::nearest::label_of` meets its contract: the word that it reads is the seat of the node.
+-- `expansion::labels::label_of` meets its contract: the word that it reads is the seat of the node.
 -- Assumes nothing.
 use Prim.Native.Nat.{ℕ, _+_}
 use mathlib.Core.Path.{ap, _∙_}
 use lib.ListN.{getD}
 use Rattle.expansion.specs.Expand.{wordDistance}
 use borrow.Author.Needs.{needs}
-use Rattle.expansion.proofs.nearest.label_of.Statement.{statement}
-use Rattle.expansion.proofs.nearest.label_of.Tie as tie
+use Rattle.expansion.proofs.labels.label_of.Statement.{statement}
+use Rattle.expansion.proofs.labels.label_of.Tie as tie
 
 wide-requires : tie.Need-wide-requires
 wide-requires c κs = search needs
