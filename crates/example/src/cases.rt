@@ -1,13 +1,12 @@
 // The cases P1 to P10 of document 01.
-use crate::network_n;
-use crate::network_n::POINTS;
-use crate::network_n::WEIGHTS;
-use crate::rows::put_row;
-use crate::text::put;
-use crate::text::put_answer;
-use crate::text::put_list;
-use crate::text::put_number;
 use network::arcs::wide;
+use network_n::POINTS;
+use network_n::WEIGHTS;
+use network_n::rows::put_row;
+use network_n::text::put;
+use network_n::text::put_answer;
+use network_n::text::put_list;
+use network_n::text::put_number;
 use overlap::Listing;
 
 // A limit that no count exceeds.

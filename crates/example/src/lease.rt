@@ -1,13 +1,12 @@
 // The lease list of network N: for each junction as a site, the lockers that it pays overflow rent, by all four searches. For k = 2 the table query
 // needs K = 3.
-use crate::network_n;
-use crate::network_n::POINTS;
-use crate::network_n::WEIGHTS;
-use crate::same::same;
-use crate::text::put;
-use crate::text::put_entry;
-use crate::text::put_list;
-use crate::text::put_number;
+use network_n::POINTS;
+use network_n::WEIGHTS;
+use network_n::same::same;
+use network_n::text::put;
+use network_n::text::put_entry;
+use network_n::text::put_list;
+use network_n::text::put_number;
 use overlap::Listing;
 
 // A list as a person says it: "locker 2", "lockers 2 and 4". No list is longer than 6.

@@ -1,14 +1,10 @@
 // Network N of document 01 through every public call, with its cases P1 to P10, the lease list and the twelve refusals.
-use text::put;
+use network_n::text::put;
 
 mod cases;
 mod lease;
-mod network_n;
 mod queries;
 mod refusals;
-mod rows;
-mod same;
-mod text;
 mod updates;
 
 fn show_network() {

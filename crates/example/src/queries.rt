@@ -1,11 +1,10 @@
 // The network check, distances, nearest and verify on network N.
 ghost use Prim.Native.Nat.{_<_};
-use crate::network_n;
-use crate::text::put;
-use crate::text::put_answer;
-use crate::text::put_number;
-use crate::text::put_refusal;
-use crate::text::put_verdict;
+use network_n::text::put;
+use network_n::text::put_answer;
+use network_n::text::put_number;
+use network_n::text::put_refusal;
+use network_n::text::put_verdict;
 use overlap::Listing;
 
 pub fn show_check() {

@@ -1,12 +1,11 @@
 // The twelve numbers of refusal, each with the example that document 01 gives, 6 and 11 with those of Ask 8.
-use crate::network_n;
-use crate::network_n::NEIGHBOURS;
-use crate::network_n::POINTS;
-use crate::network_n::SCRATCH;
-use crate::network_n::STARTS;
-use crate::network_n::WEIGHTS;
-use crate::text::put;
-use crate::text::put_refusal;
+use network_n::NEIGHBOURS;
+use network_n::POINTS;
+use network_n::SCRATCH;
+use network_n::STARTS;
+use network_n::WEIGHTS;
+use network_n::text::put;
+use network_n::text::put_refusal;
 
 fn show(example: &[u8], number: u32) {
     put(example);

@@ -1,12 +1,11 @@
 // The table of network N, K = 2: build, insert, remove and the table check.
-use crate::network_n;
-use crate::network_n::POINTS;
-use crate::rows::show_rows;
-use crate::same::same;
-use crate::text::put;
-use crate::text::put_number;
-use crate::text::put_refusal;
-use crate::text::put_verdict;
+use network_n::POINTS;
+use network_n::rows::show_rows;
+use network_n::same::same;
+use network_n::text::put;
+use network_n::text::put_number;
+use network_n::text::put_refusal;
+use network_n::text::put_verdict;
 use overlap::Update;
 
 fn show_table_check(points: &[u8; 6], ids: &[u32; 12], distances: &[u32; 12]) {

@@ -18,7 +18,7 @@ use Rattle.table_calls.specs.Updated.{Arrays, ChangeExported}
 use Rattle.table_calls.proofs.Outcomes.{change-refused, change-accepted}
 use Rattle.demands.specs.Book.{Call}
 use Rattle.demands.specs.Demand3.{Run, ends, call, foreign}
-use Rattle.replay.specs.declared.replay.CallWords.{CallWords}
+use Rattle.replay.specs.declared.CallWords.{CallWords}
 use Rattle.replay.specs.Calls.{CallArrays, kindOf, callAt, callsBelow}
 use Rattle.replay.specs.Outcome.{Lent}
 use Rattle.replay.specs.Followed.{wordsAt, ListFits, CallsFollowed}

@@ -17,7 +17,7 @@ use Rattle.network.proofs.Tests.{or-parts, any-none}
 use Rattle.numbers.specs.declared.answers.Update.{Update}
 use Rattle.table_calls.specs.Build.{BuildOutcome, buildOutcome}
 use Rattle.demands.proofs.Demand3.{demand}
-use Rattle.replay.specs.declared.replay.ReplayAnswer.the-variants.{Unfit, Refused, Replayed}
+use Rattle.replay.specs.declared.ReplayAnswer.the-variants.{Unfit, Refused, Replayed}
 use Rattle.replay.specs.Calls.{CallArrays, callsOf}
 use Rattle.replay.specs.Outcome.{Lent, Outcome, asksMoreAt, isUnfit, unfitOf, buildOf, replayOutcome}
 use Rattle.replay.specs.Followed.{ListFits, CallsFollowed}

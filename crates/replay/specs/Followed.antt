@@ -7,7 +7,7 @@ use lib.ListN.{length, getD, drop, replicate}
 use Rattle.network.specs.Network.{Network}
 use Rattle.numbers.specs.declared.answers.Update.{Update}
 use Rattle.demands.specs.Demand3.{Run}
-use Rattle.replay.specs.declared.replay.CallWords.{CallWords}
+use Rattle.replay.specs.declared.CallWords.{CallWords}
 use Rattle.replay.specs.Calls.{CallArrays, callsBelow}
 use Rattle.replay.specs.Outcome.{Lent}
 

@@ -11,8 +11,8 @@ use Rattle.network.specs.Rows.{tableIds, tableDistances}
 use Rattle.numbers.specs.declared.answers.Update.{Update}
 use Rattle.numbers.specs.Numbers.{buildNumber}
 use Rattle.demands.specs.Book.{Call, bookAnswers, bookMarks}
-use Rattle.replay.specs.declared.replay.ReplayAnswer.{ReplayAnswer}
-use Rattle.replay.specs.declared.replay.ReplayAnswer.the-variants.{Unfit, Refused, Replayed}
+use Rattle.replay.specs.declared.ReplayAnswer.{ReplayAnswer}
+use Rattle.replay.specs.declared.ReplayAnswer.the-variants.{Unfit, Refused, Replayed}
 use Rattle.replay.specs.Calls.{CallArrays, callsOf}
 
 -- the arrays that a replay may write

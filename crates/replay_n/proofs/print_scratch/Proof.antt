@@ -1,11 +1,11 @@
--- `replay::print_scratch` is safe and ends: the count is at most the index.
+-- `replay_n::print_scratch` is safe and ends: the count is at most the index.
 -- Assumes nothing.
 use Prim.Native.Nat.{_-_, _≤_}
 use mathlib.Core.Logic.{⊎-elim}
 use native.Mathlib.Omega.{arith}
 use borrow.Author.Needs.{needs}
-use Rattle.replay.proofs.print_scratch.Statement.{statement}
-use Rattle.replay.proofs.print_scratch.Tie as tie
+use Rattle.replay_n.proofs.print_scratch.Statement.{statement}
+use Rattle.replay_n.proofs.print_scratch.Tie as tie
 
 abbrev Inv-loop : tie.InvT-loop
 Inv-loop scratch used₀ i₀ t4 t5 used i = (i ≤ 360) × (used ≤ i)

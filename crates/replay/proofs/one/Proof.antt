@@ -1,9 +1,9 @@
--- `replay::replay::one` meets its contract: the word of the kind picks the call, whose contract it is.
+-- `replay::one` meets its contract: the word of the kind picks the call, whose contract it is.
 -- Assumes nothing.
 use Rattle.replay.proofs.Following.{insert-word, remove-word}
 use borrow.Author.Needs.{needs}
-use Rattle.replay.proofs.replay.one.Statement.{statement}
-use Rattle.replay.proofs.replay.one.Tie as tie
+use Rattle.replay.proofs.one.Statement.{statement}
+use Rattle.replay.proofs.one.Tie as tie
 
 overlap-insert-requires : tie.Need-overlap-insert-requires
 overlap-insert-requires c κs = search needs

@@ -1,9 +1,9 @@
--- `replay::print_marks` is safe and ends: the index of a mark is below 6.
+-- `replay_n::print_marks` is safe and ends: the index of a mark is below 6.
 -- Assumes nothing.
 use Prim.Native.Nat.{_-_, _≤_}
 use borrow.Author.Needs.{needs}
-use Rattle.replay.proofs.print_marks.Statement.{statement}
-use Rattle.replay.proofs.print_marks.Tie as tie
+use Rattle.replay_n.proofs.print_marks.Statement.{statement}
+use Rattle.replay_n.proofs.print_marks.Tie as tie
 
 abbrev Inv-loop : tie.InvT-loop
 Inv-loop points i₀ t4 i = i ≤ 6

@@ -1,4 +1,4 @@
--- `replay::replay::asks_more` meets its contract. The invariant: no call before j asks more than is lent. The measure is what is left of the calls.
+-- `replay::asks_more` meets its contract. The invariant: no call before j asks more than is lent. The measure is what is left of the calls.
 -- Assumes nothing.
 use Prim.Native.Nat.{_-_, _≤_}
 use mathlib.Core.Path.{_≡_}
@@ -9,8 +9,8 @@ use Rattle.network.specs.Count.{any}
 use Rattle.network.proofs.Tests.{any-start, any-more, found, not-found}
 use Rattle.replay.specs.Outcome.{asksMoreAt}
 use borrow.Author.Needs.{needs}
-use Rattle.replay.proofs.replay.asks_more.Statement.{statement}
-use Rattle.replay.proofs.replay.asks_more.Tie as tie
+use Rattle.replay.proofs.asks_more.Statement.{statement}
+use Rattle.replay.proofs.asks_more.Tie as tie
 
 abbrev Inv-loop : tie.InvT-loop
 Inv-loop lengths scratch j₀ j = (j ≤ length lengths) × (any (asksMoreAt scratch lengths) j ≡ false)

@@ -1,8 +1,13 @@
 // Network N of document 01, and each public call on it, with scratch for a k or K of 3, the largest here; eager, verify and the short query need less.
-// Insert, remove and the table check are lent a table with K = 2.
+// Insert, remove and the table check are lent a table with K = 2. And what the programs on N share: how they write, its rows, and whether two arrays are
+// the same.
 use overlap::Listing;
 use overlap::Update;
 use overlap::Verdict;
+
+pub mod rows;
+pub mod same;
+pub mod text;
 
 // Six nodes, roads 0-1 of 4, 0-3 of 5, 1-2 of 3, 2-4 of 7, 3-4 of 3; node 5 alone.
 pub const STARTS: [u32; 7] = [0, 2, 4, 6, 8, 10, 10];

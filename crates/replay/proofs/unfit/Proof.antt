@@ -1,10 +1,10 @@
--- `replay::replay::unfit` meets its contract: each return is what its tests say.
+-- `replay::unfit` meets its contract: each return is what its tests say.
 -- Assumes nothing.
 use borrow.Author.Tests.{eq-eqb, ne-eqb}
 use Rattle.replay.specs.Outcome.{isUnfit}
 use borrow.Author.Needs.{needs}
-use Rattle.replay.proofs.replay.unfit.Statement.{statement}
-use Rattle.replay.proofs.replay.unfit.Tie as tie
+use Rattle.replay.proofs.unfit.Statement.{statement}
+use Rattle.replay.proofs.unfit.Tie as tie
 
 returns : tie.Need-returns
 unfolding isUnfit

@@ -1,9 +1,9 @@
 // Replays lists of calls on network N of document 01, and prints what comes out of each.
 ghost use Prim.Native.Nat.{_≤_, _<_};
 ghost use lib.ListN.{length};
-
-mod replay;
-
+use network_n::NEIGHBOURS;
+use network_n::STARTS;
+use network_n::WEIGHTS;
 use replay::ReplayAnswer;
 
 // Build with K = places and the calls, on network N.
@@ -20,13 +20,10 @@ fn on_n(
     numbers: &mut [u32],
     counts: &mut [u32],
 ) -> ReplayAnswer {
-    let starts = [0u32, 2, 4, 6, 8, 10, 10];
-    let neighbours = [1u32, 3, 0, 2, 1, 4, 0, 4, 2, 3];
-    let weights = [4u32, 5, 4, 3, 3, 7, 5, 3, 7, 3];
     replay::replay(
-        &starts,
-        &neighbours,
-        &weights,
+        &STARTS,
+        &NEIGHBOURS,
+        &WEIGHTS,
         points,
         places,
         scratch,

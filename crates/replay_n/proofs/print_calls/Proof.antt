@@ -1,10 +1,10 @@
--- `replay::print_calls` is safe and ends: the index of a call is below their number.
+-- `replay_n::print_calls` is safe and ends: the index of a call is below their number.
 -- Assumes nothing.
 use Prim.Native.Nat.{_-_, _≤_}
 use lib.ListN.{length}
 use borrow.Author.Needs.{needs}
-use Rattle.replay.proofs.print_calls.Statement.{statement}
-use Rattle.replay.proofs.print_calls.Tie as tie
+use Rattle.replay_n.proofs.print_calls.Statement.{statement}
+use Rattle.replay_n.proofs.print_calls.Tie as tie
 
 abbrev Inv-loop : tie.InvT-loop
 Inv-loop kinds nodes numbers counts j₀ j = j ≤ length kinds

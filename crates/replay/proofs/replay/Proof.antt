@@ -1,4 +1,4 @@
--- `replay::replay::replay` meets its contract: an unfit list, a refused build, or the run of all calls, of which demand 3 speaks.
+-- `replay::replay` meets its contract: an unfit list, a refused build, or the run of all calls, of which demand 3 speaks.
 -- Assumes nothing.
 use mathlib.Core.Path.{_≡_, sym, _∙_}
 use mathlib.Core.Bool.{false}
@@ -8,8 +8,8 @@ use Rattle.replay.specs.Calls.{CallArrays}
 use Rattle.replay.specs.Outcome.{Lent, unfitOf}
 use Rattle.replay.proofs.Outcomes.{replay-unfit, replay-refused, replay-fit, replay-done}
 use borrow.Author.Needs.{needs}
-use Rattle.replay.proofs.replay.replay.Statement.{statement}
-use Rattle.replay.proofs.replay.replay.Tie as tie
+use Rattle.replay.proofs.replay.Statement.{statement}
+use Rattle.replay.proofs.replay.Tie as tie
 
 abbrev G : tie.Start → Network
 G s = network (s .args .starts .now) (s .args .neighbours .now) (s .args .weights .now)

@@ -1,9 +1,9 @@
--- `example::text::put_list` is safe and ends. The measure is how many entries are left.
+-- `network_n::text::put_list` is safe and ends. The measure is how many entries are left.
 -- Assumes nothing.
 use borrow.Author.Needs.{needs}
 use Prim.Native.Nat.{_-_}
-use Rattle.example.proofs.text.put_list.Statement.{statement}
-use Rattle.example.proofs.text.put_list.Tie as tie
+use Rattle.network_n.proofs.text.put_list.Statement.{statement}
+use Rattle.network_n.proofs.text.put_list.Tie as tie
 
 abbrev Inv-loop : tie.InvT-loop
 Inv-loop list count i₀ i = Unit {0}

@@ -1,4 +1,4 @@
--- `replay::replay::follow` meets its contract. The invariant: the calls before j are followed. The measure is what is left of the calls.
+-- `replay::follow` meets its contract. The invariant: the calls before j are followed. The measure is what is left of the calls.
 -- Assumes nothing.
 use Prim.Native.Nat.{_+_, _*_, _-_, _≤_, _<_}
 use mathlib.Core.Path.{_≡_, ap}
@@ -6,11 +6,11 @@ use native.Mathlib.Omega.{arith}
 use lib.ListN.{length, length-take}
 use Rattle.table_calls.specs.Updated.{Arrays}
 use Rattle.network.specs.Network.{network}
-use Rattle.replay.specs.declared.replay.CallWords.{CallWords}
+use Rattle.replay.specs.declared.CallWords.{CallWords}
 use Rattle.replay.proofs.Following.{Before, none-before, one-more}
 use borrow.Author.Needs.{needs}
-use Rattle.replay.proofs.replay.follow.Statement.{statement}
-use Rattle.replay.proofs.replay.follow.Tie as tie
+use Rattle.replay.proofs.follow.Statement.{statement}
+use Rattle.replay.proofs.follow.Tie as tie
 
 abbrev Inv-loop : tie.InvT-loop
 Inv-loop starts neighbours weights points₀ scratch₀ ids₀ distances₀ kinds nodes each-places lengths numbers₀ counts₀ j₀ points scratch ids distances numbers counts j =

@@ -1,4 +1,4 @@
--- `example::same::same` meets its contract. The loop's invariant: the lengths are equal, and so are the entries passed. The measure is how many
+-- `network_n::same::same` meets its contract. The loop's invariant: the lengths are equal, and so are the entries passed. The measure is how many
 -- are left.
 -- Assumes nothing.
 use mathlib.Core.Path.{_≡_, refl, ap}
@@ -12,8 +12,8 @@ use lib.ListN.{length, getD}
 use lib.Seq.{ext-getD}
 use denote.Ref.{now}
 use borrow.Author.Needs.{needs}
-use Rattle.example.proofs.same.same.Statement.{statement}
-use Rattle.example.proofs.same.same.Tie as tie
+use Rattle.network_n.proofs.same.same.Statement.{statement}
+use Rattle.network_n.proofs.same.same.Tie as tie
 
 abbrev Inv-loop : tie.InvT-loop
 Inv-loop a b i₀ i = (length a ≡ length b) × (i ≤ length a) × ((j : ℕ) → j < i → getD a j 0 ≡ getD b j 0)

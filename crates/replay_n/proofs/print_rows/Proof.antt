@@ -1,9 +1,9 @@
--- `replay::print_rows` is safe and ends: a row's two places are below 12.
+-- `replay_n::print_rows` is safe and ends: a row's two places are below 12.
 -- Assumes nothing.
 use Prim.Native.Nat.{_-_, _≤_}
 use borrow.Author.Needs.{needs}
-use Rattle.replay.proofs.print_rows.Statement.{statement}
-use Rattle.replay.proofs.print_rows.Tie as tie
+use Rattle.replay_n.proofs.print_rows.Statement.{statement}
+use Rattle.replay_n.proofs.print_rows.Tie as tie
 
 abbrev Inv-loop : tie.InvT-loop
 Inv-loop ids distances i₀ t5 t6 i = i ≤ 6

@@ -1,9 +1,9 @@
--- `example::rows::show_rows` is safe and ends. The measure is how many rows are left.
+-- `network_n::rows::show_rows` is safe and ends. The measure is how many rows are left.
 -- Assumes nothing.
 use borrow.Author.Needs.{needs}
 use Prim.Native.Nat.{_-_}
-use Rattle.example.proofs.rows.show_rows.Statement.{statement}
-use Rattle.example.proofs.rows.show_rows.Tie as tie
+use Rattle.network_n.proofs.rows.show_rows.Statement.{statement}
+use Rattle.network_n.proofs.rows.show_rows.Tie as tie
 
 abbrev Inv-loop : tie.InvT-loop
 Inv-loop ids distances node₀ node = Unit {0}
