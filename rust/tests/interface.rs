@@ -6,7 +6,7 @@ use std::collections::BTreeMap;
 const HEADER: &str = include_str!("../../include/overlap.h");
 const WRAPPER: &str = include_str!("../src/calls/ffi.rs");
 const ENGINE: &str = include_str!("../../crates/overlap/src/lib.rt");
-const ANSWERS: &str = include_str!("../../crates/numbers/src/answers.rt");
+const ANSWERS: &str = include_str!("../../crates/conditions/src/answers.rt");
 
 /// A parameter or field: its name and its type, as Rust writes it.
 type Typed = (String, String);

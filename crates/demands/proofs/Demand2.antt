@@ -16,9 +16,9 @@ use Rattle.network.proofs.Counts.{select-ascending}
 use Rattle.network.proofs.Visits.{visits-count}
 use Rattle.rows.specs.Check.{sameTable}
 use Rattle.rows.proofs.CheckTable.{is-table}
-use Rattle.numbers.specs.declared.answers.Listing.{Listing}
+use Rattle.conditions.specs.declared.answers.Listing.{Listing}
 use Rattle.numbers.specs.Numbers.{limitedNumber, tableCheckNumber, tableQueryNumber}
-use Rattle.numbers.specs.Values.{ruleVerdict}
+use Rattle.conditions.specs.Values.{ruleVerdict}
 use Rattle.numbers.proofs.Ready.{limited-ready, eager-ready, search-ready, table-query-ready}
 use Rattle.site_calls.specs.Eager.{shortOutcome}
 use Rattle.table_calls.specs.TableCheck.{tableCheckAnswer}

@@ -5,7 +5,7 @@ use Prim.Native.Nat.{ℕ, _+_, _-_, _*_, _≤_, _<_}
 use mathlib.Core.Path.{_≡_, refl, sym, ap, _∙_}
 use mathlib.Core.Bool.{false, not, _||_}
 use mathlib.Core.Logic.{_≢_, ⊎-elim}
-use mathlib.Core.List.{List, [], _∷_, _++_}
+use mathlib.Core.List.{List, [], _∷_}
 use native.Mathlib.Decide.{ℕ-discrete, decLt}
 use native.Mathlib.Nat.{mul-le-mul-left}
 use native.Mathlib.Omega.{arith}
@@ -28,35 +28,23 @@ use Rattle.rows.specs.Flat.{Sized, IsTable}
 use Rattle.rows.proofs.Laid.{table-sizes}
 use Rattle.searches.specs.Eager.{eagerWords}
 use Rattle.searches.proofs.Expanded.{expanded-most}
-use Rattle.numbers.specs.declared.answers.Update.{Update}
-use Rattle.numbers.specs.declared.answers.Listing.{Listing}
-use Rattle.numbers.specs.declared.kind.Kind.{Kind}
-use Rattle.numbers.specs.declared.kind.Kind.the-variants.{Insert, Remove}
-use Rattle.numbers.specs.Conditions.{firstNumber, badByteAt, pointsNumber, nodeNumber, kNumber, tableNumber, tableKNumber, shortNumber, scratchWords}
-use Rattle.numbers.specs.Numbers.{networkPointsNumber, siteNumber, queryNumber, tableCheckNumber, tableNodeNumber, buildNumber, tableQueryNumber, searchNumber, limitedNumber, eagerNumber, kindNumber, changeNumber}
+use Rattle.conditions.specs.declared.answers.Update.{Update}
+use Rattle.conditions.specs.declared.answers.Listing.{Listing}
+use Rattle.conditions.specs.declared.kind.Kind.{Kind}
+use Rattle.conditions.specs.declared.kind.Kind.the-variants.{Insert, Remove}
+use Rattle.conditions.specs.Conditions.{firstNumber, badByteAt, pointsNumber, nodeNumber, kNumber, tableNumber, tableKNumber, shortNumber, scratchWords, kindNumber}
+use Rattle.numbers.specs.Numbers.{networkPointsNumber, siteNumber, queryNumber, tableCheckNumber, tableNodeNumber, buildNumber, tableQueryNumber, searchNumber, limitedNumber, eagerNumber, changeNumber}
 use Rattle.site_calls.specs.Eager.{limitedOutcome, shortOutcome}
 use Rattle.site_calls.specs.Exported.{SearchExported}
 use Rattle.table_calls.specs.Build.{BuildOutcome, buildOutcome}
 use Rattle.table_calls.specs.Updated.{kindMarks, Arrays, ChangeExported}
 use Rattle.demands.specs.Book.{Call, bookNumber, bookCall, bookAnswers, bookMarks}
 use Rattle.demands.specs.Demand3.{OursAfter, Run, ends, call, foreign, Quotes, Agree, EagerCall, SameSteps, demand-3}
-use Rattle.numbers.proofs.Ready.{first-is, first-later, first-none, first-zero, number-none, points-ready, node-ready, table-ready, kind-ready, eager-ready}
+use Rattle.numbers.proofs.Ready.{kind-ready, eager-ready}
+use Rattle.conditions.proofs.NotMet.{first-skip, first-first, first-none, first-zero, number-none, points-ready, node-ready, table-ready}
 use Rattle.site_calls.proofs.Outcomes.{limited-done, visits-done, eager-search, eager-visits, lazy-done}
 use Rattle.table_calls.proofs.Outcomes.{build-done, change-refused, change-accepted, query-accepted}
 use Rattle.demands.proofs.Said.{eager-said}
-
--- a number of 0 is passed over; the first number of several stands for them
-first-skip : (x : ℕ) (xs : List ℕ) → x ≡ 0 → firstNumber (x ∷ xs) ≡ firstNumber xs
-first-skip x xs e = sym (first-later x xs x (firstNumber xs) refl e refl)
-
-first-first : (xs ys : List ℕ) → firstNumber (firstNumber xs ∷ ys) ≡ firstNumber (xs ++ ys)
-first-first [] ys = first-skip (firstNumber []) ys (sym first-none)
-first-first (x ∷ xs) ys =
-    elim (ℕ-discrete x 0) [
-      | yes e ↦
-          ap (λ (z : ℕ). firstNumber (z ∷ ys)) (first-skip x xs e) ∙ first-first xs ys ∙ sym (first-skip x (xs ++ ys) e)
-      | no n ↦ sym (first-is (firstNumber (x ∷ xs)) ys x (first-is x xs x refl n) n) ∙ first-is x (xs ++ ys) x refl n
-    ]
 
 -- 6 is not met of marks, nor of marks with one more or one fewer
 bytes : (n : ℕ) (P : List ℕ) → pointsNumber n P ≡ 0 → (i : ℕ) → i < length P → getD P i 0 ≤ 15

@@ -11,7 +11,7 @@ use Rattle.network.specs.Visits.{visits}
 use Rattle.network.specs.Rows.{row, rowsBelow, tableIds, tableDistances}
 use Rattle.network.specs.Answers.{answered}
 use Rattle.rows.specs.Check.{sameList, sameTable}
-use Rattle.numbers.specs.Conditions.{limitNumber, firstNumber, badByteAt, pointsNumber, nodeNumber, kNumber, tableKNumber, tableNumber, shortNumber, fullNumber, unmarkedNumber}
+use Rattle.conditions.specs.Conditions.{limitNumber, firstNumber, badByteAt, pointsNumber, nodeNumber, kNumber, tableKNumber, tableNumber, shortNumber, fullNumber, unmarkedNumber}
 use Rattle.numbers.specs.Numbers.{queryNumber, tableCheckNumber, buildNumber, tableNodeNumber, networkPointsNumber, siteNumber, tableQueryNumber, distancesNumber, nearestNumber, verifyNumber, searchNumber, limitedNumber, eagerNumber, changeNumber}
 use Rattle.site_calls.specs.Distances.{distancesOutcome}
 use Rattle.site_calls.specs.Nearest.{nearestIds, nearestDistances, nearestOutcome}

@@ -19,11 +19,11 @@ use Rattle.network.specs.Rows.{row, sameRow, tableIds, tableDistances, rowsChan
 use Rattle.network.specs.Cases.{roads, points}
 use Rattle.network.proofs.Counts.{count-few}
 use Rattle.rows.proofs.Laid.{table-sized}
-use Rattle.numbers.specs.declared.kind.Kind.{Kind}
-use Rattle.numbers.specs.declared.kind.Kind.the-variants.{Insert, Remove}
-use Rattle.numbers.specs.declared.answers.Update.{Update}
-use Rattle.numbers.specs.declared.answers.Updated.the-variants as is
-use Rattle.numbers.specs.Conditions.{firstNumber, badByteAt, pointsNumber, nodeNumber, tableNumber, shortNumber, fullNumber, unmarkedNumber}
+use Rattle.conditions.specs.declared.kind.Kind.{Kind}
+use Rattle.conditions.specs.declared.kind.Kind.the-variants.{Insert, Remove}
+use Rattle.conditions.specs.declared.answers.Update.{Update}
+use Rattle.conditions.specs.declared.answers.Updated.the-variants as is
+use Rattle.conditions.specs.Conditions.{firstNumber, badByteAt, pointsNumber, nodeNumber, tableNumber, shortNumber, fullNumber, unmarkedNumber}
 use Rattle.numbers.specs.Numbers.{networkPointsNumber, siteNumber, tableCheckNumber, tableNodeNumber, buildNumber, changeNumber}
 use Rattle.table_calls.specs.Build.{buildOutcome}
 use Rattle.table_calls.specs.Updated.{kindMarks, Arrays, ChangeExported}

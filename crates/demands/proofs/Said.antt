@@ -10,7 +10,7 @@ use Rattle.network.specs.Network.{Network}
 use Rattle.network.specs.Answers.{answered}
 use Rattle.network.specs.Points.{listed, expanded}
 use Rattle.network.specs.Visits.{visits}
-use Rattle.numbers.specs.declared.answers.Listing.{Listing}
+use Rattle.conditions.specs.declared.answers.Listing.{Listing}
 use Rattle.numbers.specs.Numbers.{eagerNumber, searchNumber}
 use Rattle.site_calls.specs.Eager.{limitedOutcome, eagerOutcome}
 use Rattle.site_calls.specs.Lazy.{lazyOutcome}

@@ -4,11 +4,10 @@ use Prim.Native.Nat.{ℕ, _*_}
 use mathlib.Core.List.{List, [], _∷_}
 use Rattle.network.specs.Network.{Network, nodeCount}
 use Rattle.network.specs.Rows.{rowsChanged}
-use Rattle.numbers.specs.declared.kind.Kind.{Kind}
-use Rattle.numbers.specs.declared.answers.Update.{Update}
-use Rattle.numbers.specs.Conditions.{firstNumber, byNumber, nodeNumber, tableNumber, shortNumber, scratchWords}
+use Rattle.conditions.specs.declared.kind.Kind.{Kind}
+use Rattle.conditions.specs.declared.answers.Update.{Update}
+use Rattle.conditions.specs.Conditions.{firstNumber, byNumber, nodeNumber, tableNumber, shortNumber, scratchWords, kindNumber}
 use Rattle.table_calls.specs.Updated.{kindMarks}
-use Rattle.numbers.specs.Numbers.{kindNumber}
 
 -- 'each call's kind, node, K and scratch length'
 pub record Call : Type 0 where

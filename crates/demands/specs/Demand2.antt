@@ -15,8 +15,8 @@ use Rattle.network.specs.Parts.{Ascending}
 use Rattle.network.specs.Points.{lockers, marked}
 use Rattle.network.specs.Answers.{answered}
 use Rattle.table.specs.Updated.{fewerAt}
-use Rattle.numbers.specs.declared.answers.Listing.{Listing}
-use Rattle.numbers.specs.Values.{ruleVerdict}
+use Rattle.conditions.specs.declared.answers.Listing.{Listing}
+use Rattle.conditions.specs.Values.{ruleVerdict}
 use Rattle.site_calls.specs.Eager.{eagerOutcome, shortOutcome}
 use Rattle.site_calls.specs.Lazy.{lazyOutcome}
 use Rattle.site_calls.specs.Exported.{SearchExported, EagerExported}

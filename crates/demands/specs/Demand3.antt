@@ -13,10 +13,10 @@ use Rattle.network.specs.Visits.{visits}
 use Rattle.network.specs.Answers.{answered}
 use Rattle.rows.specs.Flat.{Sized}
 use Rattle.searches.specs.Eager.{eagerWords}
-use Rattle.numbers.specs.declared.answers.Update.{Update}
-use Rattle.numbers.specs.declared.answers.Listing.{Listing}
-use Rattle.numbers.specs.declared.kind.Kind.{Kind}
-use Rattle.numbers.specs.Conditions.{scratchWords}
+use Rattle.conditions.specs.declared.answers.Update.{Update}
+use Rattle.conditions.specs.declared.answers.Listing.{Listing}
+use Rattle.conditions.specs.declared.kind.Kind.{Kind}
+use Rattle.conditions.specs.Conditions.{scratchWords}
 use Rattle.numbers.specs.Numbers.{buildNumber}
 use Rattle.table_calls.specs.Build.{buildOutcome}
 use Rattle.table_calls.specs.Updated.{Arrays, ChangeExported}

@@ -10,9 +10,9 @@ use Rattle.network.specs.Network.{Network, network}
 use Rattle.network.specs.Check.{networkNumber}
 use Rattle.network.specs.Distance.{NONE}
 use Rattle.network.specs.Cases.{roads, points}
-use Rattle.numbers.specs.declared.answers.Listed.the-variants as is
-use Rattle.numbers.specs.declared.answers.Rule.the-variants as rule
-use Rattle.numbers.specs.declared.kind.Kind.the-variants.{Insert, Remove}
+use Rattle.conditions.specs.declared.answers.Listed.the-variants as is
+use Rattle.conditions.specs.declared.answers.Rule.the-variants as rule
+use Rattle.conditions.specs.declared.kind.Kind.the-variants.{Insert, Remove}
 use Rattle.numbers.specs.Numbers.{buildNumber, tableQueryNumber, changeNumber}
 use Rattle.site_calls.specs.Distances.{distancesOutcome}
 use Rattle.site_calls.specs.Nearest.{nearestOutcome}

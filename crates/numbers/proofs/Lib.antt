@@ -1,5 +1,5 @@
--- The theorems about numbers: the first of several, and what a number 0 leaves (Ready); S is enough (Words). A folder calls/.., conditions/.. holds the
--- proof of the function of that name.
+-- What a call's number 0 leaves (Ready); S is enough for its work (Words); scratch that is cleared, and is all 0 again (Cleared). A folder holds the proof of
+-- the function of its name.
 pub mod Ready
 pub mod Words
 pub mod Cleared

@@ -7,9 +7,8 @@ use lib.ListN.{length}
 use Rattle.network.specs.Network.{Network, nodeCount}
 use Rattle.network.specs.Check.{networkNumber}
 use Rattle.searches.specs.Eager.{eagerWords}
-use Rattle.numbers.specs.Conditions.{scratchWords, firstNumber, pointsNumber, nodeNumber, tableNumber, kNumber, tableKNumber, shortNumber, fullNumber, unmarkedNumber}
-use Rattle.numbers.specs.declared.kind.Kind.{Kind}
-use Rattle.numbers.specs.declared.kind.Kind.the-variants.{Insert, Remove}
+use Rattle.conditions.specs.Conditions.{scratchWords, firstNumber, pointsNumber, nodeNumber, tableNumber, kNumber, tableKNumber, shortNumber, unmarkedNumber, kindNumber}
+use Rattle.conditions.specs.declared.kind.Kind.{Kind}
 
 -- what every call with points tests first: 1 to 5, 6
 unfoldable pub networkPointsNumber : Network → List ℕ → ℕ
@@ -115,11 +114,6 @@ tableNodeNumber g P node K ids distances =
     (siteNumber g P node
     ∷ tableNumber (nodeCount g) K (length ids) (length distances)
     ∷ [])
-
--- 11: 'insert at 15, remove [..] at 0', by the kind of the call
-abbrev pub kindNumber : Kind → List ℕ → ℕ → ℕ
-kindNumber Insert P node = fullNumber P node
-kindNumber Remove P node = unmarkedNumber P node
 
 unfoldable pub changeNumber : Kind → Network → List ℕ → ℕ → ℕ → List ℕ → List ℕ → List ℕ → ℕ
 changeNumber kind g P node K scratch ids distances =

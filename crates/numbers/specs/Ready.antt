@@ -10,10 +10,10 @@ use Rattle.network.specs.Network.{Network, nodeCount}
 use Rattle.network.specs.Accepted.{Accepted}
 use Rattle.network.specs.Points.{lockers, marked}
 use Rattle.searches.specs.Eager.{eagerWords}
-use Rattle.numbers.specs.Conditions.{scratchWords}
+use Rattle.conditions.specs.Conditions.{scratchWords}
 use Rattle.rows.specs.Flat.{Sized}
-use Rattle.numbers.specs.declared.kind.Kind.{Kind}
-use Rattle.numbers.specs.declared.kind.Kind.the-variants.{Insert, Remove}
+use Rattle.conditions.specs.declared.kind.Kind.{Kind}
+use Rattle.conditions.specs.declared.kind.Kind.the-variants.{Insert, Remove}
 
 pub record DistancesReady (g : Network) (node : ℕ) (scratch answers : List ℕ) : Type 0 where
   pub accepted : Accepted g

@@ -10,9 +10,9 @@ use native.Mathlib.Omega.{arith}
 use lib.ListN.{length, getD, set, take, drop, replicate, length-append, length-map, length-replicate, length-set, take-append-drop}
 use lib.Seq.{set-at, drop-cons, length-take-le}
 use Rattle.network.specs.Network.{Network}
-use Rattle.numbers.specs.declared.answers.Update.{Update}
-use Rattle.numbers.specs.declared.kind.Kind.{Kind}
-use Rattle.numbers.specs.declared.kind.Kind.the-variants.{Insert, Remove}
+use Rattle.conditions.specs.declared.answers.Update.{Update}
+use Rattle.conditions.specs.declared.kind.Kind.{Kind}
+use Rattle.conditions.specs.declared.kind.Kind.the-variants.{Insert, Remove}
 use Rattle.numbers.specs.Numbers.{changeNumber}
 use Rattle.table_calls.specs.Updated.{Arrays, ChangeExported}
 use Rattle.table_calls.proofs.Outcomes.{change-refused, change-accepted}

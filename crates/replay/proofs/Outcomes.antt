@@ -14,7 +14,7 @@ use Rattle.network.specs.Count.{any}
 use Rattle.network.specs.Network.{Network}
 use Rattle.network.specs.Rows.{tableIds, tableDistances}
 use Rattle.network.proofs.Tests.{or-parts, any-none}
-use Rattle.numbers.specs.declared.answers.Update.{Update}
+use Rattle.conditions.specs.declared.answers.Update.{Update}
 use Rattle.table_calls.specs.Build.{BuildOutcome, buildOutcome}
 use Rattle.demands.proofs.Demand3.{demand}
 use Rattle.replay.specs.declared.ReplayAnswer.the-variants.{Unfit, Refused, Replayed}

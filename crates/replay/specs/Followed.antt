@@ -5,7 +5,7 @@ use mathlib.Core.Path.{_≡_}
 use mathlib.Core.List.{List, map, _++_}
 use lib.ListN.{length, getD, drop, replicate}
 use Rattle.network.specs.Network.{Network}
-use Rattle.numbers.specs.declared.answers.Update.{Update}
+use Rattle.conditions.specs.declared.answers.Update.{Update}
 use Rattle.demands.specs.Demand3.{Run}
 use Rattle.replay.specs.declared.CallWords.{CallWords}
 use Rattle.replay.specs.Calls.{CallArrays, callsBelow}

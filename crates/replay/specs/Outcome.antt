@@ -8,7 +8,7 @@ use lib.ListN.{length, getD, replicate}
 use Rattle.network.specs.Count.{any}
 use Rattle.network.specs.Network.{Network}
 use Rattle.network.specs.Rows.{tableIds, tableDistances}
-use Rattle.numbers.specs.declared.answers.Update.{Update}
+use Rattle.conditions.specs.declared.answers.Update.{Update}
 use Rattle.numbers.specs.Numbers.{buildNumber}
 use Rattle.demands.specs.Book.{Call, bookAnswers, bookMarks}
 use Rattle.replay.specs.declared.ReplayAnswer.{ReplayAnswer}

@@ -16,19 +16,19 @@ use Rattle.expansion.specs.Area.{Wiped}
 use Rattle.searches.specs.declared.eager.Limited as search
 use Rattle.searches.specs.declared.eager.Limited.the-variants as found
 use Rattle.searches.specs.Eager.{LimitedLeft, VisitsLeft}
-use Rattle.numbers.specs.declared.answers.Listing.{Listing}
-use Rattle.numbers.specs.declared.answers.Rule.{Rule}
-use Rattle.numbers.specs.declared.answers.Rule.the-variants.{Answer}
-use Rattle.numbers.specs.declared.answers.Listed as call
-use Rattle.numbers.specs.declared.answers.Listed.the-variants as is
+use Rattle.conditions.specs.declared.answers.Listing.{Listing}
+use Rattle.conditions.specs.declared.answers.Rule.{Rule}
+use Rattle.conditions.specs.declared.answers.Rule.the-variants.{Answer}
+use Rattle.conditions.specs.declared.answers.Listed as call
+use Rattle.conditions.specs.declared.answers.Listed.the-variants as is
 use Rattle.site_calls.specs.Distances.{DistancesOutcome, distancesOutcome}
 use Rattle.numbers.specs.Numbers.{distancesNumber, nearestNumber, verifyNumber, searchNumber, limitedNumber, eagerNumber}
 use Rattle.site_calls.specs.Nearest.{NearestOutcome, nearestOutcome}
 use Rattle.site_calls.specs.Work.{NearestDone}
 use Rattle.site_calls.specs.Verify.{VerifyOutcome, verifyOutcome}
-use Rattle.numbers.specs.Conditions.{limitNumber}
+use Rattle.conditions.specs.Conditions.{limitNumber}
 use Rattle.site_calls.specs.Searched.{SearchOutcome}
-use Rattle.numbers.specs.Values.{listedListing}
+use Rattle.conditions.specs.Values.{listedListing}
 use Rattle.site_calls.specs.Eager.{EagerOutcome, limitedOutcome, visitsOutcome, eagerOutcome, shortOutcome, limitedListed}
 use Rattle.site_calls.specs.Lazy.{lazyOutcome}
 use Rattle.site_calls.specs.Exported.{NearestExported, SearchExported, EagerExported}

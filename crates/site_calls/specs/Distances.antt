@@ -7,7 +7,7 @@ use Rattle.network.specs.Network.{Network}
 use Rattle.network.specs.Distance.{distancesFrom}
 use Rattle.network.specs.Answers.{answered}
 use Rattle.numbers.specs.Numbers.{distancesNumber}
-use Rattle.numbers.specs.Conditions.{byNumber}
+use Rattle.conditions.specs.Conditions.{byNumber}
 
 -- the number returned, and the final contents of the lent arrays
 pub record DistancesOutcome : Type 0 where

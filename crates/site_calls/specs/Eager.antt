@@ -11,9 +11,9 @@ use Rattle.network.specs.Visits.{visits}
 use Rattle.network.specs.Answers.{answered}
 use Rattle.searches.specs.declared.eager.Limited.{Limited}
 use Rattle.searches.specs.declared.eager.Limited.the-variants as found
-use Rattle.numbers.specs.declared.answers.Listed as call
-use Rattle.numbers.specs.declared.answers.Listed.the-variants as is
-use Rattle.numbers.specs.Conditions.{byNumber, overLimit, limitNumber}
+use Rattle.conditions.specs.declared.answers.Listed as call
+use Rattle.conditions.specs.declared.answers.Listed.the-variants as is
+use Rattle.conditions.specs.Conditions.{byNumber, overLimit, limitNumber}
 use Rattle.numbers.specs.Numbers.{limitedNumber, eagerNumber}
 use Rattle.site_calls.specs.Searched.{SearchOutcome}
 

@@ -3,11 +3,11 @@
 use Prim.Native.Nat.{ℕ}
 use mathlib.Core.Path.{_≡_}
 use mathlib.Core.List.{List}
-use Rattle.numbers.specs.declared.answers.Listing.{Listing}
-use Rattle.numbers.specs.declared.answers.Verdict.{Verdict}
+use Rattle.conditions.specs.declared.answers.Listing.{Listing}
+use Rattle.conditions.specs.declared.answers.Verdict.{Verdict}
 use Rattle.site_calls.specs.Nearest.{NearestOutcome}
 use Rattle.site_calls.specs.Verify.{VerifyOutcome}
-use Rattle.numbers.specs.Values.{listedListing, ruleVerdict}
+use Rattle.conditions.specs.Values.{listedListing, ruleVerdict}
 use Rattle.site_calls.specs.Searched.{SearchOutcome}
 use Rattle.site_calls.specs.Eager.{EagerOutcome}
 

@@ -6,8 +6,8 @@ use lib.ListN.{length, replicate}
 use Rattle.network.specs.Network.{Network}
 use Rattle.network.specs.Points.{listed}
 use Rattle.network.specs.Answers.{answered}
-use Rattle.numbers.specs.declared.answers.Listed.the-variants as is
-use Rattle.numbers.specs.Conditions.{byNumber}
+use Rattle.conditions.specs.declared.answers.Listed.the-variants as is
+use Rattle.conditions.specs.Conditions.{byNumber}
 use Rattle.numbers.specs.Numbers.{searchNumber}
 use Rattle.site_calls.specs.Searched.{SearchOutcome}
 

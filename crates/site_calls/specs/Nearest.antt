@@ -7,10 +7,10 @@ use lib.ListN.{length, replicate}
 use Rattle.network.specs.Network.{Network}
 use Rattle.network.specs.Nearest.{nearest}
 use Rattle.network.specs.Answers.{answered}
-use Rattle.numbers.specs.declared.answers.Listed.{Listed}
-use Rattle.numbers.specs.declared.answers.Listed.the-variants as is
+use Rattle.conditions.specs.declared.answers.Listed.{Listed}
+use Rattle.conditions.specs.declared.answers.Listed.the-variants as is
 use Rattle.numbers.specs.Numbers.{nearestNumber}
-use Rattle.numbers.specs.Conditions.{byNumber}
+use Rattle.conditions.specs.Conditions.{byNumber}
 
 -- 'ids and distances in two arrays'
 unfoldable pub nearestIds : Network → List ℕ → ℕ → ℕ → ℕ → List ℕ

@@ -2,7 +2,7 @@
 -- Assumes nothing.
 use Prim.Native.Nat.{ℕ}
 use mathlib.Core.List.{List}
-use Rattle.numbers.specs.declared.answers.Listed.{Listed}
+use Rattle.conditions.specs.declared.answers.Listed.{Listed}
 
 pub record SearchOutcome : Type 0 where
   pub answer : Listed

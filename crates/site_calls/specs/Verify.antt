@@ -6,10 +6,10 @@ use mathlib.Core.List.{List}
 use lib.ListN.{length, replicate}
 use Rattle.network.specs.Network.{Network}
 use Rattle.network.specs.Points.{verified}
-use Rattle.numbers.specs.declared.answers.Rule.{Rule}
-use Rattle.numbers.specs.declared.answers.Rule.the-variants.{Refused, Answer}
+use Rattle.conditions.specs.declared.answers.Rule.{Rule}
+use Rattle.conditions.specs.declared.answers.Rule.the-variants.{Refused, Answer}
 use Rattle.numbers.specs.Numbers.{verifyNumber}
-use Rattle.numbers.specs.Conditions.{byNumber}
+use Rattle.conditions.specs.Conditions.{byNumber}
 
 -- the answer, and the final contents of scratch
 pub record VerifyOutcome : Type 0 where

@@ -3,7 +3,6 @@ ghost use mathlib.Core.Path.{_≡_};
 ghost use Rattle.network.specs.Network.{network};
 ghost use Rattle.site_calls.specs.Distances.{distancesOutcome};
 use expansion::words;
-use numbers::calls;
 
 // The whole call.
 pub fn answer(
@@ -16,7 +15,7 @@ pub fn answer(
 ) -> u32
     ensures { λ r. ⌜ record { number = r; scratch = now (scratch .exit); answers = now (answers .exit) } ≡ distancesOutcome (network (now (starts .entry)) (now (neighbours .entry)) (now (weights .entry))) node (now (scratch .entry)) (now (answers .entry)) ⌝ }
 {
-    let refusal = calls::distances_number(starts, neighbours, weights, node, scratch, answers);
+    let refusal = numbers::distances_number(starts, neighbours, weights, node, scratch, answers);
     if refusal != 0 {
         return refusal;
     }

@@ -3,10 +3,9 @@
 ghost use mathlib.Core.Path.{_≡_};
 ghost use Rattle.network.specs.Network.{network};
 ghost use Rattle.site_calls.specs.Eager.{eagerOutcome, limitedListed};
+use conditions::answers::Listed;
 use expansion::words;
 use network::arcs::wide;
-use numbers::answers::Listed;
-use numbers::calls;
 use searches::eager::Limited;
 
 // The answer of a search with a limit, with the number of its refusal.
@@ -37,7 +36,7 @@ pub fn answer(
 ) -> Listed
     ensures { λ r. ⌜ record { search = record { answer = r; scratch = now (scratch .exit); answers = now (answers .exit) }; visits = now (visits .exit) } ≡ eagerOutcome (network (now (starts .entry)) (now (neighbours .entry)) (now (weights .entry))) (now (points .entry)) q k limit (now (scratch .entry)) (now (answers .entry)) (now (visits .entry)) ⌝ }
 {
-    let refusal = calls::eager_number(
+    let refusal = numbers::eager_number(
         starts,
         neighbours,
         weights,

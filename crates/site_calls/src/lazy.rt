@@ -7,10 +7,9 @@ ghost use Rattle.lazy_searches.specs.Lazy.{SearchLeft};
 ghost use Rattle.lazy_searches.specs.LazyEp.{CanExtend};
 ghost use Rattle.numbers.specs.Ready.{SearchReady};
 ghost use Rattle.site_calls.specs.Lazy.{lazyOutcome};
+use conditions::answers::Listed;
 use expansion::words;
 use network::arcs::wide;
-use numbers::answers::Listed;
-use numbers::calls;
 
 // Which of the two.
 pub enum Method {
@@ -109,7 +108,16 @@ pub fn answer(
 ) -> Listed
     ensures { λ r. ⌜ record { answer = r; scratch = now (scratch .exit); answers = now (answers .exit) } ≡ lazyOutcome (network (now (starts .entry)) (now (neighbours .entry)) (now (weights .entry))) (now (points .entry)) q k (now (scratch .entry)) (now (answers .entry)) ⌝ }
 {
-    let refusal = calls::search_number(starts, neighbours, weights, points, q, k, scratch, answers);
+    let refusal = numbers::search_number(
+        starts,
+        neighbours,
+        weights,
+        points,
+        q,
+        k,
+        scratch,
+        answers,
+    );
     if refusal != 0 {
         return Listed::Refused(refusal);
     }

@@ -6,10 +6,9 @@ ghost use Rattle.network.specs.Network.{network};
 ghost use Rattle.site_calls.specs.Nearest.{nearestOutcome};
 ghost use Rattle.numbers.specs.Ready.{NearestReady};
 ghost use Rattle.site_calls.specs.Work.{NearestDone};
+use conditions::answers::Listed;
 use expansion::words;
 use network::arcs::wide;
-use numbers::answers::Listed;
-use numbers::calls;
 
 // Clears the scratch, searches over it, copies what was found, and clears that.
 fn run(
@@ -62,7 +61,7 @@ pub fn answer(
 ) -> Listed
     ensures { λ r. ⌜ record { answer = r; scratch = now (scratch .exit); ids = now (ids .exit); distances = now (distances .exit) } ≡ nearestOutcome (network (now (starts .entry)) (now (neighbours .entry)) (now (weights .entry))) (now (points .entry)) node e k (now (scratch .entry)) (now (ids .entry)) (now (distances .entry)) ⌝ }
 {
-    let refusal = calls::nearest_number(
+    let refusal = numbers::nearest_number(
         starts,
         neighbours,
         weights,

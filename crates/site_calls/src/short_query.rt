@@ -4,9 +4,8 @@ ghost use mathlib.Core.Path.{_≡_};
 ghost use Rattle.network.specs.Network.{network};
 ghost use Rattle.site_calls.specs.Eager.{shortOutcome};
 use crate::eager;
+use conditions::answers::Listed;
 use expansion::words;
-use numbers::answers::Listed;
-use numbers::calls;
 
 // The whole call.
 pub fn answer(
@@ -20,7 +19,7 @@ pub fn answer(
 ) -> Listed
     ensures { λ r. ⌜ record { answer = r; scratch = now (scratch .exit); answers = now (answers .exit) } ≡ shortOutcome (network (now (starts .entry)) (now (neighbours .entry)) (now (weights .entry))) (now (points .entry)) q (now (scratch .entry)) (now (answers .entry)) ⌝ }
 {
-    let refusal = calls::limited_number(
+    let refusal = numbers::limited_number(
         starts,
         neighbours,
         weights,

@@ -3,10 +3,9 @@
 ghost use mathlib.Core.Path.{_≡_};
 ghost use Rattle.network.specs.Network.{network};
 ghost use Rattle.site_calls.specs.Verify.{verifyOutcome};
+use conditions::answers::Rule;
 use expansion::words;
 use network::arcs::wide;
-use numbers::answers::Rule;
-use numbers::calls;
 
 // The whole call.
 pub fn answer(
@@ -21,7 +20,7 @@ pub fn answer(
 ) -> Rule
     ensures { λ r. ⌜ record { answer = r; scratch = now (scratch .exit) } ≡ verifyOutcome (network (now (starts .entry)) (now (neighbours .entry)) (now (weights .entry))) (now (points .entry)) p q k (now (scratch .entry)) ⌝ }
 {
-    let refusal = calls::verify_number(starts, neighbours, weights, points, p, q, k, scratch);
+    let refusal = numbers::verify_number(starts, neighbours, weights, points, p, q, k, scratch);
     if refusal != 0 {
         return Rule::Refused(refusal);
     }

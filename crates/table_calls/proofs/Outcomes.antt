@@ -9,14 +9,14 @@ use mathlib.Core.List.{List}
 use lib.ListN.{length, replicate}
 use borrow.Author.Tests.{eq-eqb, ne-eqb}
 use Rattle.network.specs.Network.{Network}
-use Rattle.numbers.specs.declared.kind.Kind.{Kind}
-use Rattle.numbers.specs.declared.answers.Update.{Update}
-use Rattle.numbers.specs.declared.answers.Listing.{Listing}
-use Rattle.numbers.specs.Values.{listedListing, updatedUpdate}
+use Rattle.conditions.specs.declared.kind.Kind.{Kind}
+use Rattle.conditions.specs.declared.answers.Update.{Update}
+use Rattle.conditions.specs.declared.answers.Listing.{Listing}
+use Rattle.conditions.specs.Values.{listedListing, updatedUpdate}
 use Rattle.rows.specs.Flat.{IsTable}
 use Rattle.rows.specs.Check.{sameTable}
-use Rattle.numbers.specs.declared.answers.Rule.{Rule}
-use Rattle.numbers.specs.declared.answers.Rule.the-variants.{Refused, Answer}
+use Rattle.conditions.specs.declared.answers.Rule.{Rule}
+use Rattle.conditions.specs.declared.answers.Rule.the-variants.{Refused, Answer}
 use Rattle.numbers.specs.Numbers.{buildNumber, tableCheckNumber, changeNumber, tableQueryNumber}
 use Rattle.table_calls.specs.TableCheck.{tableCheckAnswer}
 use Rattle.table_calls.specs.Build.{BuildOutcome, buildOutcome}

@@ -5,7 +5,7 @@ use mathlib.Core.List.{List}
 use lib.ListN.{length, replicate}
 use Rattle.network.specs.Network.{Network}
 use Rattle.network.specs.Rows.{tableIds, tableDistances}
-use Rattle.numbers.specs.Conditions.{byNumber}
+use Rattle.conditions.specs.Conditions.{byNumber}
 use Rattle.numbers.specs.Numbers.{buildNumber}
 
 -- the number returned, and the final contents of the lent arrays

@@ -5,9 +5,9 @@ use Prim.Native.Nat.{ℕ}
 use mathlib.Core.List.{List}
 use Rattle.network.specs.Network.{Network}
 use Rattle.rows.specs.Check.{sameTable}
-use Rattle.numbers.specs.declared.answers.Rule.{Rule}
-use Rattle.numbers.specs.declared.answers.Rule.the-variants.{Refused, Answer}
-use Rattle.numbers.specs.Conditions.{byNumber}
+use Rattle.conditions.specs.declared.answers.Rule.{Rule}
+use Rattle.conditions.specs.declared.answers.Rule.the-variants.{Refused, Answer}
+use Rattle.conditions.specs.Conditions.{byNumber}
 use Rattle.numbers.specs.Numbers.{tableCheckNumber}
 
 unfoldable pub tableCheckAnswer : Network → List ℕ → ℕ → List ℕ → List ℕ → Rule

@@ -11,11 +11,11 @@ use Rattle.network.specs.Points.{listed}
 use Rattle.network.specs.Answers.{answered}
 use Rattle.rows.specs.Flat.{IsTable}
 use Rattle.query.specs.Query.{SomePoints}
-use Rattle.numbers.specs.declared.answers.Listing.{Listing}
-use Rattle.numbers.specs.declared.answers.Listed.{Listed}
-use Rattle.numbers.specs.declared.answers.Listed.the-variants as is
+use Rattle.conditions.specs.declared.answers.Listing.{Listing}
+use Rattle.conditions.specs.declared.answers.Listed.{Listed}
+use Rattle.conditions.specs.declared.answers.Listed.the-variants as is
 use Rattle.numbers.specs.Numbers.{tableQueryNumber}
-use Rattle.numbers.specs.Values.{listedListing}
+use Rattle.conditions.specs.Values.{listedListing}
 
 -- the arrays that the call is lent: it reads the table, and writes scratch and answers
 pub record QueryArrays : Type 0 where

@@ -10,13 +10,13 @@ use Rattle.network.specs.Network.{Network, nodeCount}
 use Rattle.network.specs.Rows.{rowsChanged}
 use Rattle.rows.specs.Flat.{Sized, IsTable}
 use Rattle.table.specs.Updated.{moreAt, fewerAt}
-use Rattle.numbers.specs.declared.kind.Kind.{Kind}
-use Rattle.numbers.specs.declared.kind.Kind.the-variants.{Insert, Remove}
-use Rattle.numbers.specs.declared.answers.Updated.{Updated}
-use Rattle.numbers.specs.declared.answers.Updated.the-variants as is
-use Rattle.numbers.specs.declared.answers.Update.{Update}
+use Rattle.conditions.specs.declared.kind.Kind.{Kind}
+use Rattle.conditions.specs.declared.kind.Kind.the-variants.{Insert, Remove}
+use Rattle.conditions.specs.declared.answers.Updated.{Updated}
+use Rattle.conditions.specs.declared.answers.Updated.the-variants as is
+use Rattle.conditions.specs.declared.answers.Update.{Update}
 use Rattle.numbers.specs.Numbers.{changeNumber}
-use Rattle.numbers.specs.Values.{updatedUpdate}
+use Rattle.conditions.specs.Values.{updatedUpdate}
 
 -- 'Insert adds one, remove takes one' (Ask 8): the bytes after
 abbrev pub kindMarks : Kind → List ℕ → ℕ → List ℕ

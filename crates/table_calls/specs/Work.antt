@@ -5,8 +5,8 @@ use mathlib.Core.List.{List}
 use Rattle.network.specs.Network.{Network}
 use Rattle.table.specs.Insert.{CanInsert}
 use Rattle.table.specs.Remove.{CanRemove}
-use Rattle.numbers.specs.declared.kind.Kind.{Kind}
-use Rattle.numbers.specs.declared.kind.Kind.the-variants.{Insert, Remove}
+use Rattle.conditions.specs.declared.kind.Kind.{Kind}
+use Rattle.conditions.specs.declared.kind.Kind.the-variants.{Insert, Remove}
 
 -- what insert or remove asks of the words that it is lent
 abbrev pub CanChange : Kind → Network → List ℕ → List ℕ → List ℕ → List ℕ → ℕ → ℕ → Type 0

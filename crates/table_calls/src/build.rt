@@ -6,7 +6,6 @@ ghost use Rattle.table_calls.specs.Build.{buildOutcome};
 ghost use Rattle.numbers.specs.Ready.{BuildReady};
 use expansion::words;
 use network::arcs::wide;
-use numbers::calls;
 
 // Clears the scratch, and fills the table over the part of it that is used.
 fn run(
@@ -51,7 +50,7 @@ pub fn answer(
 ) -> u32
     ensures { λ r. ⌜ record { number = r; scratch = now (scratch .exit); ids = now (ids .exit); distances = now (distances .exit) } ≡ buildOutcome (network (now (starts .entry)) (now (neighbours .entry)) (now (weights .entry))) (now (points .entry)) places (now (scratch .entry)) (now (ids .entry)) (now (distances .entry)) ⌝ }
 {
-    let refusal = calls::build_number(
+    let refusal = numbers::build_number(
         starts,
         neighbours,
         weights,

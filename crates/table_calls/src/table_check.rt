@@ -3,9 +3,8 @@
 ghost use mathlib.Core.Path.{_≡_};
 ghost use Rattle.network.specs.Network.{network};
 ghost use Rattle.table_calls.specs.TableCheck.{tableCheckAnswer};
+use conditions::answers::Rule;
 use network::arcs::wide;
-use numbers::answers::Rule;
-use numbers::calls;
 
 // The whole call.
 pub fn answer(
@@ -19,7 +18,7 @@ pub fn answer(
 ) -> Rule
     ensures { λ r. ⌜ r ≡ tableCheckAnswer (network (now (starts .entry)) (now (neighbours .entry)) (now (weights .entry))) (now (points .entry)) places (now (ids .entry)) (now (distances .entry)) ⌝ }
 {
-    let refusal = calls::table_check_number(
+    let refusal = numbers::table_check_number(
         starts,
         neighbours,
         weights,

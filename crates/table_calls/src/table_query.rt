@@ -4,10 +4,9 @@ ghost use Rattle.network.specs.Network.{network};
 ghost use Rattle.query.specs.Query as table;
 ghost use Rattle.numbers.specs.Ready.{TableQueryReady};
 ghost use Rattle.table_calls.specs.TableQuery.{QueryArrays, TableQueryLeft};
+use conditions::answers::Listed;
 use expansion::words;
 use network::arcs::wide;
-use numbers::answers::Listed;
-use numbers::calls;
 
 // Clears the scratch, and searches over the part of it that is used.
 fn run(
@@ -62,7 +61,7 @@ pub fn answer(
         let lent : QueryArrays = record { ids = now (ids .entry); distances = now (distances .entry); scratch = now (scratch .entry); answers = now (answers .entry) } in
         ⌜ TableQueryLeft g (now (points .entry)) q k places lent (now (scratch .exit)) (now (answers .exit)) r ⌝ }
 {
-    let refusal = calls::table_query_number(
+    let refusal = numbers::table_query_number(
         starts,
         neighbours,
         weights,

@@ -5,11 +5,10 @@ ghost use Rattle.table.specs.Updated as table;
 ghost use Rattle.table_calls.specs.Updated.{kindMarks, ChangeLeft};
 ghost use Rattle.numbers.specs.Ready.{ChangeReady};
 ghost use Rattle.table_calls.specs.Work.{CanChange};
+use conditions::answers::Updated;
+use conditions::kind::Kind;
 use expansion::words;
 use network::arcs::wide;
-use numbers::answers::Updated;
-use numbers::calls;
-use numbers::kind::Kind;
 
 // Brings marks and table up to date, over an area that is all 0 before and after.
 fn change(
@@ -100,7 +99,7 @@ pub fn answer(
 ) -> Updated
     ensures { λ r. ⌜ ChangeLeft kind (network (now (starts .entry)) (now (neighbours .entry)) (now (weights .entry))) node places (record { points = now (points .entry); scratch = now (scratch .entry); ids = now (ids .entry); distances = now (distances .entry) }) (record { points = now (points .exit); scratch = now (scratch .exit); ids = now (ids .exit); distances = now (distances .exit) }) r ⌝ }
 {
-    let refusal = calls::change_number(
+    let refusal = numbers::change_number(
         kind,
         starts,
         neighbours,

@@ -1,7 +1,7 @@
 -- `overlap::overlap_table_check` meets its contract: the struct of the answer.
 -- Assumes nothing.
 use mathlib.Core.Path.{ap, _∙_}
-use Rattle.numbers.specs.Values.{ruleVerdict}
+use Rattle.conditions.specs.Values.{ruleVerdict}
 use borrow.Author.Needs.{needs}
 use Rattle.overlap.proofs.overlap_table_check.Statement.{statement}
 use Rattle.overlap.proofs.overlap_table_check.Tie as tie

@@ -2,7 +2,7 @@
 -- Assumes nothing.
 use mathlib.Core.Path.{ap, _∙_}
 use Rattle.site_calls.specs.Verify.{VerifyOutcome}
-use Rattle.numbers.specs.Values.{ruleVerdict}
+use Rattle.conditions.specs.Values.{ruleVerdict}
 use borrow.Author.Needs.{needs}
 use Rattle.overlap.proofs.overlap_verify.Statement.{statement}
 use Rattle.overlap.proofs.overlap_verify.Tie as tie

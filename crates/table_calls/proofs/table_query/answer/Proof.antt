@@ -3,7 +3,7 @@
 use mathlib.Core.Path.{refl, sym, ap, _∙_}
 use lib.ListN.{length}
 use Rattle.network.specs.Network.{Network, network}
-use Rattle.numbers.specs.declared.answers.Listed.the-variants as is
+use Rattle.conditions.specs.declared.answers.Listed.the-variants as is
 use Rattle.numbers.proofs.Ready.{table-query-ready}
 use Rattle.numbers.proofs.Cleared.{all-zero}
 use borrow.Author.Needs.{needs}

@@ -5,8 +5,8 @@ use mathlib.Core.Path.{_≡_, refl, sym, ap, _∙_}
 use native.Mathlib.Omega.{arith}
 use lib.ListN.{length}
 use Rattle.network.specs.Network.{Network, network}
-use Rattle.numbers.specs.declared.answers.Updated.{Updated}
-use Rattle.numbers.specs.declared.answers.Updated.the-variants as is
+use Rattle.conditions.specs.declared.answers.Updated.{Updated}
+use Rattle.conditions.specs.declared.answers.Updated.the-variants as is
 use Rattle.numbers.proofs.Ready.{change-ready}
 use Rattle.numbers.proofs.Cleared.{all-zero}
 use borrow.Author.Needs.{needs}

@@ -7,8 +7,8 @@ use native.Mathlib.Omega.{arith}
 use lib.ListN.{length, length-take}
 use Rattle.network.specs.Network.{Network, network, nodeCount, arcCount}
 use Rattle.expansion.specs.Area.{Blank}
-use Rattle.numbers.specs.declared.kind.Kind.{Kind}
-use Rattle.numbers.specs.declared.kind.Kind.the-variants.{Insert, Remove}
+use Rattle.conditions.specs.declared.kind.Kind.{Kind}
+use Rattle.conditions.specs.declared.kind.Kind.the-variants.{Insert, Remove}
 use Rattle.numbers.specs.Ready.{TableReady, KindReady}
 use Rattle.table_calls.specs.Work.{CanChange}
 use Rattle.numbers.proofs.Ready.{ready-same}
