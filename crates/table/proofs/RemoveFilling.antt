@@ -6,6 +6,7 @@ use mathlib.Core.Path.{_≡_, refl, sym, ap, _∙_}
 use mathlib.Core.Logic.{⊎-elim}
 use mathlib.Core.Bool.{Bool, true, false}
 use mathlib.Core.List.{List}
+use native.Mathlib.Nat.{mul-le-mul-right}
 use native.Mathlib.Omega.{arith}
 use lib.Dec.{eqb}
 use lib.ListN.{length, getD, set, drop, replicate, length-set, length-replicate}
@@ -230,13 +231,13 @@ module _ {g : Network} {P : List ℕ} {K : ℕ} {xs ids dists : List ℕ} {len :
 
 -- ---- Remove.
 module _ {g : Network} {P xs ids dists : List ℕ} {x K : ℕ} (can : CanRemove g P xs ids dists x K) where
-  -- what `free` requires
-  pub remove-free : CanFree xs ids dists (nodeCount g) K
-  remove-free =
+  -- what `free` requires, for any number of rows
+  pub remove-free : (rows : ℕ) → rows ≤ nodeCount g → CanFree xs ids dists rows K
+  remove-free rows h =
       record {
-        few = can .accepted .few;
+        few = omega (arith, can .accepted .few);
         flags = omega (arith, can .room);
-        fits = omega (arith, can .sized .all-ids);
+        fits = omega (arith, can .sized .all-ids, mul-le-mul-right K h);
         same = can .sized .all-dists ∙ sym (can .sized .all-ids);
       }
 

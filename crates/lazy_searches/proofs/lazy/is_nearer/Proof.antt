@@ -6,7 +6,7 @@ use Rattle.lazy_searches.proofs.lazy.is_nearer.Statement.{statement}
 use Rattle.lazy_searches.proofs.lazy.is_nearer.Tie as tie
 
 returns : tie.Need-returns
-returns c = rw (lt-ltb (c .before .args .near) (c .before .args .far) (c .if1 .taken))
+returns c = rw (lt-ltb (c .before .args .near) (c .before .args .far) (omega (arith, c .if1 .taken)))
 
 returns-2 : tie.Need-returns-2
 returns-2 c = rw (le-ltb (c .before .args .near) (c .before .args .far) (omega (arith, c .if1 .left)))

@@ -1,10 +1,12 @@
 -- `table::remove::remove` meets its contract: what the steps leave, one after the other (`removed`).
 -- Assumes nothing.
-use Prim.Native.Nat.{_<_}
+use Prim.Native.Nat.{_-_, _<_}
 use mathlib.Core.Path.{_≡_, sym, ap, _∙_}
 use lib.ListN.{length, getD, length-set}
 use borrow.Author.Tests.{ltb-true}
 use native.Mathlib.Omega.{arith}
+use Rattle.network.specs.Points.{lockers}
+use Rattle.table.specs.Mend.{Freed}
 use Rattle.table.proofs.RemoveSteps.{freed-as}
 use Rattle.table.proofs.RemoveFilling.{remove-free, remove-seed, remove-fill, remove-size, removed}
 use borrow.Author.Needs.{needs}
@@ -56,20 +58,29 @@ all-is : (e : tie.After-free) → wide e .before .lockers-at .result ≡ getD (s
 all-is e = wide e .before .lockers-at .ensures .0
 
 free-requires : tie.Need-free-requires
-free-requires c κs = remove-free (start (c .before .before .before .before) .pre)
+free-requires c κs =
+    let w = c .before .before .before .before in
+    let s = start w in
+    remove-free (s .pre) _ (omega (arith, w .wide .ensures, s .pre .inside))
+
+-- every row is freed, before the first is filled
+all-freed : (e : tie.After-free) → let a = start (wide e) .args in
+    Freed (a .s .now) (e .free .last .0) (a .ids .now) (a .distances .now) (e .free .last .1 .0) (e .free .last .1 .1 .0) (a .places) (a .x)
+    (lockers (a .points .now) (a .x)) (length (a .starts .now) - 1) (e .free .result)
+all-freed e = freed-as (all-is e) (e .free .ensures)
 
 seed-requires : tie.Need-seed-requires
 seed-requires c κs =
     let e = c .before .before .before .before .before .before .before .before .before .before in
     let w = wide e in
-    remove-seed (start w .pre) (freed-as (all-is e) (e .free .ensures)) (simp length-set (start w .pre .points))
+    remove-seed (start w .pre) (all-freed e) (simp length-set (start w .pre .points))
 
 fill-requires : tie.Need-fill-requires
 fill-requires c κs =
     let s = c .before .before .before .before .before .before in
     let e = free s in
     let w = wide e in
-    remove-fill (start w .pre) (freed-as (all-is e) (e .free .ensures)) (simp length-set (start w .pre .points)) (s .seed .ensures)
+    remove-fill (start w .pre) (all-freed e) (simp length-set (start w .pre .points)) (s .seed .ensures)
 
 zero-requires : tie.Need-zero-requires
 zero-requires c κs = search needs
@@ -83,7 +94,7 @@ same-length-2 c =
     let s = seed f in
     let e = free s in
     let w = wide e in
-    remove-size (start w .pre) (freed-as (all-is e) (e .free .ensures)) (simp length-set (start w .pre .points)) (s .seed .ensures) (f .fill .ensures)
+    remove-size (start w .pre) (all-freed e) (simp length-set (start w .pre .points)) (s .seed .ensures) (f .fill .ensures)
     (c .before .before .zero .ensures)
 
 same-length-3 : tie.Need-same-length-3
@@ -100,7 +111,7 @@ returns c =
     let s = seed f in
     let e = free s in
     let w = wide e in
-    removed (start w .pre) (freed-as (all-is e) (e .free .ensures)) (w .wide .ensures) (s .seed .ensures) (f .fill .ensures) (c .before .before .zero .ensures)
+    removed (start w .pre) (all-freed e) (w .wide .ensures) (s .seed .ensures) (f .fill .ensures) (c .before .before .zero .ensures)
 
 pub remove-spec : {M : Type 1} → statement M
 remove-spec =
