@@ -80,12 +80,12 @@ spread n k xs = total (λ i. rowDistance (getD xs (wordsBase n k + i) 0)) (n * k
 abbrev pub work : Network → ℕ → List ℕ → ℕ → ℕ
 work g k xs len = spread (nodeCount g) k xs * (arcCount g + 2) + len
 
--- the place that p, at distance d, takes in a row, whose ids start at `ids` and whose words at `words`: an empty one or one that is farther, where
--- p is not in the row; or k
-pub record PlaceFor (xs : List ℕ) (ids words k p d r : ℕ) : Type 0 where
+-- the place that p, at distance d, takes in a row, whose ids start at word a and whose distances at word b: an empty one or one that is farther,
+-- where p is not in the row; or k
+pub record PlaceFor (xs : List ℕ) (a b k p d r : ℕ) : Type 0 where
   pub most : r ≤ k
-  pub farther : r < k → d < rowDistance (getD xs (words + r) 0)
-  pub absent : r < k → (j : ℕ) → j < k → getD xs (words + j) 0 ≢ 0 → getD xs (ids + j) 0 ≢ p
+  pub farther : r < k → d < rowDistance (getD xs (b + r) 0)
+  pub absent : r < k → (j : ℕ) → j < k → getD xs (b + j) 0 ≢ 0 → getD xs (a + j) 0 ≢ p
 
 -- point p, at distance d from node u, can be put into u's row and offered to u's neighbours
 pub record CanAdmit (g : Network) (xs : List ℕ) (k len p u d : ℕ) : Type 0 where

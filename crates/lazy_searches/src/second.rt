@@ -23,10 +23,11 @@ pub fn distance_at(s: &[u32], at: usize) -> u32
     distance.value
 }
 
-// The place that p takes in a row, at distance d: the farthest, an empty one first, where p is not in the row and is nearer. k where there is none.
-fn place_for(s: &[u32], ids: usize, words: usize, k: usize, p: u32, d: u32) -> usize
-    requires { ⌜ (ids + k ≤ length (now s)) × (words + k ≤ length (now s)) ⌝ }
-    ensures { λ r. ⌜ PlaceFor (now (s .entry)) ids words k p d r ⌝ }
+// The place that p takes in a row, at distance d: the farthest, an empty one first, where p is not in the row and is nearer. k where there is none. The
+// row has its ids from word a on, and its distances from word b on.
+fn place_for(s: &[u32], a: usize, b: usize, k: usize, p: u32, d: u32) -> usize
+    requires { ⌜ (a + k ≤ length (now s)) × (b + k ≤ length (now s)) ⌝ }
+    ensures { λ r. ⌜ PlaceFor (now (s .entry)) a b k p d r ⌝ }
 {
     let mut place = k;
     let mut most = d;
@@ -34,9 +35,9 @@ fn place_for(s: &[u32], ids: usize, words: usize, k: usize, p: u32, d: u32) -> u
     while j < k {
         let here = j;
         j += 1;
-        let far = distance_at(s, words + here);
-        let word = s[words + here];
-        if word != 0 && s[ids + here] == p {
+        let far = distance_at(s, b + here);
+        let word = s[b + here];
+        if word != 0 && s[a + here] == p {
             return k;
         }
         if most < far {
@@ -113,14 +114,14 @@ pub fn admit(
 {
     let n = starts.len() - 1;
     let row = wide(u) * k;
-    let ids = n + row;
-    let words = n + n * k + row;
-    let place = place_for(s, ids, words, k, p, d);
+    let a = n + row;
+    let b = n + n * k + row;
+    let place = place_for(s, a, b, k, p, d);
     if place == k {
         return len;
     }
-    s[ids + place] = p;
-    s[words + place] = d + 1;
+    s[a + place] = p;
+    s[b + place] = d + 1;
     offer(starts, neighbours, weights, s, k, len, p, u, d)
 }
 
@@ -157,17 +158,17 @@ pub fn closed(points: &[u8], s: &[u32], n: usize, k: usize, u: u32, l: u32) -> b
     ensures { λ r. ⌜ (r ≡ true → Closed (now (points .entry)) n (now (s .entry)) k u l) ⌝ }
 {
     let row = wide(u) * k;
-    let ids = n + row;
-    let words = n + n * k + row;
+    let a = n + row;
+    let b = n + n * k + row;
     let mut tally = 0;
     let mut j = 0;
     while j < k && tally < k {
-        let far = distance_at(s, words + j);
+        let far = distance_at(s, b + j);
         if far == Distance::NONE {
             return false;
         }
         if far < l {
-            tally += lockers_at(points, s[ids + j]);
+            tally += lockers_at(points, s[a + j]);
         }
         j += 1;
     }

@@ -12,7 +12,7 @@ ghost use Rattle.table_calls.specs.TableCheck.{tableCheckAnswer};
 ghost use Rattle.conditions.specs.declared.kind.Kind.the-variants.{Insert, Remove};
 ghost use Rattle.table_calls.specs.TableQuery.{QueryArrays, TableQueryExported};
 ghost use Rattle.table_calls.specs.Build.{buildOutcome};
-ghost use Rattle.table_calls.specs.Updated.{ChangeExported};
+ghost use Rattle.table_calls.specs.Updated.{Arrays, ChangeExported};
 ghost use Rattle.site_calls.specs.Exported.{NearestExported, VerifyExported, SearchExported, EagerExported};
 pub use conditions::answers::Listing;
 pub use conditions::answers::Update;
@@ -55,7 +55,10 @@ pub extern "C" fn overlap_distances(
     scratch: &mut [u32],
     answers: &mut [u32],
 ) -> u32
-    ensures { λ r. ⌜ record { number = r; scratch = now (scratch .exit); answers = now (answers .exit) } ≡ distancesOutcome (network (now (starts .entry)) (now (neighbours .entry)) (now (weights .entry))) node (now (scratch .entry)) (now (answers .entry)) ⌝ }
+    ensures { λ r.
+        let g = network (now (starts .entry)) (now (neighbours .entry)) (now (weights .entry)) in
+        ⌜ record { number = r; scratch = now (scratch .exit); answers = now (answers .exit) }
+        ≡ distancesOutcome g node (now (scratch .entry)) (now (answers .entry)) ⌝ }
 {
     distances::answer(starts, neighbours, weights, node, scratch, answers)
 }
@@ -77,7 +80,10 @@ pub extern "C" fn overlap_nearest(
     ids: &mut [u32],
     distances: &mut [u32],
 ) -> Listing
-    ensures { λ r. ⌜ NearestExported (nearestOutcome (network (now (starts .entry)) (now (neighbours .entry)) (now (weights .entry))) (now (points .entry)) node e k (now (scratch .entry)) (now (ids .entry)) (now (distances .entry))) r (now (scratch .exit)) (now (ids .exit)) (now (distances .exit)) ⌝ }
+    ensures { λ r.
+        let g = network (now (starts .entry)) (now (neighbours .entry)) (now (weights .entry)) in
+        let outcome = nearestOutcome g (now (points .entry)) node e k (now (scratch .entry)) (now (ids .entry)) (now (distances .entry)) in
+        ⌜ NearestExported outcome r (now (scratch .exit)) (now (ids .exit)) (now (distances .exit)) ⌝ }
 {
     listing_of(nearest::answer(
         starts,
@@ -106,7 +112,10 @@ pub extern "C" fn overlap_verify(
     k: u32,
     scratch: &mut [u32],
 ) -> Verdict
-    ensures { λ r. ⌜ VerifyExported (verifyOutcome (network (now (starts .entry)) (now (neighbours .entry)) (now (weights .entry))) (now (points .entry)) p q k (now (scratch .entry))) r (now (scratch .exit)) ⌝ }
+    ensures { λ r.
+        let g = network (now (starts .entry)) (now (neighbours .entry)) (now (weights .entry)) in
+        let outcome = verifyOutcome g (now (points .entry)) p q k (now (scratch .entry)) in
+        ⌜ VerifyExported outcome r (now (scratch .exit)) ⌝ }
 {
     verdict_of(verify::answer(starts, neighbours, weights, points, p, q, k, scratch))
 }
@@ -130,7 +139,10 @@ pub extern "C" fn overlap_eager(
     answers: &mut [u32],
     visits: &mut [u32],
 ) -> Listing
-    ensures { λ r. ⌜ EagerExported (eagerOutcome (network (now (starts .entry)) (now (neighbours .entry)) (now (weights .entry))) (now (points .entry)) q k limit (now (scratch .entry)) (now (answers .entry)) (now (visits .entry))) r (now (scratch .exit)) (now (answers .exit)) (now (visits .exit)) ⌝ }
+    ensures { λ r.
+        let g = network (now (starts .entry)) (now (neighbours .entry)) (now (weights .entry)) in
+        let outcome = eagerOutcome g (now (points .entry)) q k limit (now (scratch .entry)) (now (answers .entry)) (now (visits .entry)) in
+        ⌜ EagerExported outcome r (now (scratch .exit)) (now (answers .exit)) (now (visits .exit)) ⌝ }
 {
     listing_of(eager::answer(
         starts,
@@ -159,7 +171,10 @@ pub extern "C" fn overlap_short_query(
     scratch: &mut [u32],
     answers: &mut [u32],
 ) -> Listing
-    ensures { λ r. ⌜ SearchExported (shortOutcome (network (now (starts .entry)) (now (neighbours .entry)) (now (weights .entry))) (now (points .entry)) q (now (scratch .entry)) (now (answers .entry))) r (now (scratch .exit)) (now (answers .exit)) ⌝ }
+    ensures { λ r.
+        let g = network (now (starts .entry)) (now (neighbours .entry)) (now (weights .entry)) in
+        let outcome = shortOutcome g (now (points .entry)) q (now (scratch .entry)) (now (answers .entry)) in
+        ⌜ SearchExported outcome r (now (scratch .exit)) (now (answers .exit)) ⌝ }
 {
     listing_of(short_query::answer(starts, neighbours, weights, points, q, scratch, answers))
 }
@@ -178,7 +193,10 @@ pub extern "C" fn overlap_lazy(
     scratch: &mut [u32],
     answers: &mut [u32],
 ) -> Listing
-    ensures { λ r. ⌜ SearchExported (lazyOutcome (network (now (starts .entry)) (now (neighbours .entry)) (now (weights .entry))) (now (points .entry)) q k (now (scratch .entry)) (now (answers .entry))) r (now (scratch .exit)) (now (answers .exit)) ⌝ }
+    ensures { λ r.
+        let g = network (now (starts .entry)) (now (neighbours .entry)) (now (weights .entry)) in
+        let outcome = lazyOutcome g (now (points .entry)) q k (now (scratch .entry)) (now (answers .entry)) in
+        ⌜ SearchExported outcome r (now (scratch .exit)) (now (answers .exit)) ⌝ }
 {
     listing_of(lazy::answer(
         Method::Lazy,
@@ -205,7 +223,10 @@ pub extern "C" fn overlap_lazy_ep(
     scratch: &mut [u32],
     answers: &mut [u32],
 ) -> Listing
-    ensures { λ r. ⌜ SearchExported (lazyOutcome (network (now (starts .entry)) (now (neighbours .entry)) (now (weights .entry))) (now (points .entry)) q k (now (scratch .entry)) (now (answers .entry))) r (now (scratch .exit)) (now (answers .exit)) ⌝ }
+    ensures { λ r.
+        let g = network (now (starts .entry)) (now (neighbours .entry)) (now (weights .entry)) in
+        let outcome = lazyOutcome g (now (points .entry)) q k (now (scratch .entry)) (now (answers .entry)) in
+        ⌜ SearchExported outcome r (now (scratch .exit)) (now (answers .exit)) ⌝ }
 {
     listing_of(lazy::answer(
         Method::LazyEp,
@@ -233,7 +254,10 @@ pub extern "C" fn overlap_build(
     ids: &mut [u32],
     distances: &mut [u32],
 ) -> u32
-    ensures { λ r. ⌜ record { number = r; scratch = now (scratch .exit); ids = now (ids .exit); distances = now (distances .exit) } ≡ buildOutcome (network (now (starts .entry)) (now (neighbours .entry)) (now (weights .entry))) (now (points .entry)) places (now (scratch .entry)) (now (ids .entry)) (now (distances .entry)) ⌝ }
+    ensures { λ r.
+        let g = network (now (starts .entry)) (now (neighbours .entry)) (now (weights .entry)) in
+        ⌜ record { number = r; scratch = now (scratch .exit); ids = now (ids .exit); distances = now (distances .exit) }
+        ≡ buildOutcome g (now (points .entry)) places (now (scratch .entry)) (now (ids .entry)) (now (distances .entry)) ⌝ }
 {
     build::answer(
         starts,
@@ -264,7 +288,11 @@ pub extern "C" fn overlap_insert(
     ids: &mut [u32],
     distances: &mut [u32],
 ) -> Update
-    ensures { λ r. ⌜ ChangeExported Insert (network (now (starts .entry)) (now (neighbours .entry)) (now (weights .entry))) node places (record { points = now (points .entry); scratch = now (scratch .entry); ids = now (ids .entry); distances = now (distances .entry) }) (record { points = now (points .exit); scratch = now (scratch .exit); ids = now (ids .exit); distances = now (distances .exit) }) r ⌝ }
+    ensures { λ r.
+        let g = network (now (starts .entry)) (now (neighbours .entry)) (now (weights .entry)) in
+        let old : Arrays = record { points = now (points .entry); scratch = now (scratch .entry); ids = now (ids .entry); distances = now (distances .entry) } in
+        let new : Arrays = record { points = now (points .exit); scratch = now (scratch .exit); ids = now (ids .exit); distances = now (distances .exit) } in
+        ⌜ ChangeExported Insert g node places old new r ⌝ }
 {
     update_of(updated::answer(
         Kind::Insert,
@@ -293,7 +321,11 @@ pub extern "C" fn overlap_remove(
     ids: &mut [u32],
     distances: &mut [u32],
 ) -> Update
-    ensures { λ r. ⌜ ChangeExported Remove (network (now (starts .entry)) (now (neighbours .entry)) (now (weights .entry))) node places (record { points = now (points .entry); scratch = now (scratch .entry); ids = now (ids .entry); distances = now (distances .entry) }) (record { points = now (points .exit); scratch = now (scratch .exit); ids = now (ids .exit); distances = now (distances .exit) }) r ⌝ }
+    ensures { λ r.
+        let g = network (now (starts .entry)) (now (neighbours .entry)) (now (weights .entry)) in
+        let old : Arrays = record { points = now (points .entry); scratch = now (scratch .entry); ids = now (ids .entry); distances = now (distances .entry) } in
+        let new : Arrays = record { points = now (points .exit); scratch = now (scratch .exit); ids = now (ids .exit); distances = now (distances .exit) } in
+        ⌜ ChangeExported Remove g node places old new r ⌝ }
 {
     update_of(updated::answer(
         Kind::Remove,
@@ -321,7 +353,9 @@ pub extern "C" fn overlap_table_check(
     ids: &[u32],
     distances: &[u32],
 ) -> Verdict
-    ensures { λ r. ⌜ r ≡ ruleVerdict (tableCheckAnswer (network (now (starts .entry)) (now (neighbours .entry)) (now (weights .entry))) (now (points .entry)) places (now (ids .entry)) (now (distances .entry))) ⌝ }
+    ensures { λ r.
+        let g = network (now (starts .entry)) (now (neighbours .entry)) (now (weights .entry)) in
+        ⌜ r ≡ ruleVerdict (tableCheckAnswer g (now (points .entry)) places (now (ids .entry)) (now (distances .entry))) ⌝ }
 {
     verdict_of(table_check::answer(starts, neighbours, weights, points, places, ids, distances))
 }

@@ -24,19 +24,19 @@ pub record Lent : Type 0 where
   pub numbers : List ℕ
   pub counts : List ℕ
 
--- call j asks a scratch longer than the one lent
+-- call j asks more words of scratch than are lent
 unfoldable pub asksMoreAt : ℕ → List ℕ → ℕ → Bool
-asksMoreAt scratch lengths j = ltb scratch (getD lengths j 0)
+asksMoreAt words lengths j = ltb words (getD lengths j 0)
 
 -- an array has not one entry for each call, or a call asks a scratch longer than the one lent: of a scratch and answer arrays of so many entries
 unfoldable pub isUnfit : CallArrays → ℕ → ℕ → ℕ → Bool
-isUnfit list scratch numbers counts =
+isUnfit list words numberCount countCount =
     not (eqb (length (list .nodes)) (length (list .kinds)))
     || not (eqb (length (list .places)) (length (list .kinds)))
     || not (eqb (length (list .lengths)) (length (list .kinds)))
-    || not (eqb numbers (length (list .kinds)))
-    || not (eqb counts (length (list .kinds)))
-    || any (asksMoreAt scratch (list .lengths)) (length (list .lengths))
+    || not (eqb numberCount (length (list .kinds)))
+    || not (eqb countCount (length (list .kinds)))
+    || any (asksMoreAt words (list .lengths)) (length (list .lengths))
 
 -- 'Each call's number and changed count equal the book's. After the list the lent marks equal the book's, [..] and both table arrays hold the rows of
 -- those marks.' 'An accepted call with scratch leaves it all zero.'

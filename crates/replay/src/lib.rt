@@ -3,9 +3,9 @@ ghost use mathlib.Core.Path.{_≡_};
 ghost use lib.ListN.{length};
 ghost use Rattle.network.specs.Count.{any};
 ghost use Rattle.network.specs.Network.{network};
-ghost use Rattle.table_calls.specs.Updated.{ChangeExported};
-ghost use Rattle.replay.specs.Calls.{kindOf};
-ghost use Rattle.replay.specs.Outcome.{asksMoreAt, isUnfit, replayOutcome};
+ghost use Rattle.table_calls.specs.Updated.{Arrays, ChangeExported};
+ghost use Rattle.replay.specs.Calls.{CallArrays, kindOf};
+ghost use Rattle.replay.specs.Outcome.{Lent, asksMoreAt, isUnfit, replayOutcome};
 ghost use Rattle.replay.specs.Followed.{HasCall, wordsAt, ListFits, CallsFollowed};
 use overlap::Update;
 
@@ -24,14 +24,14 @@ pub struct CallWords {
     pub length: usize,
 }
 
-// Whether a call asks a scratch longer than the one lent.
-fn asks_more(lengths: &[usize], scratch: usize) -> bool
-    ensures { λ r. ⌜ r ≡ any (asksMoreAt scratch (now (lengths .entry))) (length (now (lengths .entry))) ⌝ }
+// Whether a call asks more words of scratch than are lent.
+fn asks_more(lengths: &[usize], words: usize) -> bool
+    ensures { λ r. ⌜ r ≡ any (asksMoreAt words (now (lengths .entry))) (length (now (lengths .entry))) ⌝ }
 {
     let mut j = 0;
     while j < lengths.len() {
         let length = lengths[j];
-        if scratch < length {
+        if words < length {
             return true;
         }
         j += 1;
@@ -49,7 +49,9 @@ fn unfit(
     numbers: &[u32],
     counts: &[u32],
 ) -> bool
-    ensures { λ r. ⌜ r ≡ isUnfit (record { kinds = now (kinds .entry); nodes = now (nodes .entry); places = now («each_places» .entry); lengths = now (lengths .entry) }) (length (now (scratch .entry))) (length (now (numbers .entry))) (length (now (counts .entry))) ⌝ }
+    ensures { λ r.
+        let list : CallArrays = record { kinds = now (kinds .entry); nodes = now (nodes .entry); places = now («each_places» .entry); lengths = now (lengths .entry) } in
+        ⌜ r ≡ isUnfit list (length (now (scratch .entry))) (length (now (numbers .entry))) (length (now (counts .entry))) ⌝ }
 {
     let calls = kinds.len();
     if nodes.len() != calls {
@@ -102,7 +104,11 @@ fn one(
     ids: &mut [u32],
     distances: &mut [u32],
 ) -> Update
-    ensures { λ r. ⌜ ChangeExported (kindOf kind) (network (now (starts .entry)) (now (neighbours .entry)) (now (weights .entry))) node places (record { points = now (points .entry); scratch = now (scratch .entry); ids = now (ids .entry); distances = now (distances .entry) }) (record { points = now (points .exit); scratch = now (scratch .exit); ids = now (ids .exit); distances = now (distances .exit) }) r ⌝ }
+    ensures { λ r.
+        let g = network (now (starts .entry)) (now (neighbours .entry)) (now (weights .entry)) in
+        let old : Arrays = record { points = now (points .entry); scratch = now (scratch .entry); ids = now (ids .entry); distances = now (distances .entry) } in
+        let new : Arrays = record { points = now (points .exit); scratch = now (scratch .exit); ids = now (ids .exit); distances = now (distances .exit) } in
+        ⌜ ChangeExported (kindOf kind) g node places old new r ⌝ }
 {
     if kind == 0 {
         return overlap::overlap_insert(
@@ -146,8 +152,15 @@ fn follow(
     numbers: &mut [u32],
     counts: &mut [u32],
 )
-    requires { ⌜ ListFits (record { kinds = now kinds; nodes = now nodes; places = now «each_places»; lengths = now lengths }) (record { points = now points; scratch = now scratch; ids = now ids; distances = now distances; numbers = now numbers; counts = now counts }) ⌝ }
-    ensures { λ _. ⌜ CallsFollowed (network (now (starts .entry)) (now (neighbours .entry)) (now (weights .entry))) (record { kinds = now (kinds .entry); nodes = now (nodes .entry); places = now («each_places» .entry); lengths = now (lengths .entry) }) (length (now (kinds .entry))) (record { points = now (points .entry); scratch = now (scratch .entry); ids = now (ids .entry); distances = now (distances .entry); numbers = now (numbers .entry); counts = now (counts .entry) }) (record { points = now (points .exit); scratch = now (scratch .exit); ids = now (ids .exit); distances = now (distances .exit); numbers = now (numbers .exit); counts = now (counts .exit) }) ⌝ }
+    requires { let list : CallArrays = record { kinds = now kinds; nodes = now nodes; places = now «each_places»; lengths = now lengths } in
+        let old : Lent = record { points = now points; scratch = now scratch; ids = now ids; distances = now distances; numbers = now numbers; counts = now counts } in
+        ⌜ ListFits list old ⌝ }
+    ensures { λ _.
+        let g = network (now (starts .entry)) (now (neighbours .entry)) (now (weights .entry)) in
+        let list : CallArrays = record { kinds = now (kinds .entry); nodes = now (nodes .entry); places = now («each_places» .entry); lengths = now (lengths .entry) } in
+        let old : Lent = record { points = now (points .entry); scratch = now (scratch .entry); ids = now (ids .entry); distances = now (distances .entry); numbers = now (numbers .entry); counts = now (counts .entry) } in
+        let new : Lent = record { points = now (points .exit); scratch = now (scratch .exit); ids = now (ids .exit); distances = now (distances .exit); numbers = now (numbers .exit); counts = now (counts .exit) } in
+        ⌜ CallsFollowed g list (length (now (kinds .entry))) old new ⌝ }
 {
     let mut j = 0;
     while j < kinds.len() {
@@ -191,7 +204,12 @@ pub fn replay(
     numbers: &mut [u32],
     counts: &mut [u32],
 ) -> ReplayAnswer
-    ensures { λ r. ⌜ record { answer = r; left = record { points = now (points .exit); scratch = now (scratch .exit); ids = now (ids .exit); distances = now (distances .exit); numbers = now (numbers .exit); counts = now (counts .exit) } } ≡ replayOutcome (network (now (starts .entry)) (now (neighbours .entry)) (now (weights .entry))) places (record { kinds = now (kinds .entry); nodes = now (nodes .entry); places = now («each_places» .entry); lengths = now (lengths .entry) }) (record { points = now (points .entry); scratch = now (scratch .entry); ids = now (ids .entry); distances = now (distances .entry); numbers = now (numbers .entry); counts = now (counts .entry) }) ⌝ }
+    ensures { λ r.
+        let g = network (now (starts .entry)) (now (neighbours .entry)) (now (weights .entry)) in
+        let list : CallArrays = record { kinds = now (kinds .entry); nodes = now (nodes .entry); places = now («each_places» .entry); lengths = now (lengths .entry) } in
+        let old : Lent = record { points = now (points .entry); scratch = now (scratch .entry); ids = now (ids .entry); distances = now (distances .entry); numbers = now (numbers .entry); counts = now (counts .entry) } in
+        let new : Lent = record { points = now (points .exit); scratch = now (scratch .exit); ids = now (ids .exit); distances = now (distances .exit); numbers = now (numbers .exit); counts = now (counts .exit) } in
+        ⌜ record { answer = r; left = new } ≡ replayOutcome g places list old ⌝ }
 {
     if unfit(kinds, nodes, each_places, lengths, scratch, numbers, counts) {
         return ReplayAnswer::Unfit;

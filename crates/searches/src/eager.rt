@@ -97,10 +97,10 @@ fn verify_found(
     requires { ⌜ CanVerifyAll (network (now starts) (now neighbours) (now weights)) (now points) q k (now f) found ⌝ }
     ensures { λ _. ⌜ VerifiedAll (network (now (starts .entry)) (now (neighbours .entry)) (now (weights .entry))) (now (points .entry)) q k (now (f .entry)) (now (f .exit)) found ⌝ }
 {
-    let ids = 3 * (starts.len() - 1);
+    let a = 3 * (starts.len() - 1);
     let mut i = 0;
     while i < found {
-        let p = f[ids + i];
+        let p = f[a + i];
         verify_once(starts, neighbours, weights, points, f, p, q, k);
         i += 1;
     }
@@ -158,7 +158,7 @@ fn explore(
     ensures { λ r. ⌜ EagerExplored (network (now (starts .entry)) (now (neighbours .entry)) (now (weights .entry))) (now (points .entry)) q k limit (now (s .entry)) (now (s .exit)) b r ⌝ }
 {
     let n = starts.len() - 1;
-    let visits = 2 * n;
+    let a = 2 * n;
     step::start(s, b, n, q);
     let mut settled = 0;
     let mut len = 1;
@@ -186,7 +186,7 @@ fn explore(
             continue;
         }
         len = step::open(starts, neighbours, weights, s, b, left, node, label);
-        let at = visits + wide(count);
+        let at = a + wide(count);
         s[at] = node;
         count += 1;
     }

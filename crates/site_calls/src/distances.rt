@@ -13,7 +13,10 @@ pub fn answer(
     scratch: &mut [u32],
     answers: &mut [u32],
 ) -> u32
-    ensures { λ r. ⌜ record { number = r; scratch = now (scratch .exit); answers = now (answers .exit) } ≡ distancesOutcome (network (now (starts .entry)) (now (neighbours .entry)) (now (weights .entry))) node (now (scratch .entry)) (now (answers .entry)) ⌝ }
+    ensures { λ r.
+        let g = network (now (starts .entry)) (now (neighbours .entry)) (now (weights .entry)) in
+        ⌜ record { number = r; scratch = now (scratch .exit); answers = now (answers .exit) }
+        ≡ distancesOutcome g node (now (scratch .entry)) (now (answers .entry)) ⌝ }
 {
     let refusal = numbers::distances_number(starts, neighbours, weights, node, scratch, answers);
     if refusal != 0 {

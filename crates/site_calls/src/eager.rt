@@ -34,7 +34,10 @@ pub fn answer(
     answers: &mut [u32],
     visits: &mut [u32],
 ) -> Listed
-    ensures { λ r. ⌜ record { search = record { answer = r; scratch = now (scratch .exit); answers = now (answers .exit) }; visits = now (visits .exit) } ≡ eagerOutcome (network (now (starts .entry)) (now (neighbours .entry)) (now (weights .entry))) (now (points .entry)) q k limit (now (scratch .entry)) (now (answers .entry)) (now (visits .entry)) ⌝ }
+    ensures { λ r.
+        let g = network (now (starts .entry)) (now (neighbours .entry)) (now (weights .entry)) in
+        ⌜ record { search = record { answer = r; scratch = now (scratch .exit); answers = now (answers .exit) }; visits = now (visits .exit) }
+        ≡ eagerOutcome g (now (points .entry)) q k limit (now (scratch .entry)) (now (answers .entry)) (now (visits .entry)) ⌝ }
 {
     let refusal = numbers::eager_number(
         starts,

@@ -32,7 +32,9 @@ fn search(
     requires { ⌜ CanSearch (network (now starts) (now neighbours) (now weights)) (now points) (now area) q k ⌝ }
     requires { ⌜ HasPlaces (network (now starts) (now neighbours) (now weights)) (now answers) ⌝ }
     requires { ⌜ CanExtend (network (now starts) (now neighbours) (now weights)) (now points) (now area) (now answers) q k ⌝ }
-    ensures { λ r. ⌜ SearchLeft (network (now (starts .entry)) (now (neighbours .entry)) (now (weights .entry))) (now (points .entry)) q k (now (area .entry)) (now (area .exit)) (now (answers .entry)) (now (answers .exit)) r ⌝ }
+    ensures { λ r.
+        let g = network (now (starts .entry)) (now (neighbours .entry)) (now (weights .entry)) in
+        ⌜ SearchLeft g (now (points .entry)) q k (now (area .entry)) (now (area .exit)) (now (answers .entry)) (now (answers .exit)) r ⌝ }
 {
     match method {
         Method::Lazy => lazy_searches::lazy::lazy(
@@ -74,7 +76,9 @@ fn run(
     answers: &mut [u32],
 ) -> usize
     requires { ⌜ SearchReady (network (now starts) (now neighbours) (now weights)) (now points) q k (now scratch) (now answers) ⌝ }
-    ensures { λ r. ⌜ SearchLeft (network (now (starts .entry)) (now (neighbours .entry)) (now (weights .entry))) (now (points .entry)) q k (now (scratch .entry)) (now (scratch .exit)) (now (answers .entry)) (now (answers .exit)) r ⌝ }
+    ensures { λ r.
+        let g = network (now (starts .entry)) (now (neighbours .entry)) (now (weights .entry)) in
+        ⌜ SearchLeft g (now (points .entry)) q k (now (scratch .entry)) (now (scratch .exit)) (now (answers .entry)) (now (answers .exit)) r ⌝ }
 {
     let n = starts.len() - 1;
     let arcs = neighbours.len();
@@ -106,7 +110,10 @@ pub fn answer(
     scratch: &mut [u32],
     answers: &mut [u32],
 ) -> Listed
-    ensures { λ r. ⌜ record { answer = r; scratch = now (scratch .exit); answers = now (answers .exit) } ≡ lazyOutcome (network (now (starts .entry)) (now (neighbours .entry)) (now (weights .entry))) (now (points .entry)) q k (now (scratch .entry)) (now (answers .entry)) ⌝ }
+    ensures { λ r.
+        let g = network (now (starts .entry)) (now (neighbours .entry)) (now (weights .entry)) in
+        ⌜ record { answer = r; scratch = now (scratch .exit); answers = now (answers .exit) }
+        ≡ lazyOutcome g (now (points .entry)) q k (now (scratch .entry)) (now (answers .entry)) ⌝ }
 {
     let refusal = numbers::search_number(
         starts,

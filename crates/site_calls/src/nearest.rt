@@ -24,7 +24,10 @@ fn run(
     distances: &mut [u32],
 ) -> usize
     requires { ⌜ NearestReady (network (now starts) (now neighbours) (now weights)) (now points) node k (now scratch) (now ids) (now distances) ⌝ }
-    ensures { λ r. ⌜ (now (scratch .exit) ≡ replicate (length (now (scratch .entry))) 0) × NearestDone (network (now (starts .entry)) (now (neighbours .entry)) (now (weights .entry))) (now (points .entry)) node e k (now (ids .entry)) (now (ids .exit)) (now (distances .entry)) (now (distances .exit)) r ⌝ }
+    ensures { λ r.
+        let g = network (now (starts .entry)) (now (neighbours .entry)) (now (weights .entry)) in
+        ⌜ (now (scratch .exit)
+        ≡ replicate (length (now (scratch .entry))) 0) × NearestDone g (now (points .entry)) node e k (now (ids .entry)) (now (ids .exit)) (now (distances .entry)) (now (distances .exit)) r ⌝ }
 {
     let places = wide(k);
     words::zero(scratch);
@@ -59,7 +62,10 @@ pub fn answer(
     ids: &mut [u32],
     distances: &mut [u32],
 ) -> Listed
-    ensures { λ r. ⌜ record { answer = r; scratch = now (scratch .exit); ids = now (ids .exit); distances = now (distances .exit) } ≡ nearestOutcome (network (now (starts .entry)) (now (neighbours .entry)) (now (weights .entry))) (now (points .entry)) node e k (now (scratch .entry)) (now (ids .entry)) (now (distances .entry)) ⌝ }
+    ensures { λ r.
+        let g = network (now (starts .entry)) (now (neighbours .entry)) (now (weights .entry)) in
+        ⌜ record { answer = r; scratch = now (scratch .exit); ids = now (ids .exit); distances = now (distances .exit) }
+        ≡ nearestOutcome g (now (points .entry)) node e k (now (scratch .entry)) (now (ids .entry)) (now (distances .entry)) ⌝ }
 {
     let refusal = numbers::nearest_number(
         starts,

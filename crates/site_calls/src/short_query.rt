@@ -17,7 +17,10 @@ pub fn answer(
     scratch: &mut [u32],
     answers: &mut [u32],
 ) -> Listed
-    ensures { λ r. ⌜ record { answer = r; scratch = now (scratch .exit); answers = now (answers .exit) } ≡ shortOutcome (network (now (starts .entry)) (now (neighbours .entry)) (now (weights .entry))) (now (points .entry)) q (now (scratch .entry)) (now (answers .entry)) ⌝ }
+    ensures { λ r.
+        let g = network (now (starts .entry)) (now (neighbours .entry)) (now (weights .entry)) in
+        ⌜ record { answer = r; scratch = now (scratch .exit); answers = now (answers .exit) }
+        ≡ shortOutcome g (now (points .entry)) q (now (scratch .entry)) (now (answers .entry)) ⌝ }
 {
     let refusal = numbers::limited_number(
         starts,

@@ -18,7 +18,9 @@ pub fn answer(
     k: u32,
     scratch: &mut [u32],
 ) -> Rule
-    ensures { λ r. ⌜ record { answer = r; scratch = now (scratch .exit) } ≡ verifyOutcome (network (now (starts .entry)) (now (neighbours .entry)) (now (weights .entry))) (now (points .entry)) p q k (now (scratch .entry)) ⌝ }
+    ensures { λ r.
+        let g = network (now (starts .entry)) (now (neighbours .entry)) (now (weights .entry)) in
+        ⌜ record { answer = r; scratch = now (scratch .exit) } ≡ verifyOutcome g (now (points .entry)) p q k (now (scratch .entry)) ⌝ }
 {
     let refusal = numbers::verify_number(starts, neighbours, weights, points, p, q, k, scratch);
     if refusal != 0 {

@@ -19,7 +19,9 @@ fn run(
     distances: &mut [u32],
 )
     requires { ⌜ BuildReady (network (now starts) (now neighbours) (now weights)) (now points) places (now scratch) (now ids) (now distances) ⌝ }
-    ensures { λ _. ⌜ BuildLeft (network (now (starts .entry)) (now (neighbours .entry)) (now (weights .entry))) (now (points .entry)) (now (scratch .entry)) (now (scratch .exit)) (now (ids .exit)) (now (distances .exit)) places ⌝ }
+    ensures { λ _.
+        let g = network (now (starts .entry)) (now (neighbours .entry)) (now (weights .entry)) in
+        ⌜ BuildLeft g (now (points .entry)) (now (scratch .entry)) (now (scratch .exit)) (now (ids .exit)) (now (distances .exit)) places ⌝ }
 {
     let n = starts.len() - 1;
     let row = wide(places);
@@ -48,7 +50,10 @@ pub fn answer(
     ids: &mut [u32],
     distances: &mut [u32],
 ) -> u32
-    ensures { λ r. ⌜ record { number = r; scratch = now (scratch .exit); ids = now (ids .exit); distances = now (distances .exit) } ≡ buildOutcome (network (now (starts .entry)) (now (neighbours .entry)) (now (weights .entry))) (now (points .entry)) places (now (scratch .entry)) (now (ids .entry)) (now (distances .entry)) ⌝ }
+    ensures { λ r.
+        let g = network (now (starts .entry)) (now (neighbours .entry)) (now (weights .entry)) in
+        ⌜ record { number = r; scratch = now (scratch .exit); ids = now (ids .exit); distances = now (distances .exit) }
+        ≡ buildOutcome g (now (points .entry)) places (now (scratch .entry)) (now (ids .entry)) (now (distances .entry)) ⌝ }
 {
     let refusal = numbers::build_number(
         starts,

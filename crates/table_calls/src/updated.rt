@@ -2,7 +2,7 @@
 // 'each brings the table up to date and returns the number of rows whose contents differ before and after.'
 ghost use Rattle.network.specs.Network.{network};
 ghost use Rattle.table.specs.Updated as table;
-ghost use Rattle.table_calls.specs.Updated.{kindMarks, ChangeLeft};
+ghost use Rattle.table_calls.specs.Updated.{kindMarks, Arrays, ChangeLeft};
 ghost use Rattle.numbers.specs.Ready.{ChangeReady};
 ghost use Rattle.table_calls.specs.Work.{CanChange};
 use conditions::answers::Updated;
@@ -24,7 +24,9 @@ fn change(
     places: usize,
 ) -> u32
     requires { ⌜ CanChange kind (network (now starts) (now neighbours) (now weights)) (now points) (now area) (now ids) (now distances) node places ⌝ }
-    ensures { λ r. ⌜ table.UpdateLeft (network (now (starts .entry)) (now (neighbours .entry)) (now (weights .entry))) (now (points .entry)) (kindMarks kind (now (points .entry)) node) (now (points .exit)) (now (area .entry)) (now (area .exit)) (now (ids .entry)) (now (distances .entry)) (now (ids .exit)) (now (distances .exit)) places r ⌝ }
+    ensures { λ r.
+        let g = network (now (starts .entry)) (now (neighbours .entry)) (now (weights .entry)) in
+        ⌜ table.UpdateLeft g (now (points .entry)) (kindMarks kind (now (points .entry)) node) (now (points .exit)) (now (area .entry)) (now (area .exit)) (now (ids .entry)) (now (distances .entry)) (now (ids .exit)) (now (distances .exit)) places r ⌝ }
 {
     match kind {
         Kind::Insert => table::insert::insert(
@@ -66,7 +68,9 @@ fn run(
     distances: &mut [u32],
 ) -> u32
     requires { ⌜ ChangeReady kind (network (now starts) (now neighbours) (now weights)) (now points) node places (now scratch) (now ids) (now distances) ⌝ }
-    ensures { λ r. ⌜ table.UpdateLeft (network (now (starts .entry)) (now (neighbours .entry)) (now (weights .entry))) (now (points .entry)) (kindMarks kind (now (points .entry)) node) (now (points .exit)) (now (scratch .entry)) (now (scratch .exit)) (now (ids .entry)) (now (distances .entry)) (now (ids .exit)) (now (distances .exit)) places r ⌝ }
+    ensures { λ r.
+        let g = network (now (starts .entry)) (now (neighbours .entry)) (now (weights .entry)) in
+        ⌜ table.UpdateLeft g (now (points .entry)) (kindMarks kind (now (points .entry)) node) (now (points .exit)) (now (scratch .entry)) (now (scratch .exit)) (now (ids .entry)) (now (distances .entry)) (now (ids .exit)) (now (distances .exit)) places r ⌝ }
 {
     let used = 4 * (starts.len() - 1) + 2 * neighbours.len();
     words::zero(scratch);
@@ -97,7 +101,11 @@ pub fn answer(
     ids: &mut [u32],
     distances: &mut [u32],
 ) -> Updated
-    ensures { λ r. ⌜ ChangeLeft kind (network (now (starts .entry)) (now (neighbours .entry)) (now (weights .entry))) node places (record { points = now (points .entry); scratch = now (scratch .entry); ids = now (ids .entry); distances = now (distances .entry) }) (record { points = now (points .exit); scratch = now (scratch .exit); ids = now (ids .exit); distances = now (distances .exit) }) r ⌝ }
+    ensures { λ r.
+        let g = network (now (starts .entry)) (now (neighbours .entry)) (now (weights .entry)) in
+        let old : Arrays = record { points = now (points .entry); scratch = now (scratch .entry); ids = now (ids .entry); distances = now (distances .entry) } in
+        let new : Arrays = record { points = now (points .exit); scratch = now (scratch .exit); ids = now (ids .exit); distances = now (distances .exit) } in
+        ⌜ ChangeLeft kind g node places old new r ⌝ }
 {
     let refusal = numbers::change_number(
         kind,

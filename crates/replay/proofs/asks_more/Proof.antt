@@ -13,10 +13,10 @@ use Rattle.replay.proofs.asks_more.Statement.{statement}
 use Rattle.replay.proofs.asks_more.Tie as tie
 
 abbrev Inv-loop : tie.InvT-loop
-Inv-loop lengths scratch j₀ j = (j ≤ length lengths) × (any (asksMoreAt scratch lengths) j ≡ false)
+Inv-loop lengths words j₀ j = (j ≤ length lengths) × (any (asksMoreAt words lengths) j ≡ false)
 
 abbrev μ-loop : tie.MeasureT-loop
-μ-loop lengths scratch j₀ j = length lengths - j
+μ-loop lengths words j₀ j = length lengths - j
 
 loop-holds : tie.Need-loop-holds Inv-loop μ-loop
 loop-holds c = (search needs, any-start _)

@@ -41,17 +41,17 @@ wide-requires c κs = search needs
 mul-row : tie.Need-mul-row
 mul-row c = omega (arith, row c, start-of c .pre .second .fits)
 
-add-ids : tie.Need-add-ids
-add-ids c = omega (arith, row c, start-of c .pre .second .fits)
+add-a : tie.Need-add-a
+add-a c = omega (arith, row c, start-of c .pre .second .fits)
 
-mul-words : tie.Need-mul-words
-mul-words c = search needs
+mul-b : tie.Need-mul-b
+mul-b c = search needs
 
-add-words : tie.Need-add-words
-add-words c = search needs
+add-b : tie.Need-add-b
+add-b c = search needs
 
-add-words-2 : tie.Need-add-words-2
-add-words-2 c = omega (arith, row c, start-of c .pre .second .fits)
+add-b-2 : tie.Need-add-b-2
+add-b-2 c = omega (arith, row c, start-of c .pre .second .fits)
 
 place-for-requires : tie.Need-place-for-requires
 place-for-requires c κs =
@@ -129,10 +129,10 @@ admit-spec =
     sub-n
     wide-requires
     mul-row
-    add-ids
-    mul-words
-    add-words
-    add-words-2
+    add-a
+    mul-b
+    add-b
+    add-b-2
     place-for-requires
     same-length
     returns

@@ -39,17 +39,17 @@ wide-requires c κs = search needs
 mul-row : tie.Need-mul-row Inv-loop μ-loop
 mul-row c = omega (arith, row c, start-of c .pre .0)
 
-add-ids : tie.Need-add-ids Inv-loop μ-loop
-add-ids c = omega (arith, row c, start-of c .pre .0)
+add-a : tie.Need-add-a Inv-loop μ-loop
+add-a c = omega (arith, row c, start-of c .pre .0)
 
-mul-words : tie.Need-mul-words Inv-loop μ-loop
-mul-words c = search needs
+mul-b : tie.Need-mul-b Inv-loop μ-loop
+mul-b c = search needs
 
-add-words : tie.Need-add-words Inv-loop μ-loop
-add-words c = search needs
+add-b : tie.Need-add-b Inv-loop μ-loop
+add-b c = search needs
 
-add-words-2 : tie.Need-add-words-2 Inv-loop μ-loop
-add-words-2 c = omega (arith, row c, start-of c .pre .0)
+add-b-2 : tie.Need-add-b-2 Inv-loop μ-loop
+add-b-2 c = omega (arith, row c, start-of c .pre .0)
 
 loop-holds : tie.Need-loop-holds Inv-loop μ-loop
 loop-holds c = let a = start-of c .args in (omega arith, sym (tally-none (a .points .now) (a .s .now) (ids-of c) (words-of c) (a .l)))
@@ -146,10 +146,10 @@ closed-spec =
     μ-loop
     wide-requires
     mul-row
-    add-ids
-    mul-words
-    add-words
-    add-words-2
+    add-a
+    mul-b
+    add-b
+    add-b-2
     loop-holds
     add-distance-at
     distance-at-requires

@@ -11,20 +11,20 @@ use Rattle.lazy_searches.proofs.second.place_for.Statement.{statement}
 use Rattle.lazy_searches.proofs.second.place_for.Tie as tie
 
 abbrev Inv-loop : tie.InvT-loop
-Inv-loop s ids words k p d place₀ most₀ j₀ place most j = Looking s ids words k p d place most j
+Inv-loop s a b k p d place₀ most₀ j₀ place most j = Looking s a b k p d place most j
 
 abbrev μ-loop : tie.MeasureT-loop
-μ-loop s ids words k p d place₀ most₀ j₀ place most j = k - j
+μ-loop s a b k p d place₀ most₀ j₀ place most j = k - j
 
 -- the place that is looked at does not hold p
 other : (c : tie.Joined1 Inv-loop μ-loop)
     → let l = c .before .before .before .before in
     let a = l .before .before .args in
-    getD (a .s .now) (a .words + l .loop .j) 0 ≢ 0 → getD (a .s .now) (a .ids + l .loop .j) 0 ≢ a .p
+    getD (a .s .now) (a .b + l .loop .j) 0 ≢ 0 → getD (a .s .now) (a .a + l .loop .j) 0 ≢ a .p
 other c w e =
     let l = c .before .before .before .before in
     let a = l .before .before .args in
-    ⊎-elim (λ o. eqb-false (getD (a .s .now) (a .ids + l .loop .j) 0) (a .p) (o .2 .left) e) (λ o. w (o .left)) (c .if1 .came)
+    ⊎-elim (λ o. eqb-false (getD (a .s .now) (a .a + l .loop .j) 0) (a .p) (o .2 .left) e) (λ o. w (o .left)) (c .if1 .came)
 
 loop-holds : tie.Need-loop-holds Inv-loop μ-loop
 loop-holds c = looking-none

@@ -27,11 +27,11 @@ use Rattle.searches.proofs.eager.explore.Statement.{statement}
 use Rattle.searches.proofs.eager.explore.Tie as tie
 
 abbrev Inv-loop : tie.InvT-loop
-Inv-loop starts neighbours weights points s₀ b q k limit n visits settled₀ len₀ count₀ s settled len count =
+Inv-loop starts neighbours weights points s₀ b q k limit n a settled₀ len₀ count₀ s settled len count =
     (length s ≡ length s₀) × Exploring (network starts neighbours weights) points q k limit s b settled len count × VisitsKept (network starts neighbours weights) points q k s count
 
 abbrev μ-loop : tie.MeasureT-loop
-μ-loop starts neighbours weights points s₀ b q k limit n visits settled₀ len₀ count₀ s settled len count = nodeCount (network starts neighbours weights) - settled
+μ-loop starts neighbours weights points s₀ b q k limit n a settled₀ len₀ count₀ s settled len count = nodeCount (network starts neighbours weights) - settled
 
 -- the places: where the loop begins, the entry that was taken, its node looked at, and settled
 abbrev start-of : tie.At-loop Inv-loop μ-loop → tie.Start Inv-loop μ-loop
@@ -116,8 +116,8 @@ followed o = rw (settle-of o .settle .ensures) at (o .«open» .ensures)
 sub-n : tie.Need-sub-n Inv-loop μ-loop
 sub-n c = search needs
 
-mul-visits : tie.Need-mul-visits Inv-loop μ-loop
-mul-visits c = search needs
+mul-a : tie.Need-mul-a Inv-loop μ-loop
+mul-a c = search needs
 
 start-requires : tie.Need-start-requires Inv-loop μ-loop
 start-requires c κs =
@@ -322,7 +322,7 @@ explore-spec =
     Inv-loop
     μ-loop
     sub-n
-    mul-visits
+    mul-a
     start-requires
     loop-holds
     next-requires

@@ -12,19 +12,19 @@ use Rattle.searches.proofs.eager.verify_found.Statement.{statement}
 use Rattle.searches.proofs.eager.verify_found.Tie as tie
 
 abbrev Inv-loop : tie.InvT-loop
-Inv-loop starts neighbours weights points f₀ found q k ids i₀ f i = (i ≤ found) × VerifiedAll (network starts neighbours weights) points q k f₀ f i
+Inv-loop starts neighbours weights points f₀ found q k a i₀ f i = (i ≤ found) × VerifiedAll (network starts neighbours weights) points q k f₀ f i
 
 abbrev μ-loop : tie.MeasureT-loop
-μ-loop starts neighbours weights points f₀ found q k ids i₀ f i = found - i
+μ-loop starts neighbours weights points f₀ found q k a i₀ f i = found - i
 
 abbrev start-of : tie.At-loop Inv-loop μ-loop → tie.Start Inv-loop μ-loop
 start-of l = l .before .before .before .before .before .before
 
-sub-ids : tie.Need-sub-ids Inv-loop μ-loop
-sub-ids c = search needs
+sub-a : tie.Need-sub-a Inv-loop μ-loop
+sub-a c = search needs
 
-mul-ids : tie.Need-mul-ids Inv-loop μ-loop
-mul-ids c = search needs
+mul-a : tie.Need-mul-a Inv-loop μ-loop
+mul-a c = search needs
 
 loop-holds : tie.Need-loop-holds Inv-loop μ-loop
 loop-holds c = search needs
@@ -70,8 +70,8 @@ verify-found-spec =
     (tie.spec
     Inv-loop
     μ-loop
-    sub-ids
-    mul-ids
+    sub-a
+    mul-a
     loop-holds
     add-p
     mul-p
