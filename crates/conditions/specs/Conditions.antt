@@ -1,13 +1,13 @@
 -- Document 01, 'Numbers of refusal', 6 to 12: the number of each condition, 0 where it is not met; and the first number of several. 1 to 5 are the
 -- network's own (network, Check).
 -- Assumes nothing.
-use Prim.Native.Nat.{ℕ, _+_, _*_}
+use Prim.Native.Nat.{ℕ, _*_}
 use mathlib.Core.Bool.{Bool, cond, not, _||_}
 use mathlib.Core.List.{List, [], _∷_}
 use lib.Dec.{eqb, ltb, leb}
 use lib.ListN.{length, getD}
 use Rattle.network.specs.Count.{any}
-use Rattle.network.specs.Network.{Network, nodeCount, arcCount}
+use Rattle.network.specs.Network.{Network}
 use Rattle.network.specs.Points.{lockers, marked, exceedsLimit}
 use Rattle.conditions.specs.declared.kind.Kind.{Kind}
 use Rattle.conditions.specs.declared.kind.Kind.the-variants.{Insert, Remove}
@@ -48,10 +48,6 @@ tableKNumber k K = cond (eqb k 0 || leb K k) 9 0
 -- (Ask 5): an array of `have` entries where `need` are asked
 unfoldable pub shortNumber : ℕ → ℕ → ℕ
 shortNumber have need = cond (ltb have need) 10 0
-
--- 'Length S = 16 × n + 8 × (A + n) × m entries'
-abbrev pub scratchWords : Network → ℕ → ℕ
-scratchWords g m = 16 * nodeCount g + 8 * (arcCount g + nodeCount g) * m
 
 -- 11: 'insert at 15, remove or verify at 0' (Ask 8). Bytes above 15 are 6's.
 unfoldable pub fullNumber : List ℕ → ℕ → ℕ

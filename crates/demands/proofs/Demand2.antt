@@ -14,7 +14,7 @@ use Rattle.network.specs.Points.{isListed, listed, expanded}
 use Rattle.network.specs.Visits.{visits}
 use Rattle.network.proofs.Counts.{select-ascending}
 use Rattle.network.proofs.Visits.{visits-count}
-use Rattle.rows.specs.Check.{sameTable}
+use Rattle.network.specs.Rows.{sameTable}
 use Rattle.rows.proofs.CheckTable.{is-table}
 use Rattle.conditions.specs.declared.answers.Listing.{Listing}
 use Rattle.numbers.specs.Numbers.{limitedNumber, tableCheckNumber, tableQueryNumber}

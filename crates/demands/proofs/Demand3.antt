@@ -20,19 +20,18 @@ use Rattle.network.specs.Check.{networkNumber}
 use Rattle.network.specs.Points.{lockers, expanded}
 use Rattle.network.specs.Visits.{visits}
 use Rattle.network.specs.Answers.{answered}
-use Rattle.network.specs.Rows.{rowsChanged}
+use Rattle.network.specs.Rows.{rowsChanged, Sized, IsTable}
 use Rattle.network.proofs.Tests.{or-parts, any-none, none-any}
 use Rattle.network.proofs.NumberZero.{number-zero}
 use Rattle.network.proofs.Visits.{visits-count}
-use Rattle.rows.specs.Flat.{Sized, IsTable}
 use Rattle.rows.proofs.Laid.{table-sizes}
-use Rattle.searches.specs.Eager.{eagerWords}
+use Rattle.network.specs.Scratch.{eagerWords, scratchWords}
 use Rattle.searches.proofs.Expanded.{expanded-most}
 use Rattle.conditions.specs.declared.answers.Update.{Update}
 use Rattle.conditions.specs.declared.answers.Listing.{Listing}
 use Rattle.conditions.specs.declared.kind.Kind.{Kind}
 use Rattle.conditions.specs.declared.kind.Kind.the-variants.{Insert, Remove}
-use Rattle.conditions.specs.Conditions.{firstNumber, badByteAt, pointsNumber, nodeNumber, kNumber, tableNumber, tableKNumber, shortNumber, scratchWords, kindNumber}
+use Rattle.conditions.specs.Conditions.{firstNumber, badByteAt, pointsNumber, nodeNumber, kNumber, tableNumber, tableKNumber, shortNumber, kindNumber}
 use Rattle.numbers.specs.Numbers.{networkPointsNumber, siteNumber, queryNumber, tableCheckNumber, tableNodeNumber, buildNumber, tableQueryNumber, searchNumber, limitedNumber, eagerNumber, changeNumber}
 use Rattle.site_calls.specs.Eager.{limitedOutcome, shortOutcome}
 use Rattle.site_calls.specs.Exported.{SearchExported}

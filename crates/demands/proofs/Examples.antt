@@ -8,9 +8,8 @@ use Rattle.network.specs.Distance.{plus, leastOver, within, dist, distancesFrom
 use Rattle.network.specs.Points.{isNearer, countNearer, othersNearer, verified, isListed, listed, isExpanded, expanded, exceedsLimit}
 use Rattle.network.specs.Nearest.{insert, insertTimes, byDistance, nearest}
 use Rattle.network.specs.Visits.{visits}
-use Rattle.network.specs.Rows.{row, rowsBelow, tableIds, tableDistances}
+use Rattle.network.specs.Rows.{row, rowsBelow, tableIds, tableDistances, sameList, sameTable}
 use Rattle.network.specs.Answers.{answered}
-use Rattle.rows.specs.Check.{sameList, sameTable}
 use Rattle.conditions.specs.Conditions.{limitNumber, firstNumber, badByteAt, pointsNumber, nodeNumber, kNumber, tableKNumber, tableNumber, shortNumber, fullNumber, unmarkedNumber}
 use Rattle.numbers.specs.Numbers.{queryNumber, tableCheckNumber, buildNumber, tableNodeNumber, networkPointsNumber, siteNumber, tableQueryNumber, distancesNumber, nearestNumber, verifyNumber, searchNumber, limitedNumber, eagerNumber, changeNumber}
 use Rattle.site_calls.specs.Distances.{distancesOutcome}

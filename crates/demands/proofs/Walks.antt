@@ -15,7 +15,7 @@ use Rattle.network.specs.Network.{Network, nodeCount}
 use Rattle.network.specs.Accepted.{Accepted}
 use Rattle.network.specs.Count.{weighed, sumOver}
 use Rattle.network.specs.Distance.{NONE, dist}
-use Rattle.network.specs.Points.{lockers, marked, isNearer, countNearer, othersAt, othersNearer, isListed, listed, isExpanded}
+use Rattle.network.specs.Points.{lockers, marked, isNearer, countNearer, othersAt, othersNearer, isListed, listed, isExpanded, fewerAt}
 use Rattle.network.specs.Visits.{visits, Earlier}
 use Rattle.network.proofs.Least.{distance}
 use Rattle.network.proofs.Distances.{dist-symmetric, dist-at-most}
@@ -23,7 +23,6 @@ use Rattle.network.proofs.Tests.{and-parts, and-intro}
 use Rattle.network.proofs.Counts.{selected, select-passed, member-at}
 use Rattle.network.proofs.Totals.{total-same, sum-mono}
 use Rattle.network.proofs.Visits.{visits-are}
-use Rattle.table.specs.Updated.{fewerAt}
 use Rattle.searches.proofs.Listed.{listed-parts}
 use Rattle.demands.specs.Demand2.{Joined, Closer, LockersCloser, OnList, IsStep, Precedes, AreSteps}
 

@@ -6,7 +6,8 @@ use Rattle.network.specs.Network.{Network, nodeCount}
 use Rattle.network.specs.Rows.{rowsChanged}
 use Rattle.conditions.specs.declared.kind.Kind.{Kind}
 use Rattle.conditions.specs.declared.answers.Update.{Update}
-use Rattle.conditions.specs.Conditions.{firstNumber, byNumber, nodeNumber, tableNumber, shortNumber, scratchWords, kindNumber}
+use Rattle.conditions.specs.Conditions.{firstNumber, byNumber, nodeNumber, tableNumber, shortNumber, kindNumber}
+use Rattle.network.specs.Scratch.{scratchWords}
 use Rattle.table_calls.specs.Updated.{kindMarks}
 
 -- 'each call's kind, node, K and scratch length'

@@ -11,10 +11,8 @@ use lib.ListN.{length, getD}
 use Rattle.network.specs.Network.{Network, nodeCount}
 use Rattle.network.specs.Count.{sumOver}
 use Rattle.network.specs.Walk.{Walk}
-use Rattle.network.specs.Parts.{Ascending}
-use Rattle.network.specs.Points.{lockers, marked}
-use Rattle.network.specs.Answers.{answered}
-use Rattle.table.specs.Updated.{fewerAt}
+use Rattle.network.specs.Answers.{Ascending, answered}
+use Rattle.network.specs.Points.{lockers, marked, fewerAt}
 use Rattle.conditions.specs.declared.answers.Listing.{Listing}
 use Rattle.conditions.specs.Values.{ruleVerdict}
 use Rattle.site_calls.specs.Eager.{eagerOutcome, shortOutcome}

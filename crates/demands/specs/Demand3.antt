@@ -7,16 +7,14 @@ use mathlib.Core.Logic.{_≢_, _⊎_}
 use mathlib.Core.List.{List, [], _∷_}
 use lib.ListN.{length, take, replicate}
 use Rattle.network.specs.Network.{Network, nodeCount}
-use Rattle.network.specs.Rows.{tableIds, tableDistances}
+use Rattle.network.specs.Rows.{tableIds, tableDistances, Sized}
 use Rattle.network.specs.Points.{listed, expanded}
 use Rattle.network.specs.Visits.{visits}
 use Rattle.network.specs.Answers.{answered}
-use Rattle.rows.specs.Flat.{Sized}
-use Rattle.searches.specs.Eager.{eagerWords}
+use Rattle.network.specs.Scratch.{eagerWords, scratchWords}
 use Rattle.conditions.specs.declared.answers.Update.{Update}
 use Rattle.conditions.specs.declared.answers.Listing.{Listing}
 use Rattle.conditions.specs.declared.kind.Kind.{Kind}
-use Rattle.conditions.specs.Conditions.{scratchWords}
 use Rattle.numbers.specs.Numbers.{buildNumber}
 use Rattle.table_calls.specs.Build.{buildOutcome}
 use Rattle.table_calls.specs.Updated.{Arrays, ChangeExported}

@@ -7,7 +7,8 @@ use native.Mathlib.Decide.{ℕ-discrete}
 use Rattle.network.specs.Network.{Network, Arc}
 use Rattle.network.specs.Accepted.{Accepted}
 use Rattle.network.specs.Walk.{Walk, here}
-use Rattle.network.specs.Distance.{NONE, dist, Upto}
+use Rattle.network.specs.Distance.{NONE, dist}
+use Rattle.network.specs.Order.{Upto}
 use Rattle.network.proofs.Walks.{join, arc-walk}
 use Rattle.network.proofs.Least.{distance}
 use Rattle.network.proofs.Distances.{dist-walk, dist-self, dist-at-most, dist-previous}

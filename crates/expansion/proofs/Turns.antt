@@ -15,7 +15,8 @@ use Rattle.network.specs.Network.{Network, nodeCount}
 use Rattle.network.specs.Accepted.{Accepted}
 use Rattle.network.specs.Distance.{NONE, dist}
 use Rattle.network.specs.Points.{lockers, marked}
-use Rattle.network.specs.Nearest.{key, byDistance, before, Nearer}
+use Rattle.network.specs.Nearest.{key, byDistance}
+use Rattle.network.specs.Order.{before, Nearer}
 use Rattle.network.proofs.Counts.{member-at}
 use Rattle.network.proofs.Ordered.{below, below-most, key-pair, at-above, at-below, place-own}
 use Rattle.network.proofs.Rank.{key-order, passes-nearer, before-step}

@@ -11,7 +11,8 @@ use lib.Dec.{eqb, leb, ltb}
 use lib.ListN.{length, getD}
 use borrow.Author.Tests.{eq-eqb, ne-eqb, lt-ltb, le-ltb, le-leb, lt-leb}
 use Rattle.network.specs.Network.{Network, neighboursOf, weightsOf}
-use Rattle.network.specs.Parts.{Ascending, LowerBound}
+use Rattle.network.specs.Parts.{LowerBound}
+use Rattle.network.specs.Answers.{Ascending}
 use Rattle.network.specs.Check.{badNeighbourAt, badWeightAt, isArcAt, hasArc}
 use Rattle.network.proofs.Tests.{and-intro, and-left, and-right, or-left, or-right, or-intro, one-any, none-any}
 

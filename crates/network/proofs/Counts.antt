@@ -13,7 +13,7 @@ use lib.ListN.{length, getD, length-append, List·getD-append}
 use lib.Seq.{getD-at}
 use borrow.Author.Tests.{eq-eqb, ne-eqb, lt-ltb, le-ltb}
 use Rattle.network.specs.Count.{count, bit, select, ifAny}
-use Rattle.network.specs.Parts.{Ascending}
+use Rattle.network.specs.Answers.{Ascending}
 
 pub bit-mono : (x y : Bool) → (x ≡ true → y ≡ true) → bit x ≤ bit y
 bit-mono true y h = rw (h refl) (omega arith)

@@ -8,7 +8,8 @@ use native.Mathlib.Omega.{arith}
 use Rattle.network.specs.Network.{Network, Arc, nodeCount}
 use Rattle.network.specs.Accepted.{Accepted}
 use Rattle.network.specs.Walk.{Walk, here, step}
-use Rattle.network.specs.Distance.{NONE, dist, Upto}
+use Rattle.network.specs.Distance.{NONE, dist}
+use Rattle.network.specs.Order.{Upto}
 use Rattle.network.proofs.Within.{within-le-none}
 use Rattle.network.proofs.Least.{distance}
 use Rattle.network.proofs.Walks.{join, First, first, back}

@@ -12,7 +12,8 @@ use lib.ListN.{length, take}
 use lib.Seq.{take-nil, take-take}
 use borrow.Author.Tests.{le-leb, lt-leb}
 use Rattle.network.specs.Count.{bit, weighed}
-use Rattle.network.specs.Nearest.{key, insert, insertTimes, Ordered}
+use Rattle.network.specs.Nearest.{key, insert, insertTimes}
+use Rattle.network.specs.Order.{Ordered}
 use Rattle.network.proofs.Counts.{bit-lt}
 use Rattle.network.proofs.Ordered.{AllIn, first-least, below, none-below}
 

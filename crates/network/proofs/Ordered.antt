@@ -12,7 +12,8 @@ use lib.Dec.{eqb, ltb}
 use lib.ListN.{length, take, getD}
 use borrow.Author.Tests.{eq-eqb, ne-eqb}
 use Rattle.network.specs.Count.{bit, total}
-use Rattle.network.specs.Nearest.{key, AtLeast, Ordered, times}
+use Rattle.network.specs.Nearest.{key}
+use Rattle.network.specs.Order.{AtLeast, Ordered, times}
 use Rattle.network.proofs.Counts.{bit-lt, bit-ge, bit-most, bit-mono, member-at}
 use Rattle.network.proofs.Totals.{total-none, total-split, total-single}
 

@@ -12,7 +12,8 @@ use Rattle.network.specs.Network.{Network, Arc, nodeCount}
 use Rattle.network.specs.Accepted.{Accepted}
 use Rattle.network.specs.Distance.{NONE, dist}
 use Rattle.network.specs.Points.{lockers, isNearer, countNearer, isExpanded}
-use Rattle.network.specs.Nearest.{key, Nearer}
+use Rattle.network.specs.Nearest.{key}
+use Rattle.network.specs.Order.{Nearer}
 use Rattle.network.proofs.Tests.{and-parts, and-intro}
 use Rattle.network.proofs.Totals.{sum-mono}
 use Rattle.network.proofs.Distances.{Next, dist-at-most, dist-arc}

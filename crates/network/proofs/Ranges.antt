@@ -14,7 +14,8 @@ use lib.ListN.{length, getD}
 use borrow.Author.Tests.{eqb-true, eqb-false, ltb-false, leb-false, not-false, eq-eqb, lt-ltb, le-ltb}
 use Rattle.network.specs.Count.{any}
 use Rattle.network.specs.Network.{Network, Arc, nodeCount, arcCount, startOf, neighboursOf, weightsOf}
-use Rattle.network.specs.Parts.{HasPart, Parts, Ascending, Searchable}
+use Rattle.network.specs.Parts.{HasPart, Parts, Searchable}
+use Rattle.network.specs.Answers.{Ascending}
 use Rattle.network.specs.Check.{badSize, fallsAt, badStarts, badNeighbourAt, badPart, badNeighboursOf, badNeighbours}
 use Rattle.network.proofs.Tests.{or-parts, or-intro, any-none, none-any}
 use Rattle.network.proofs.NodeArcs.{arc-source, part-length, part-at}

@@ -15,7 +15,8 @@ use Rattle.network.specs.Accepted.{Accepted}
 use Rattle.network.specs.Distance.{dist}
 use Rattle.network.specs.Count.{bit, weighed, sumOver}
 use Rattle.network.specs.Points.{lockers, marked, isNearer, countNearer, othersAt, othersNearer}
-use Rattle.network.specs.Nearest.{key, isBefore, before, Nearer}
+use Rattle.network.specs.Nearest.{key}
+use Rattle.network.specs.Order.{isBefore, before, Nearer}
 use Rattle.network.proofs.Tests.{and-parts, and-intro}
 use Rattle.network.proofs.Totals.{sum-le, sum-mono, total-at, total-same, weighed-none}
 

@@ -17,7 +17,8 @@ use Rattle.network.specs.Accepted.{Accepted}
 use Rattle.network.specs.Distance.{NONE, dist}
 use Rattle.network.specs.Count.{total, sumOver, weighed}
 use Rattle.network.specs.Points.{lockers, marked, isNearer, countNearer}
-use Rattle.network.specs.Nearest.{key, byDistance, nearest, Ordered, isBefore, before, Nearer, times}
+use Rattle.network.specs.Nearest.{key, byDistance, nearest}
+use Rattle.network.specs.Order.{Ordered, isBefore, before, Nearer, times}
 use Rattle.network.specs.Rows.{pad, row}
 use Rattle.network.proofs.Tests.{and-parts}
 use Rattle.network.proofs.Distances.{dist-self, dist-zero}

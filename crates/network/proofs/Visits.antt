@@ -15,7 +15,8 @@ use Rattle.network.specs.Accepted.{Accepted}
 use Rattle.network.specs.Distance.{NONE, dist}
 use Rattle.network.specs.Count.{bit, weighed}
 use Rattle.network.specs.Points.{lockers, marked, isNearer, isExpanded, expanded}
-use Rattle.network.specs.Nearest.{key, byDistance, Nearer}
+use Rattle.network.specs.Nearest.{key, byDistance}
+use Rattle.network.specs.Order.{Nearer}
 use Rattle.network.specs.Visits.{counted, visits, Earlier, AreVisits, visits-law}
 use Rattle.network.proofs.Tests.{and-parts}
 use Rattle.network.proofs.Counts.{bit-most, member-at}

@@ -49,8 +49,3 @@ pub record Least (g : Network) (a b : ℕ) : Type 0 where
   pub least-sum : {s : ℕ} → Walk g a b s → dist g a b ≤ s
   pub bound : dist g a b ≢ NONE → dist g a b ≤ 65535 * (nodeCount g - 1)
   pub limit : dist g a b ≢ NONE → dist g a b ≤ LONGEST
-
--- a sum that is no sum of NONE: there is a way, and it is no longer
-pub record Upto (d s : ℕ) : Type 0 where
-  pub some : d ≢ NONE
-  pub most : d ≤ s

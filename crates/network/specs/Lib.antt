@@ -1,9 +1,9 @@
 -- The definitions of document 01 (../shared/01-scope.md), with those of document 02 that go with them, in the order of the document: what a reader of
--- this engine must believe. The theorems about them stand in proofs/.
+-- this engine must believe (Count to Answers); the cases of network N (Cases), and two theorems about every network (Single, OwnLockers), as statements.
+-- Records of the work and terms of the theory: what the functions over a node's parts ask and leave (Parts), and Order. The theorems stand in proofs/.
 pub mod Count
 pub mod Network
 pub mod Check
-pub mod Parts
 pub mod Accepted
 pub mod Walk
 pub mod Distance
@@ -11,7 +11,10 @@ pub mod Points
 pub mod Nearest
 pub mod Visits
 pub mod Rows
-pub mod Single
-pub mod OwnLockers
+pub mod Scratch
 pub mod Answers
 pub mod Cases
+pub mod Single
+pub mod OwnLockers
+pub mod Parts
+pub mod Order

@@ -1,9 +1,10 @@
 -- What the functions over a node's parts require and ensure. (No sentence of document 01: the number of the check is Check.antt's.)
 -- Assumes nothing.
-use Prim.Native.Nat.{ℕ, suc, _+_, _≤_, _<_}
+use Prim.Native.Nat.{ℕ, _+_, _≤_, _<_}
 use mathlib.Core.List.{List}
 use lib.ListN.{length, getD}
 use Rattle.network.specs.Network.{Network, neighboursOf}
+use Rattle.network.specs.Answers.{Ascending}
 
 -- node i has a part of an array; each node has one
 pub record HasPart (starts entries : List ℕ) (i : ℕ) : Type 0 where
@@ -15,10 +16,7 @@ pub record Parts (starts entries : List ℕ) : Type 0 where
   pub some : 1 ≤ length starts
   pub part : (i : ℕ) → i + 1 < length starts → HasPart starts entries i
 
--- a list that rises strictly, and the place of x in it: what stands before it is less, and what stands from it on is not
-pub record Ascending (xs : List ℕ) : Type 0 where
-  pub next : (j : ℕ) → suc j < length xs → getD xs j 0 < getD xs (suc j) 0
-
+-- the place of x in a list that rises: what stands before it is less, and what stands from it on is not
 pub record LowerBound (xs : List ℕ) (x place : ℕ) : Type 0 where
   pub inside : place ≤ length xs
   pub less : (j : ℕ) → j < place → getD xs j 0 < x

@@ -1,10 +1,10 @@
 -- Document 01, 'What a site receives': the points, who is listed for a site, and how many nodes eager expands.
 -- Assumes nothing.
-use Prim.Native.Nat.{ℕ, _-_}
+use Prim.Native.Nat.{ℕ, _+_, _-_}
 use mathlib.Core.Bool.{Bool, not, _&&_}
 use mathlib.Core.List.{List}
 use lib.Dec.{eqb, ltb}
-use lib.ListN.{getD}
+use lib.ListN.{getD, set}
 use Rattle.network.specs.Network.{Network, nodeCount}
 use Rattle.network.specs.Distance.{NONE, dist}
 use Rattle.network.specs.Count.{count, bit, sumOver, select}
@@ -15,6 +15,13 @@ lockers P p = getD P p 0
 
 abbrev pub marked : List ℕ → ℕ → Bool
 marked P p = ltb 0 (lockers P p)
+
+-- 'Insert adds one, remove takes one' (Ask 8)
+abbrev pub moreAt : List ℕ → ℕ → List ℕ
+moreAt P x = set P x (lockers P x + 1)
+
+abbrev pub fewerAt : List ℕ → ℕ → List ℕ
+fewerAt P x = set P x (lockers P x - 1)
 
 -- the nodes p with a locker and d(m, p) < e, and how many lockers they have: 'Each counts'; 'strictly nearer': an equal distance never counts
 unfoldable pub isNearer : Network → List ℕ → ℕ → ℕ → ℕ → Bool

@@ -1,6 +1,7 @@
 -- Document 01, 'The table': its rows, both flat arrays, and how many rows a change of the points changes.
 -- Assumes nothing.
-use Prim.Native.Nat.{ℕ, zero, suc, _-_}
+use Prim.Native.Nat.{ℕ, zero, suc, _-_, _*_}
+use mathlib.Core.Path.{_≡_}
 use mathlib.Core.Bool.{Bool, true, false, not, _&&_}
 use mathlib.Core.List.{List, [], _∷_, _++_, map}
 use lib.Dec.{eqb}
@@ -28,6 +29,26 @@ tableIds g P K = map (λ x. x .0) (rowsBelow g P K (nodeCount g))
 
 unfoldable pub tableDistances : Network → List ℕ → ℕ → List ℕ
 tableDistances g P K = map (λ x. x .1) (rowsBelow g P K (nodeCount g))
+
+-- 'Two arrays of n × K entries'
+pub record Sized (g : Network) (K : ℕ) (ids dists : List ℕ) : Type 0 where
+  pub all-ids : length ids ≡ nodeCount g * K
+  pub all-dists : length dists ≡ nodeCount g * K
+
+-- both arrays are the table of document 01
+pub record IsTable (g : Network) (P : List ℕ) (K : ℕ) (ids dists : List ℕ) : Type 0 where
+  pub same-ids : ids ≡ tableIds g P K
+  pub same-dists : dists ≡ tableDistances g P K
+
+-- the table check: 'yes exactly when both arrays are the table that build would write', entry by entry
+unfoldable pub sameList : List ℕ → List ℕ → Bool
+sameList [] [] = true
+sameList [] (y ∷ ys) = false
+sameList (x ∷ xs) [] = false
+sameList (x ∷ xs) (y ∷ ys) = eqb x y && sameList xs ys
+
+unfoldable pub sameTable : Network → List ℕ → ℕ → List ℕ → List ℕ → Bool
+sameTable g P K ids dists = sameList ids (tableIds g P K) && sameList dists (tableDistances g P K)
 
 -- 'the number of rows whose contents differ before and after', where the points were P and are P′
 unfoldable pub sameRow : List (ℕ × ℕ) → List (ℕ × ℕ) → Bool

@@ -3,7 +3,8 @@ ghost use mathlib.Core.Path.{_≡_};
 ghost use Prim.Native.Nat.{_+_, _<_};
 ghost use lib.ListN.{length};
 ghost use Rattle.network.specs.Network.{network, partOf};
-ghost use Rattle.network.specs.Parts.{HasPart, Ascending, LowerBound, Searchable};
+ghost use Rattle.network.specs.Parts.{HasPart, LowerBound, Searchable};
+ghost use Rattle.network.specs.Answers.{Ascending};
 ghost use Rattle.network.specs.Check.{hasArc};
 
 // A word as an index.

@@ -13,10 +13,10 @@ use Rattle.network.specs.Accepted.{Accepted}
 use Rattle.network.specs.Check.{networkNumber}
 use Rattle.network.specs.Points.{lockers, marked}
 use Rattle.network.proofs.NumberZero.{number-zero}
-use Rattle.searches.specs.Eager.{eagerWords}
+use Rattle.network.specs.Scratch.{eagerWords, scratchWords}
 use Rattle.conditions.specs.declared.kind.Kind.{Kind}
 use Rattle.conditions.specs.declared.kind.Kind.the-variants.{Insert, Remove}
-use Rattle.conditions.specs.Conditions.{scratchWords, pointsNumber, nodeNumber, tableNumber, kNumber, tableKNumber, shortNumber, fullNumber, unmarkedNumber, kindNumber}
+use Rattle.conditions.specs.Conditions.{pointsNumber, nodeNumber, tableNumber, kNumber, tableKNumber, shortNumber, fullNumber, unmarkedNumber, kindNumber}
 use Rattle.numbers.specs.Numbers.{networkPointsNumber, siteNumber, queryNumber, distancesNumber, nearestNumber, verifyNumber, searchNumber, limitedNumber, eagerNumber, tableCheckNumber, buildNumber, tableNodeNumber, changeNumber, tableQueryNumber}
 use Rattle.conditions.proofs.NotMet.{first-zero, number-none, points-ready, node-ready, k-ready, table-ready, short-ready, table-k-ready}
 use Rattle.numbers.specs.Ready.{DistancesReady, QueryReady, NearestReady, SearchReady, LimitedReady, VerifyReady, TableReady, BuildReady, KindReady, ChangeReady, TableQueryReady}

@@ -4,7 +4,7 @@ use Prim.Native.Nat.{ℕ, _+_, _*_, _≤_}
 use native.Mathlib.Nat.{mul-le-mul-left, mul-le-mul-right}
 use native.Mathlib.Omega.{arith}
 use Rattle.network.specs.Network.{Network, nodeCount, arcCount}
-use Rattle.conditions.specs.Conditions.{scratchWords}
+use Rattle.network.specs.Scratch.{scratchWords}
 
 -- m is at least 1
 pub words-enough : (g : Network) (m : ℕ) → 1 ≤ m → 16 * nodeCount g + 8 * (arcCount g + nodeCount g) ≤ scratchWords g m

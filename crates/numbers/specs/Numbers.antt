@@ -6,8 +6,8 @@ use mathlib.Core.List.{List, [], _∷_}
 use lib.ListN.{length}
 use Rattle.network.specs.Network.{Network, nodeCount}
 use Rattle.network.specs.Check.{networkNumber}
-use Rattle.searches.specs.Eager.{eagerWords}
-use Rattle.conditions.specs.Conditions.{scratchWords, firstNumber, pointsNumber, nodeNumber, tableNumber, kNumber, tableKNumber, shortNumber, unmarkedNumber, kindNumber}
+use Rattle.network.specs.Scratch.{eagerWords, scratchWords}
+use Rattle.conditions.specs.Conditions.{firstNumber, pointsNumber, nodeNumber, tableNumber, kNumber, tableKNumber, shortNumber, unmarkedNumber, kindNumber}
 use Rattle.conditions.specs.declared.kind.Kind.{Kind}
 
 -- what every call with points tests first: 1 to 5, 6

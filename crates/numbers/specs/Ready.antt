@@ -9,9 +9,8 @@ use lib.ListN.{length}
 use Rattle.network.specs.Network.{Network, nodeCount}
 use Rattle.network.specs.Accepted.{Accepted}
 use Rattle.network.specs.Points.{lockers, marked}
-use Rattle.searches.specs.Eager.{eagerWords}
-use Rattle.conditions.specs.Conditions.{scratchWords}
-use Rattle.rows.specs.Flat.{Sized}
+use Rattle.network.specs.Scratch.{eagerWords, scratchWords}
+use Rattle.network.specs.Rows.{Sized}
 use Rattle.conditions.specs.declared.kind.Kind.{Kind}
 use Rattle.conditions.specs.declared.kind.Kind.the-variants.{Insert, Remove}
 

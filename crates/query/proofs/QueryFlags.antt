@@ -17,7 +17,7 @@ use Rattle.network.specs.Accepted.{Accepted}
 use Rattle.network.specs.Walk.{Walk}
 use Rattle.network.specs.Distance.{NONE}
 use Rattle.network.specs.Points.{marked, isListed}
-use Rattle.network.specs.Rows.{tableDistances}
+use Rattle.network.specs.Rows.{tableDistances, IsTable}
 use Rattle.network.proofs.Lends.{mid-at, row-fits}
 use Rattle.network.proofs.Rank.{marked-inside}
 use Rattle.expansion.specs.Area.{Wiped}
@@ -25,7 +25,6 @@ use Rattle.searches.specs.Flags.{flagsEnd, Flags, Looked}
 use Rattle.expansion.proofs.AreaLaws.{kept-same}
 use Rattle.searches.proofs.Listed.{listed-parts}
 use Rattle.searches.proofs.FlagLaws.{listed-verified, verified-listed, changed-grows, changed-flags}
-use Rattle.rows.specs.Flat.{IsTable}
 use Rattle.query.specs.Query.{Grown, CanDecide, Decided, Way, CanVerifyWord, WordVerified, CanVerifyRow, Ways, ToldAll, RowVerified, Exact, CanLookByRow, LookedByRow}
 use Rattle.query.proofs.RowNearest.{listed-at-once, row-count, row-stands, row-way}
 

@@ -14,7 +14,7 @@ use Rattle.network.specs.Answers.{answered}
 use Rattle.network.proofs.Counts.{select-same}
 use Rattle.expansion.proofs.Settled.{zero-blank}
 use Rattle.searches.specs.Eager.{isFound}
-use Rattle.rows.specs.Flat.{IsTable}
+use Rattle.network.specs.Rows.{IsTable}
 use Rattle.query.specs.Query.{CanExploreQuery, QueryExplored, CanQuery, QueryLeft}
 
 module _ {g : Network} {P ids dists xs old : List ℕ} {q k K : ℕ} (c : CanQuery g P ids dists xs old q k K) where

@@ -38,7 +38,7 @@ use Rattle.network.proofs.Lends.{first-part}
 use Rattle.searches.proofs.LookLaws.{flags-same}
 use Rattle.searches.proofs.FlagLaws.{no-flags, flag-right}
 use Rattle.expansion.proofs.Stopping.{progress-stopped, took-beside}
-use Rattle.rows.specs.Flat.{IsTable}
+use Rattle.network.specs.Rows.{IsTable}
 use Rattle.query.specs.Query.{Only, Grown, CanLookByRow, LookedByRow, CanExploreQuery}
 
 -- the nodes whose arcs it follows, and those that it answers for

@@ -15,8 +15,9 @@ use Rattle.network.specs.Accepted.{Accepted}
 use Rattle.network.specs.Walk.{Walk}
 use Rattle.network.specs.Distance.{NONE, dist}
 use Rattle.network.specs.Points.{marked, countNearer, othersNearer, verified}
-use Rattle.network.specs.Nearest.{key, byDistance, nearest, Ordered, before, Nearer}
-use Rattle.network.specs.Rows.{tableIds, tableDistances}
+use Rattle.network.specs.Nearest.{key, byDistance, nearest}
+use Rattle.network.specs.Order.{Ordered, before, Nearer}
+use Rattle.network.specs.Rows.{tableIds, tableDistances, IsTable}
 use Rattle.network.proofs.Counts.{member-at}
 use Rattle.network.proofs.Distances.{dist-at-most, dist-walk, dist-self, dist-symmetric, dist-triangle}
 use Rattle.network.proofs.Ordered.{AllIn, below, below-most, same-below, take-all-in, take-ordered, take-few, at-above, at-below}
@@ -25,7 +26,7 @@ use Rattle.network.proofs.Rows.{nearest-ordered, nearest-small, nearest-below, 
 use Rattle.expansion.proofs.VisitLaws.{nearer-mono, nearer-none}
 use Rattle.searches.proofs.Listed.{verified-parts}
 use Rattle.searches.proofs.LookLaws.{place-of}
-use Rattle.rows.specs.Flat.{place, IsTable}
+use Rattle.rows.specs.Flat.{place}
 use Rattle.rows.proofs.Laid.{table-entry, table-padding}
 use Rattle.query.specs.Query.{Way, Exact}
 

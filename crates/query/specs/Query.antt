@@ -10,16 +10,15 @@ use lib.ListN.{length, getD}
 use Rattle.network.specs.Network.{Network, nodeCount}
 use Rattle.network.specs.Accepted.{Accepted}
 use Rattle.network.specs.Walk.{Walk}
-use Rattle.network.specs.Distance.{dist, Upto}
-use Rattle.network.specs.Count.{select}
+use Rattle.network.specs.Distance.{dist}
+use Rattle.network.specs.Order.{Upto}
 use Rattle.network.specs.Points.{marked, countNearer, verified, isListed, listed}
-use Rattle.network.specs.Rows.{tableDistances}
-use Rattle.network.specs.Answers.{answered}
+use Rattle.network.specs.Rows.{tableDistances, IsTable}
+use Rattle.network.specs.Answers.{answered, SomePoints}
 use Rattle.expansion.specs.Area.{queueBase, Blank, Wiped}
 use Rattle.expansion.specs.Visited.{CanVisit}
 use Rattle.searches.specs.Flags.{flagsEnd, Flags, Grows, Looked}
 use Rattle.searches.specs.Eager.{isFound}
-use Rattle.rows.specs.Flat.{IsTable}
 
 -- where the outer area starts: the inner one starts behind the flags
 abbrev pub queryOuterBase : Network → ℕ
@@ -139,13 +138,6 @@ pub record CanQuery (g : Network) (P ids dists xs old : List ℕ) (q k K : ℕ) 
   pub blank : Blank xs 0
   pub size : queueBase (nodeCount g) (queryOuterBase g) + 2 * nodeCount g ≤ length xs
   pub answers : nodeCount g ≤ length old
-
--- On a table that the check would deny, 'the list (marked nodes, ascending) [..] [is] free': the points that pass some test
-pub record SomePoints (g : Network) (P old new : List ℕ) (size : ℕ) : Type 0 where
-  pub test : ℕ → Bool
-  pub points : (p : ℕ) → p < nodeCount g → test p ≡ true → marked P p ≡ true
-  pub answers : new ≡ answered (select test (nodeCount g)) old
-  pub sized : size ≡ length (select test (nodeCount g))
 
 -- 'Table query (eager-M): the list', on the table of the points. All words are 0 again.
 pub record QueryLeft (g : Network) (P ids dists : List ℕ) (q k K : ℕ) (xs ys old new : List ℕ) (size : ℕ) : Type 0 where

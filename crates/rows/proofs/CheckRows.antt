@@ -16,7 +16,8 @@ use borrow.Author.Tests.{not-false, eq-eqb, ne-eqb, eqb-true, eqb-false, lt-ltb,
 use Rattle.network.specs.Distance.{NONE}
 use Rattle.network.specs.Count.{any, count, bit}
 use Rattle.network.specs.Points.{lockers}
-use Rattle.network.specs.Nearest.{key, times}
+use Rattle.network.specs.Nearest.{key}
+use Rattle.network.specs.Order.{times}
 use Rattle.network.specs.Rows.{pad}
 use Rattle.network.proofs.Tests.{and-parts, and-intro, or-parts, or-cases, or-left, or-right, any-none, none-any, one-any, any-passes}
 use Rattle.network.proofs.Counts.{member-at, count-same, count-up, count-still, count-without}

@@ -12,7 +12,8 @@ use borrow.Author.Tests.{eq-eqb, ne-eqb}
 use Rattle.network.specs.Network.{Network, nodeCount}
 use Rattle.network.specs.Accepted.{Accepted}
 use Rattle.network.specs.Distance.{NONE}
-use Rattle.network.specs.Nearest.{key, nearest, Ordered}
+use Rattle.network.specs.Nearest.{key, nearest}
+use Rattle.network.specs.Order.{Ordered}
 use Rattle.network.specs.Rows.{pad, row}
 use Rattle.network.proofs.Rows.{listed-near}
 use Rattle.rows.specs.Flat.{unpadded, place, places, At, Flat}

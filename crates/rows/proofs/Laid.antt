@@ -14,10 +14,10 @@ use Rattle.network.specs.Network.{Network, nodeCount}
 use Rattle.network.specs.Accepted.{Accepted}
 use Rattle.network.specs.Distance.{NONE}
 use Rattle.network.specs.Nearest.{nearest}
-use Rattle.network.specs.Rows.{row, rowsBelow, tableIds, tableDistances}
+use Rattle.network.specs.Rows.{row, rowsBelow, tableIds, tableDistances, Sized, IsTable}
 use Rattle.network.proofs.Lends.{row-fits}
 use Rattle.network.proofs.Rows.{row-length}
-use Rattle.rows.specs.Flat.{place, places, rowAt, Sized, IsTable, Flat}
+use Rattle.rows.specs.Flat.{place, places, rowAt, Flat}
 use Rattle.rows.proofs.Flat.{places-length, places-at, flat-iff-exact}
 
 -- two rows have no place in common

@@ -15,7 +15,8 @@ use Rattle.network.specs.Walk.{here, step}
 use Rattle.network.specs.Distance.{NONE, dist}
 use Rattle.network.proofs.Distances.{dist-self, dist-arc, dist-next}
 use Rattle.network.specs.Points.{lockers, marked}
-use Rattle.network.specs.Nearest.{key, nearest, before, times}
+use Rattle.network.specs.Nearest.{key, nearest}
+use Rattle.network.specs.Order.{before, times}
 use Rattle.network.proofs.Ordered.{below, below-all}
 use Rattle.network.proofs.Rank.{Before, before-mono, before-most, before-step}
 use Rattle.network.proofs.Rows.{nearest-ordered, nearest-length, nearest-below, nearest-times, nearest-no-more, near-listed, listed-near, nearest-source}

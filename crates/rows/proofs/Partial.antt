@@ -14,7 +14,8 @@ use Rattle.network.specs.Accepted.{Accepted}
 use Rattle.network.specs.Distance.{NONE, dist}
 use Rattle.network.specs.Count.{weighed}
 use Rattle.network.specs.Points.{lockers, marked}
-use Rattle.network.specs.Nearest.{key, isBefore, before, Nearer, times}
+use Rattle.network.specs.Nearest.{key}
+use Rattle.network.specs.Order.{isBefore, before, Nearer, times}
 use Rattle.network.proofs.Totals.{total-le}
 use Rattle.network.proofs.Distances.{Next, dist-at-most, dist-walk, dist-self, dist-next}
 use Rattle.network.proofs.Ordered.{below, below-most, below-up, all-below, copies, copies-most, copies-all, copies-some, sum-copies}

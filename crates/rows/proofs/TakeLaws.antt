@@ -14,7 +14,8 @@ use lib.ListN.{length, getD, set, replicate, length-set, length-append, List·ge
 use lib.Seq.{ext-getD, getD-set-same, getD-set-other}
 use borrow.Author.Tests.{eq-eqb, ne-eqb}
 use Rattle.network.specs.Distance.{NONE}
-use Rattle.network.specs.Nearest.{key, insert, Ordered, times}
+use Rattle.network.specs.Nearest.{key, insert}
+use Rattle.network.specs.Order.{Ordered, times}
 use Rattle.network.specs.Rows.{pad}
 use Rattle.network.proofs.Ordered.{Small, key-pair}
 use Rattle.network.proofs.Insert.{insert-behind, insert-before, insert-length, insert-nil}

@@ -17,7 +17,8 @@ use Rattle.network.specs.Accepted.{Accepted}
 use Rattle.network.specs.Distance.{NONE, dist}
 use Rattle.network.specs.Count.{weighed}
 use Rattle.network.specs.Points.{lockers, isNearer}
-use Rattle.network.specs.Nearest.{key, insert, insertTimes, byDistance, nearest, before}
+use Rattle.network.specs.Nearest.{key, insert, insertTimes, byDistance, nearest}
+use Rattle.network.specs.Order.{before}
 use Rattle.network.specs.Rows.{pad, row}
 use Rattle.network.proofs.Counts.{bit-lt}
 use Rattle.network.proofs.Distances.{dist-at-most}

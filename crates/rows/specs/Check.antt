@@ -4,8 +4,8 @@
 -- Assumes nothing.
 use Prim.Native.Nat.{ℕ, _+_, _-_, _*_, _≤_}
 use mathlib.Core.Path.{_≡_}
-use mathlib.Core.Bool.{Bool, true, false, cond, not, _&&_, _||_}
-use mathlib.Core.List.{List, [], _∷_}
+use mathlib.Core.Bool.{Bool, cond, not, _&&_, _||_}
+use mathlib.Core.List.{List}
 use lib.Dec.{eqb, ltb, leb}
 use lib.ListN.{length, getD, take, drop}
 use Rattle.network.specs.Network.{Network, nodeCount, neighboursOf, weightsOf}
@@ -14,8 +14,8 @@ use Rattle.network.specs.Distance.{NONE}
 use Rattle.network.specs.Count.{any, count}
 use Rattle.network.specs.Points.{lockers, marked}
 use Rattle.network.specs.Nearest.{key}
-use Rattle.network.specs.Rows.{tableIds, tableDistances}
-use Rattle.rows.specs.Flat.{place, Sized}
+use Rattle.network.specs.Rows.{Sized}
+use Rattle.rows.specs.Flat.{place}
 
 -- 'Row i starts in the middle of each array, at i × K, and is passed to its reader or writer as that part.'
 unfoldable pub rowPart : ℕ → ℕ → List ℕ → List ℕ
@@ -133,16 +133,6 @@ badNode g P K ids dists i =
     || lacksOwn P (rowPart K i ids) (rowPart K i dists) i
     || unsupported g P K ids dists i
     || unclosed g K ids dists i
-
--- both arrays are the table: entry by entry
-unfoldable pub sameList : List ℕ → List ℕ → Bool
-sameList [] [] = true
-sameList [] (y ∷ ys) = false
-sameList (x ∷ xs) [] = false
-sameList (x ∷ xs) (y ∷ ys) = eqb x y && sameList xs ys
-
-unfoldable pub sameTable : Network → List ℕ → ℕ → List ℕ → List ℕ → Bool
-sameTable g P K ids dists = sameList ids (tableIds g P K) && sameList dists (tableDistances g P K)
 
 -- row i lies in both arrays
 pub record HasRows (K : ℕ) (ids dists : List ℕ) (i : ℕ) : Type 0 where

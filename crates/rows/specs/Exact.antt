@@ -9,7 +9,8 @@ use lib.ListN.{length}
 use Rattle.network.specs.Network.{Network, Arc, nodeCount}
 use Rattle.network.specs.Walk.{Walk}
 use Rattle.network.specs.Points.{lockers, marked}
-use Rattle.network.specs.Nearest.{key, Ordered, times}
+use Rattle.network.specs.Nearest.{key}
+use Rattle.network.specs.Order.{Ordered, times}
 
 -- a row is full of what does not come behind (p, d)
 pub record Full (K : ℕ) (xs : List (ℕ × ℕ)) (p d : ℕ) : Type 0 where

@@ -6,10 +6,10 @@ use mathlib.Core.Path.{_≡_}
 use mathlib.Core.Bool.{true, false}
 use mathlib.Core.List.{List, [], _∷_}
 use lib.Dec.{eqb}
-use lib.ListN.{length, getD}
+use lib.ListN.{getD}
 use Rattle.network.specs.Network.{Network, nodeCount}
 use Rattle.network.specs.Distance.{NONE}
-use Rattle.network.specs.Rows.{pad, tableIds, tableDistances}
+use Rattle.network.specs.Rows.{pad}
 use Rattle.rows.specs.Exact.{Local}
 
 -- the entries before the first NONE
@@ -33,16 +33,6 @@ pub record At (ids dists : List ℕ) (at k : ℕ) (z : ℕ × ℕ) : Type 0 wher
   pub index : ℕ
   pub low : index < k
   pub is : z ≡ place ids dists (at + index)
-
--- both arrays are n * K long
-pub record Sized (g : Network) (K : ℕ) (ids dists : List ℕ) : Type 0 where
-  pub all-ids : length ids ≡ nodeCount g * K
-  pub all-dists : length dists ≡ nodeCount g * K
-
--- both arrays are the table of document 01
-pub record IsTable (g : Network) (P : List ℕ) (K : ℕ) (ids dists : List ℕ) : Type 0 where
-  pub same-ids : ids ≡ tableIds g P K
-  pub same-dists : dists ≡ tableDistances g P K
 
 -- its rows, up to the first NONE, have the local properties, and behind it there is only padding
 pub record Flat (g : Network) (P : List ℕ) (K : ℕ) (ids dists : List ℕ) : Type 0 where

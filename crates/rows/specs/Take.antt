@@ -10,7 +10,7 @@ use mathlib.Core.List.{List, [], _∷_, _++_}
 use lib.Dec.{eqb}
 use lib.ListN.{length, getD}
 use Rattle.network.specs.Distance.{NONE}
-use Rattle.network.specs.Nearest.{times}
+use Rattle.network.specs.Order.{times}
 use Rattle.rows.specs.Flat.{places, rowAt}
 
 -- the row without the first entry of p, and one empty place more at its end

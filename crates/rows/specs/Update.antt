@@ -7,7 +7,8 @@ use mathlib.Core.List.{List}
 use Rattle.network.specs.Network.{Network}
 use Rattle.network.specs.Distance.{NONE, dist}
 use Rattle.network.specs.Points.{lockers}
-use Rattle.network.specs.Nearest.{key, before}
+use Rattle.network.specs.Nearest.{key}
+use Rattle.network.specs.Order.{before}
 
 -- P′ has one more locker at x than P
 pub record Added (P P′ : List ℕ) (x : ℕ) : Type 0 where

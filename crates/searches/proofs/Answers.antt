@@ -11,7 +11,8 @@ use Rattle.network.specs.Accepted.{Accepted}
 use Rattle.network.specs.Walk.{Walk}
 use Rattle.network.specs.Distance.{NONE, dist}
 use Rattle.network.specs.Points.{lockers, countNearer, isListed, isExpanded}
-use Rattle.network.specs.Nearest.{key, Nearer, before}
+use Rattle.network.specs.Nearest.{key}
+use Rattle.network.specs.Order.{Nearer, before}
 use borrow.Author.Tests.{ltb-true}
 use Rattle.network.proofs.Distances.{dist-walk, dist-symmetric}
 use Rattle.network.proofs.Rank.{Near, before-step, before-most}

@@ -16,7 +16,8 @@ use Rattle.network.specs.Accepted.{Accepted}
 use Rattle.network.specs.Distance.{NONE, dist}
 use Rattle.network.specs.Count.{bit}
 use Rattle.network.specs.Points.{lockers, isListed, isExpanded, expanded}
-use Rattle.network.specs.Nearest.{nearest, Nearer}
+use Rattle.network.specs.Nearest.{nearest}
+use Rattle.network.specs.Order.{Nearer}
 use Rattle.network.specs.Visits.{counted, visits}
 use Rattle.network.proofs.Tests.{bool-cases}
 use Rattle.network.proofs.Counts.{count-few}

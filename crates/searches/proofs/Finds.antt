@@ -12,7 +12,7 @@ use Rattle.network.specs.Network.{Network, Arc}
 use Rattle.network.specs.Accepted.{Accepted}
 use Rattle.network.specs.Distance.{NONE, dist}
 use Rattle.network.specs.Points.{countNearer, isListed}
-use Rattle.network.specs.Nearest.{Nearer}
+use Rattle.network.specs.Order.{Nearer}
 use Rattle.network.proofs.Distances.{Previous, dist-at-most, dist-self, dist-symmetric, dist-triangle, dist-arc, dist-next, dist-previous}
 use Rattle.network.proofs.Rank.{count-nearer-mono, others-nearly, others-part}
 use Rattle.expansion.proofs.Origins.{Last, one, one-lawful}

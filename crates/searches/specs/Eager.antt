@@ -13,15 +13,12 @@ use Rattle.network.specs.Points.{isListed, listed, expanded}
 use Rattle.network.specs.Visits.{visits}
 use Rattle.network.specs.Count.{select}
 use Rattle.network.specs.Answers.{answered}
+use Rattle.network.specs.Scratch.{eagerWords}
 use Rattle.expansion.specs.Area.{queueBase, Blank, Wiped, Area}
 use Rattle.searches.specs.declared.eager.Limited.{Limited}
 use Rattle.searches.specs.declared.eager.Limited.the-variants.{Refused, Listed}
 use Rattle.searches.specs.declared.eager.End.{End}
 use Rattle.searches.specs.Flags.{flagsEnd, idsBase, innerBase}
-
--- how many words eager works with, for every k and every number of arcs
-abbrev pub eagerWords : Network → ℕ
-eagerWords g = 12 * nodeCount g
 
 -- where the outer area starts
 abbrev pub eagerOuterBase : Network → ℕ

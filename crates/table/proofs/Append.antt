@@ -10,7 +10,8 @@ use native.Mathlib.Omega.{arith}
 use lib.ListN.{length, replicate, length-append, length-replicate}
 use borrow.Author.Tests.{eq-eqb, ne-eqb}
 use Rattle.network.specs.Points.{lockers}
-use Rattle.network.specs.Nearest.{key, Ordered, times}
+use Rattle.network.specs.Nearest.{key}
+use Rattle.network.specs.Order.{Ordered, times}
 use Rattle.network.proofs.Ordered.{times-none}
 use Rattle.network.proofs.Rows.{padding}
 use Rattle.rows.specs.Exact.{Full, Sorted}

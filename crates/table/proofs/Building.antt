@@ -15,7 +15,8 @@ use Rattle.network.specs.Accepted.{Accepted}
 use Rattle.network.specs.Walk.{step}
 use Rattle.network.specs.Distance.{NONE, dist}
 use Rattle.network.specs.Points.{lockers}
-use Rattle.network.specs.Nearest.{key, Nearer}
+use Rattle.network.specs.Nearest.{key}
+use Rattle.network.specs.Order.{Nearer}
 use Rattle.network.proofs.NodeArcs.{arc-source}
 use Rattle.network.proofs.Distances.{dist-at-most, dist-walk, dist-zero}
 use Rattle.network.proofs.Rows.{padding}

@@ -18,7 +18,7 @@ use Rattle.network.specs.Walk.{here}
 use Rattle.network.specs.Distance.{NONE}
 use Rattle.network.specs.Nearest.{key}
 use Rattle.network.specs.Points.{lockers, marked}
-use Rattle.network.specs.Rows.{row}
+use Rattle.network.specs.Rows.{row, Sized, IsTable}
 use Rattle.network.proofs.Ranges.{arc-at, arc-place, neighbours-length}
 use Rattle.network.proofs.NumberZero.{accepted-ranges}
 use Rattle.network.proofs.Least.{distance}
@@ -29,7 +29,7 @@ use Rattle.table.specs.Room.{degree}
 use Rattle.expansion.proofs.TagLaws.{entry-same, no-later-parts}
 use Rattle.expansion.proofs.EnteredLaws.{entered-held}
 use Rattle.rows.specs.Exact.{Placed}
-use Rattle.rows.specs.Flat.{place, places, rowAt, Sized, IsTable}
+use Rattle.rows.specs.Flat.{place, places, rowAt}
 use Rattle.table.specs.Offer.{offerOf, arcOffer}
 use Rattle.table.specs.Build.{Stands, NoPlaceAt, CanAppend, AppendTakesAt, AppendRefusesAt, CanOfferOn, OfferedOn, PointsSeeded, CanSpread, often}
 use Rattle.rows.proofs.Exact.{exact-row}

@@ -12,7 +12,8 @@ use borrow.Author.Tests.{le-ltb}
 use Rattle.network.specs.Network.{Network, Arc}
 use Rattle.network.specs.Accepted.{Accepted}
 use Rattle.network.specs.Distance.{NONE, dist}
-use Rattle.network.specs.Nearest.{key, nearest, before}
+use Rattle.network.specs.Nearest.{key, nearest}
+use Rattle.network.specs.Order.{before}
 use Rattle.network.specs.Rows.{row}
 use Rattle.network.proofs.Distances.{dist-at-most, dist-arc}
 use Rattle.network.proofs.Ordered.{below-most, below-all}

@@ -12,10 +12,11 @@ use native.Mathlib.Omega.{arith}
 use lib.ListN.{length, getD, take}
 use Rattle.network.specs.Network.{Network, nodeCount, neighboursOf}
 use Rattle.network.specs.Accepted.{Accepted}
-use Rattle.network.specs.Distance.{NONE, dist, Upto}
+use Rattle.network.specs.Distance.{NONE, dist}
+use Rattle.network.specs.Order.{Upto}
 use Rattle.network.specs.Count.{count}
 use Rattle.network.specs.Nearest.{insert, nearest}
-use Rattle.network.specs.Rows.{row, rowsChanged}
+use Rattle.network.specs.Rows.{row, rowsChanged, Sized, IsTable}
 use Rattle.network.proofs.Counts.{count-mono, count-none, without, without-other, count-without, without-not}
 use Rattle.network.proofs.Distances.{dist-walk, dist-symmetric, dist-at-most}
 use Rattle.network.proofs.Lends.{row-fits}
@@ -30,11 +31,11 @@ use Rattle.expansion.proofs.AreaLaws.{moved-same, settledAs, others-settle}
 use Rattle.expansion.proofs.AreaSearch.{took-area, took-word, took-moved, took-waited, took-exact, search-finished, settle-marks}
 use Rattle.expansion.proofs.Progress.{Progress, progress-begun, progress-start, progress-settled, took-walk}
 use Rattle.expansion.proofs.Stopping.{progress-stopped}
-use Rattle.rows.specs.Flat.{rowAt, Sized, IsTable}
+use Rattle.rows.specs.Flat.{rowAt}
 use Rattle.rows.specs.Update.{Added, Gains}
 use Rattle.rows.specs.Put.{takes, HasRow, PutInRow}
 use Rattle.table.specs.Insert.{CanInsert}
-use Rattle.table.specs.Updated.{moreAt}
+use Rattle.network.specs.Points.{moreAt}
 use Rattle.table.proofs.Gains.{taken-gains, gains-next}
 use Rattle.rows.proofs.Laid.{table-rows, rows-table}
 use Rattle.rows.proofs.Update.{row-added, row-kept, gains-or-not, changed-gains, set-added}

@@ -19,8 +19,9 @@ use Rattle.network.specs.Walk.{Walk, step}
 use Rattle.network.specs.Distance.{NONE, dist}
 use Rattle.network.specs.Points.{lockers, marked}
 use Rattle.network.specs.Count.{count, bit}
-use Rattle.network.specs.Nearest.{key, insert, nearest, before, Nearer, times}
-use Rattle.network.specs.Rows.{pad, row, rowsChanged}
+use Rattle.network.specs.Nearest.{key, insert, nearest}
+use Rattle.network.specs.Order.{before, Nearer, times}
+use Rattle.network.specs.Rows.{pad, row, rowsChanged, IsTable}
 use Rattle.network.proofs.Distances.{dist-walk, dist-at-most, dist-next, dist-self, dist-zero}
 use Rattle.network.proofs.Least.{distance}
 use Rattle.network.proofs.Tests.{bool-cases}
@@ -33,7 +34,7 @@ use Rattle.expansion.specs.Queue.{Holds, PoppedAt}
 use Rattle.expansion.specs.Area.{PutAmong}
 use Rattle.expansion.proofs.TagLaws.{entry-same, no-later-key}
 use Rattle.expansion.proofs.EnteredLaws.{entered-held}
-use Rattle.rows.specs.Flat.{rowAt, IsTable}
+use Rattle.rows.specs.Flat.{rowAt}
 use Rattle.rows.specs.Update.{Added, Gains}
 use Rattle.rows.specs.Take.{takeOut, takeIf}
 use Rattle.table.specs.Candidate.{FitsRow, GivesOver}

@@ -10,7 +10,7 @@ use native.Mathlib.Nat.{mul-le-mul-right}
 use native.Mathlib.Omega.{arith}
 use lib.Dec.{eqb}
 use lib.ListN.{length, getD, set, drop, replicate, length-set, length-replicate}
-use Rattle.network.specs.Points.{lockers}
+use Rattle.network.specs.Points.{lockers, fewerAt}
 use lib.Seq.{drop-set-lt, getD-drop, getD-set-same, getD-set-other}
 use borrow.Author.Tests.{ne-eqb, lt-ltb, ltb-true}
 use Rattle.network.specs.Network.{Network, nodeCount, arcCount, neighboursOf, weightsOf}
@@ -26,12 +26,12 @@ use Rattle.expansion.proofs.QueueLaws.{empty-queue}
 use Rattle.expansion.proofs.Settled.{zero-blank}
 use Rattle.expansion.proofs.TagLaws.{entry-same}
 use Rattle.table.proofs.Room.{left-same, left-less, left-most}
-use Rattle.rows.specs.Flat.{Sized}
+use Rattle.network.specs.Rows.{Sized}
 use Rattle.rows.specs.Update.{Added}
 use Rattle.table.specs.Offer.{offerOf, arcOffer, CanOffer}
 use Rattle.table.specs.Mend.{isShort, CanFree, Freed, CanSeedShort, ShortSeeded, CanTakeIn, TakenIn, OfferedShort, OfferEntry, Waiting, CanFill, Mending, FillLeft}
 use Rattle.table.specs.Remove.{CanRemove}
-use Rattle.table.specs.Updated.{fewerAt, UpdateLeft}
+use Rattle.table.specs.Updated.{UpdateLeft}
 use Rattle.rows.proofs.Laid.{rows-table}
 use Rattle.rows.proofs.Update.{set-removed}
 use Rattle.table.proofs.RemoveSteps.{freed-few, row-inside}

@@ -16,13 +16,15 @@ use borrow.Rule.Slice.PartMut.{midOf, putMid, mid-len, put-same, set-mid-at}
 use Rattle.network.specs.Network.{Network, nodeCount, neighboursOf, weightsOf}
 use Rattle.network.specs.Distance.{NONE, LONGEST}
 use Rattle.network.specs.Count.{bit, count}
-use Rattle.network.specs.Nearest.{key, times}
+use Rattle.network.specs.Nearest.{key}
+use Rattle.network.specs.Order.{times}
 use Rattle.network.specs.Points.{lockers}
 use Rattle.network.proofs.Counts.{count-few}
 use Rattle.network.proofs.Lends.{mid-length, mid-at, row-fits}
 use Rattle.network.proofs.Rank.{marked-inside}
 use Rattle.expansion.specs.Queue.{Queue, PushedAt}
-use Rattle.rows.specs.Flat.{place, rowAt, Sized}
+use Rattle.rows.specs.Flat.{place, rowAt}
+use Rattle.network.specs.Rows.{Sized}
 use Rattle.rows.specs.Take.{takeIf, TakenOutOfRow}
 use Rattle.rows.specs.Check.{among}
 use Rattle.table.specs.Candidate.{Fits, Better, Gives, BestOfRow, FitsRow, GivesOver, BestOf}

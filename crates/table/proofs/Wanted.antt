@@ -17,7 +17,8 @@ use Rattle.network.specs.Accepted.{Accepted}
 use Rattle.network.specs.Distance.{NONE, dist}
 use Rattle.network.specs.Count.{bit}
 use Rattle.network.specs.Points.{lockers}
-use Rattle.network.specs.Nearest.{key, insert, byDistance, nearest, before, Nearer, times}
+use Rattle.network.specs.Nearest.{key, insert, byDistance, nearest}
+use Rattle.network.specs.Order.{before, Nearer, times}
 use Rattle.network.specs.Rows.{pad, row}
 use Rattle.network.proofs.Counts.{member-at}
 use Rattle.network.proofs.Ordered.{below, below-most, at-above, place-own}

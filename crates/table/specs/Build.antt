@@ -12,7 +12,7 @@ use Rattle.network.specs.Accepted.{Accepted}
 use Rattle.network.specs.Distance.{NONE}
 use Rattle.network.specs.Points.{marked}
 use Rattle.expansion.specs.Area.{Blank, Wiped, Entered}
-use Rattle.rows.specs.Flat.{Sized, IsTable}
+use Rattle.network.specs.Rows.{Sized, IsTable}
 use Rattle.table.specs.Offer.{offerOf, arcOffer, CanOffer}
 
 -- a point stands among the `size` ids from place `from` on

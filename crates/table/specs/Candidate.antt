@@ -10,8 +10,10 @@ use Rattle.network.specs.Network.{Network, nodeCount, neighboursOf, weightsOf}
 use Rattle.network.specs.Accepted.{Accepted}
 use Rattle.network.specs.Distance.{NONE, LONGEST}
 use Rattle.network.specs.Points.{lockers}
-use Rattle.network.specs.Nearest.{key, times}
-use Rattle.rows.specs.Flat.{rowAt, Sized}
+use Rattle.network.specs.Nearest.{key}
+use Rattle.network.specs.Order.{times}
+use Rattle.rows.specs.Flat.{rowAt}
+use Rattle.network.specs.Rows.{Sized}
 use Rattle.rows.specs.Check.{among}
 
 -- (p, e) of a neighbour's row may go into a row: the row lacks a locker of p, and e can be a distance

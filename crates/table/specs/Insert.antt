@@ -8,7 +8,7 @@ use lib.ListN.{length}
 use Rattle.network.specs.Network.{Network, nodeCount}
 use Rattle.network.specs.Points.{lockers}
 use Rattle.expansion.specs.Expand.{CanExpand}
-use Rattle.rows.specs.Flat.{Sized}
+use Rattle.network.specs.Rows.{Sized}
 
 -- an accepted network with a byte for each node, a node with fewer than 15 lockers, words that are all 0 with room for an expansion, and two arrays
 -- of n rows of K places, of any contents

@@ -14,12 +14,13 @@ use Rattle.network.specs.Walk.{Walk}
 use Rattle.network.specs.Distance.{NONE, LONGEST, dist}
 use Rattle.network.specs.Points.{lockers, marked}
 use Rattle.network.specs.Count.{count}
-use Rattle.network.specs.Nearest.{key, nearest, Nearer, before, times}
-use Rattle.network.specs.Rows.{pad, row}
+use Rattle.network.specs.Nearest.{key, nearest}
+use Rattle.network.specs.Order.{Nearer, before, times}
+use Rattle.network.specs.Rows.{pad, row, Sized}
 use Rattle.expansion.specs.Queue.{Holds, Queue}
 use Rattle.expansion.specs.Area.{Kept, Entered}
 use Rattle.table.specs.Room.{arcsLeft}
-use Rattle.rows.specs.Flat.{rowAt, Sized}
+use Rattle.rows.specs.Flat.{rowAt}
 use Rattle.rows.specs.Take.{takeIf}
 use Rattle.rows.specs.Check.{among}
 use Rattle.table.specs.Candidate.{GivesOver, BestOf}

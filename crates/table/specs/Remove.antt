@@ -10,7 +10,7 @@ use Rattle.network.specs.Network.{Network, nodeCount, arcCount}
 use Rattle.network.specs.Accepted.{Accepted}
 use Rattle.network.specs.Points.{marked}
 use Rattle.expansion.specs.Area.{Blank}
-use Rattle.rows.specs.Flat.{Sized}
+use Rattle.network.specs.Rows.{Sized}
 
 -- an accepted network with a byte for each node, a node that is a point, words that are all 0, and two arrays of n rows of K places, of any contents
 pub record CanRemove (g : Network) (P xs ids dists : List ℕ) (x K : ℕ) : Type 0 where

@@ -1,22 +1,12 @@
 -- What an update of the marks leaves. Document 01, 'The table', with Ask 8: 'Insert adds one, remove takes one'; 'each brings the table up to date and
 -- returns the number of rows whose contents differ before and after.'
 -- Assumes nothing.
-use Prim.Native.Nat.{ℕ, _+_, _-_, _≤_}
+use Prim.Native.Nat.{ℕ, _≤_}
 use mathlib.Core.Path.{_≡_}
 use mathlib.Core.List.{List}
-use lib.ListN.{set}
 use Rattle.network.specs.Network.{Network, nodeCount}
-use Rattle.network.specs.Points.{lockers}
-use Rattle.network.specs.Rows.{rowsChanged}
+use Rattle.network.specs.Rows.{rowsChanged, Sized, IsTable}
 use Rattle.expansion.specs.Area.{Wiped}
-use Rattle.rows.specs.Flat.{Sized, IsTable}
-
--- 'Insert adds one, remove takes one' (Ask 8)
-abbrev pub moreAt : List ℕ → ℕ → List ℕ
-moreAt P x = set P x (lockers P x + 1)
-
-abbrev pub fewerAt : List ℕ → ℕ → List ℕ
-fewerAt P x = set P x (lockers P x - 1)
 
 -- the marks P become Q, and the table of P becomes that of Q. 'On one that the check would deny, [..] the changed count (at most n) and the table
 -- are free; the marks still change by the rule.' All words are 0 again.

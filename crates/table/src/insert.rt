@@ -1,7 +1,8 @@
 // Insert: document 01, 'The table'. An expansion from the new point that stops behind a row that does not take it.
 ghost use Rattle.network.specs.Network.{network};
 ghost use Rattle.table.specs.Insert.{CanInsert};
-ghost use Rattle.table.specs.Updated.{moreAt, UpdateLeft};
+ghost use Rattle.table.specs.Updated.{UpdateLeft};
+ghost use Rattle.network.specs.Points.{moreAt};
 use expansion::step;
 use expansion::step::Taken;
 use network::arcs::wide;

@@ -13,8 +13,7 @@ use Rattle.conditions.specs.declared.kind.Kind.{Kind}
 use Rattle.conditions.specs.declared.answers.Update.{Update}
 use Rattle.conditions.specs.declared.answers.Listing.{Listing}
 use Rattle.conditions.specs.Values.{listedListing, updatedUpdate}
-use Rattle.rows.specs.Flat.{IsTable}
-use Rattle.rows.specs.Check.{sameTable}
+use Rattle.network.specs.Rows.{IsTable, sameTable}
 use Rattle.conditions.specs.declared.answers.Rule.{Rule}
 use Rattle.conditions.specs.declared.answers.Rule.the-variants.{Refused, Answer}
 use Rattle.numbers.specs.Numbers.{buildNumber, tableCheckNumber, changeNumber, tableQueryNumber}

@@ -4,7 +4,7 @@
 use Prim.Native.Nat.{ℕ}
 use mathlib.Core.List.{List}
 use Rattle.network.specs.Network.{Network}
-use Rattle.rows.specs.Check.{sameTable}
+use Rattle.network.specs.Rows.{sameTable}
 use Rattle.conditions.specs.declared.answers.Rule.{Rule}
 use Rattle.conditions.specs.declared.answers.Rule.the-variants.{Refused, Answer}
 use Rattle.conditions.specs.Conditions.{byNumber}

@@ -8,9 +8,8 @@ use mathlib.Core.List.{List}
 use lib.ListN.{length, replicate}
 use Rattle.network.specs.Network.{Network}
 use Rattle.network.specs.Points.{listed}
-use Rattle.network.specs.Answers.{answered}
-use Rattle.rows.specs.Flat.{IsTable}
-use Rattle.query.specs.Query.{SomePoints}
+use Rattle.network.specs.Answers.{answered, SomePoints}
+use Rattle.network.specs.Rows.{IsTable}
 use Rattle.conditions.specs.declared.answers.Listing.{Listing}
 use Rattle.conditions.specs.declared.answers.Listed.{Listed}
 use Rattle.conditions.specs.declared.answers.Listed.the-variants as is

@@ -7,9 +7,8 @@ use mathlib.Core.Logic.{_≢_}
 use mathlib.Core.List.{List}
 use lib.ListN.{length, replicate}
 use Rattle.network.specs.Network.{Network, nodeCount}
-use Rattle.network.specs.Rows.{rowsChanged}
-use Rattle.rows.specs.Flat.{Sized, IsTable}
-use Rattle.table.specs.Updated.{moreAt, fewerAt}
+use Rattle.network.specs.Rows.{rowsChanged, Sized, IsTable}
+use Rattle.network.specs.Points.{moreAt, fewerAt}
 use Rattle.conditions.specs.declared.kind.Kind.{Kind}
 use Rattle.conditions.specs.declared.kind.Kind.the-variants.{Insert, Remove}
 use Rattle.conditions.specs.declared.answers.Updated.{Updated}

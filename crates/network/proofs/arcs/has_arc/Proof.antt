@@ -2,7 +2,8 @@
 -- Assumes nothing.
 use Rattle.network.proofs.NodeArcs.{parts-even}
 use Rattle.network.specs.Network.{Network, network, neighboursOf}
-use Rattle.network.specs.Parts.{Ascending, LowerBound}
+use Rattle.network.specs.Parts.{LowerBound}
+use Rattle.network.specs.Answers.{Ascending}
 use mathlib.Core.Path.{sym, ap}
 use mathlib.Core.Logic.{inl, inr}
 use native.Mathlib.Omega.{arith}

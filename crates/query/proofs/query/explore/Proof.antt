@@ -11,7 +11,7 @@ use Rattle.network.specs.Network.{Network, network, nodeCount, neighboursOf}
 use Rattle.expansion.specs.Area.{Took, Followed}
 use Rattle.expansion.proofs.AreaLaws.{settledAs}
 use Rattle.expansion.proofs.Progress.{took-place, took-fits, took-follow}
-use Rattle.rows.specs.Flat.{IsTable}
+use Rattle.network.specs.Rows.{IsTable}
 use Rattle.query.proofs.Querying.{Querying, Arrived, can-expand, querying-start, front-size, can-look, arrived-size, arrive, querying-stopped, querying-opened, ended-only, ended-found}
 use borrow.Author.Needs.{needs}
 use Rattle.query.proofs.query.explore.Statement.{statement}
