@@ -1,10 +1,10 @@
 // Network N of document 01 through every public call, with its cases P1 to P10, the lease list and the twelve refusals.
+use network_n::refusals;
 use network_n::text::put;
 
 mod cases;
 mod lease;
 mod queries;
-mod refusals;
 mod updates;
 
 fn show_network() {

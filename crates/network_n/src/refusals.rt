@@ -1,11 +1,11 @@
 // The twelve numbers of refusal, each with the example that document 01 gives, 6 and 11 with those of Ask 8.
-use network_n::NEIGHBOURS;
-use network_n::POINTS;
-use network_n::SCRATCH;
-use network_n::STARTS;
-use network_n::WEIGHTS;
-use network_n::text::put;
-use network_n::text::put_refusal;
+use crate::NEIGHBOURS;
+use crate::POINTS;
+use crate::SCRATCH;
+use crate::STARTS;
+use crate::WEIGHTS;
+use crate::text::put;
+use crate::text::put_refusal;
 
 fn show(example: &[u8], number: u32) {
     put(example);
@@ -42,7 +42,7 @@ pub fn show_networks() {
 pub fn show_arguments() {
     let mut answers = [0; 6];
     let mut visits = [0; 6];
-    let byte = network_n::eager(
+    let byte = crate::eager(
         &WEIGHTS,
         &[0, 0, 16, 0, 1, 1],
         0,
@@ -52,9 +52,9 @@ pub fn show_arguments() {
         &mut visits,
     );
     show(b"  N, byte 16", byte.number);
-    show(b"  N, node 6", network_n::distances(6, &mut answers));
+    show(b"  N, node 6", crate::distances(6, &mut answers));
     show_short_ids();
-    let query = network_n::table_query(0, 2, 2, &[0; 12], &[0; 12], &mut answers);
+    let query = crate::table_query(0, 2, 2, &[0; 12], &[0; 12], &mut answers);
     show(b"  K = 2, k = 2", query.number);
 }
 
@@ -98,11 +98,11 @@ pub fn show_last() {
     let mut points = POINTS;
     let mut ids = [0; 12];
     let mut distances = [0; 12];
-    network_n::build(2, &mut ids, &mut distances);
-    let update = network_n::remove(&mut points, 0, &mut ids, &mut distances);
+    crate::build(2, &mut ids, &mut distances);
+    let update = crate::remove(&mut points, 0, &mut ids, &mut distances);
     show(b"  N, remove 0", update.number);
     let mut answers = [0; 6];
     let mut visits = [0; 6];
-    let listing = network_n::eager(&WEIGHTS, &POINTS, 0, 2, 3, &mut answers, &mut visits);
+    let listing = crate::eager(&WEIGHTS, &POINTS, 0, 2, 3, &mut answers, &mut visits);
     show(b"  N, q = 0, k = 2, limit 3", listing.number);
 }
