@@ -1,4 +1,5 @@
--- What the contracts of this crate cite. The theorems stand in proofs/.
+-- Records of the work: what the queues, the steps of an expansion and the whole expansions ask and leave. No public contract is defined by them. The
+-- theorems stand in proofs/.
 pub mod Tags
 pub mod Queue
 pub mod NodeQueue

@@ -1,1 +1,2 @@
--- The proofs of the exported calls, each in the folder of its name.
+-- The proofs of the exported calls, each in the folder of its name. Demands 2 and 3, about the records that these calls ensure, stand in the crate
+-- `demands`.

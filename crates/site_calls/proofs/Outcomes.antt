@@ -24,12 +24,12 @@ use Rattle.conditions.specs.declared.answers.Listed.the-variants as is
 use Rattle.site_calls.specs.Distances.{DistancesOutcome, distancesOutcome}
 use Rattle.numbers.specs.Numbers.{distancesNumber, nearestNumber, verifyNumber, searchNumber, limitedNumber, eagerNumber}
 use Rattle.site_calls.specs.Nearest.{NearestOutcome, nearestOutcome}
-use Rattle.site_calls.specs.Work.{NearestDone}
+use Rattle.site_calls.specs.Work.{NearestDone, limitedListed}
 use Rattle.site_calls.specs.Verify.{VerifyOutcome, verifyOutcome}
 use Rattle.conditions.specs.Conditions.{limitNumber}
 use Rattle.site_calls.specs.Searched.{SearchOutcome}
 use Rattle.conditions.specs.Values.{listedListing}
-use Rattle.site_calls.specs.Eager.{EagerOutcome, limitedOutcome, visitsOutcome, eagerOutcome, shortOutcome, limitedListed}
+use Rattle.site_calls.specs.Eager.{EagerOutcome, limitedOutcome, visitsOutcome, eagerOutcome, shortOutcome}
 use Rattle.site_calls.specs.Lazy.{lazyOutcome}
 use Rattle.site_calls.specs.Exported.{NearestExported, SearchExported, EagerExported}
 

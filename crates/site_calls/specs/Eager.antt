@@ -9,11 +9,9 @@ use Rattle.network.specs.Network.{Network}
 use Rattle.network.specs.Points.{listed, expanded}
 use Rattle.network.specs.Visits.{visits}
 use Rattle.network.specs.Answers.{answered}
-use Rattle.searches.specs.declared.eager.Limited.{Limited}
-use Rattle.searches.specs.declared.eager.Limited.the-variants as found
 use Rattle.conditions.specs.declared.answers.Listed as call
 use Rattle.conditions.specs.declared.answers.Listed.the-variants as is
-use Rattle.conditions.specs.Conditions.{byNumber, overLimit, limitNumber}
+use Rattle.conditions.specs.Conditions.{byNumber, limitNumber}
 use Rattle.numbers.specs.Numbers.{limitedNumber, eagerNumber}
 use Rattle.site_calls.specs.Searched.{SearchOutcome}
 
@@ -50,8 +48,3 @@ eagerOutcome g P q k limit scratch answers steps =
 -- 'The short query: no k and no limit; eager with k = 1 and limit 65,535', without the visits
 unfoldable pub shortOutcome : Network → List ℕ → ℕ → List ℕ → List ℕ → SearchOutcome
 shortOutcome g P q scratch answers = limitedOutcome (limitedNumber g P q 1 scratch answers) g P q 1 65535 scratch answers
-
--- the answer of either, from that of the search
-abbrev pub limitedListed : Limited → call.Listed
-limitedListed found.Refused = is.Refused overLimit
-limitedListed (found.Listed size count) = is.Points size count

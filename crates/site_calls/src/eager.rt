@@ -2,7 +2,8 @@
 // and the count of nodes expanded.' Document 02, Ask 4: 'Eager also lists the nodes that its count counts'.
 ghost use mathlib.Core.Path.{_≡_};
 ghost use Rattle.network.specs.Network.{network};
-ghost use Rattle.site_calls.specs.Eager.{eagerOutcome, limitedListed};
+ghost use Rattle.site_calls.specs.Eager.{eagerOutcome};
+ghost use Rattle.site_calls.specs.Work.{limitedListed};
 use conditions::answers::Listed;
 use expansion::words;
 use network::arcs::wide;

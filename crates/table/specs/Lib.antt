@@ -1,4 +1,4 @@
--- What the contracts of this crate cite. The theorems stand in proofs/.
+-- Records of the work: what build, insert and remove and their steps ask and leave. No public contract is defined by them. The theorems stand in proofs/.
 pub mod Updated
 pub mod Insert
 pub mod Offer

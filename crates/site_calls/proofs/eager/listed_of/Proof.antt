@@ -1,7 +1,7 @@
 -- `site_calls::eager::listed_of` meets its contract, case by case.
 -- Assumes nothing.
 use mathlib.Core.Path.{sym, ap}
-use Rattle.site_calls.specs.Eager.{limitedListed}
+use Rattle.site_calls.specs.Work.{limitedListed}
 use borrow.Author.Needs.{needs}
 use Rattle.site_calls.proofs.eager.listed_of.Statement.{statement}
 use Rattle.site_calls.proofs.eager.listed_of.Tie as tie
