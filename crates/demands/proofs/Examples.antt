@@ -8,7 +8,7 @@ use Rattle.network.specs.Distance.{plus, leastOver, within, dist, distancesFrom
 use Rattle.network.specs.Points.{isNearer, countNearer, othersNearer, verified, isListed, listed, isExpanded, expanded, exceedsLimit}
 use Rattle.network.specs.Nearest.{insert, insertTimes, byDistance, nearest}
 use Rattle.network.specs.Visits.{visits}
-use Rattle.network.specs.Rows.{row, rowsBelow, tableIds, tableDistances, sameList, sameTable}
+use Rattle.network.specs.Rows.{row, rowsBelow, sameRow, rowsChanged, tableIds, tableDistances, sameList, sameTable}
 use Rattle.network.specs.Answers.{answered}
 use Rattle.conditions.specs.Conditions.{limitNumber, firstNumber, badByteAt, pointsNumber, nodeNumber, kNumber, tableKNumber, tableNumber, shortNumber, fullNumber, unmarkedNumber}
 use Rattle.numbers.specs.Numbers.{queryNumber, tableCheckNumber, buildNumber, tableNodeNumber, networkPointsNumber, siteNumber, tableQueryNumber, distancesNumber, nearestNumber, verifyNumber, searchNumber, limitedNumber, eagerNumber, changeNumber}
@@ -18,10 +18,12 @@ use Rattle.site_calls.specs.Verify.{verifyOutcome}
 use Rattle.site_calls.specs.Eager.{limitedOutcome, visitsOutcome, eagerOutcome, shortOutcome}
 use Rattle.site_calls.specs.Lazy.{lazyOutcome}
 use Rattle.table_calls.specs.TableCheck.{tableCheckAnswer}
+use Rattle.table_calls.specs.Build.{buildOutcome}
+use Rattle.demands.specs.Book.{bookNumber, bookCall, bookAnswers}
 use Rattle.demands.specs.Examples.{Examples}
 
 pub examples : Examples
-unfolding any count total select tabulate arcsFrom arcsOf partOf badSize fallsAt badStarts badNeighbourAt badPart badNeighboursOf badNeighbours badWeightAt badWeights isArcAt hasArc lacksReturnAt lacksReturnOf lacksReturn networkNumber plus leastOver within dist distancesFrom isNearer countNearer othersNearer verified isListed listed isExpanded expanded exceedsLimit insert insertTimes byDistance nearest row rowsBelow tableIds tableDistances answered sameList sameTable firstNumber badByteAt pointsNumber nodeNumber kNumber tableKNumber tableNumber shortNumber fullNumber unmarkedNumber queryNumber tableCheckNumber buildNumber tableNodeNumber networkPointsNumber siteNumber tableQueryNumber distancesNumber distancesOutcome nearestNumber nearestIds nearestDistances nearestOutcome verifyNumber verifyOutcome searchNumber limitedNumber eagerNumber limitedOutcome visitsOutcome eagerOutcome shortOutcome visits lazyOutcome changeNumber limitNumber tableCheckAnswer
+unfolding any count total select tabulate arcsFrom arcsOf partOf badSize fallsAt badStarts badNeighbourAt badPart badNeighboursOf badNeighbours badWeightAt badWeights isArcAt hasArc lacksReturnAt lacksReturnOf lacksReturn networkNumber plus leastOver within dist distancesFrom isNearer countNearer othersNearer verified isListed listed isExpanded expanded exceedsLimit insert insertTimes byDistance nearest row rowsBelow tableIds tableDistances answered sameList sameTable firstNumber badByteAt pointsNumber nodeNumber kNumber tableKNumber tableNumber shortNumber fullNumber unmarkedNumber queryNumber tableCheckNumber buildNumber tableNodeNumber networkPointsNumber siteNumber tableQueryNumber distancesNumber distancesOutcome nearestNumber nearestIds nearestDistances nearestOutcome verifyNumber verifyOutcome searchNumber limitedNumber eagerNumber limitedOutcome visitsOutcome eagerOutcome shortOutcome visits lazyOutcome changeNumber limitNumber tableCheckAnswer buildOutcome sameRow rowsChanged bookNumber bookCall bookAnswers
 examples =
     record {
       no-1 = refl;
@@ -65,4 +67,9 @@ examples =
       half = refl;
       missing = refl;
       copies = refl;
+      lone-eager = refl;
+      lone-built = refl;
+      k-16 = refl;
+      k-17 = refl;
+      book = refl;
     }

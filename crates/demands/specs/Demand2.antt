@@ -86,7 +86,7 @@ pub record Counts (g : Network) (P : List ℕ) (q k : ℕ) (r : Listing) : Type 
   pub are : AreSteps g P q k steps
   pub counted : r .count ≡ length steps
 
-pub record Steps (g : Network) (P : List ℕ) (q k : ℕ) (old new : List ℕ) (r : Listing) : Type 0 where
+pub record ListsSteps (g : Network) (P : List ℕ) (q k : ℕ) (old new : List ℕ) (r : Listing) : Type 0 where
   pub count : Counts g P q k r
   pub visits : new ≡ answered (count .steps) old
 
@@ -94,7 +94,7 @@ pub record Steps (g : Network) (P : List ℕ) (q k : ℕ) (old new : List ℕ) (
 -- table query, where the table check says yes of the table that it was lent. Each clause is read alone.
 pub record Demand2 (g : Network) (P : List ℕ) (q k : ℕ) (scratch old scratch′ new : List ℕ) (r : Listing) : Type 0 where
   pub eager : (limit : ℕ) (visits visits′ : List ℕ) → EagerExported (eagerOutcome g P q k limit scratch old visits) r scratch′ new visits′ → r .number ≡ 0
-      → Lists g P q k old new r × Steps g P q k visits visits′ r
+      → Lists g P q k old new r × ListsSteps g P q k visits visits′ r
   pub lazy : SearchExported (lazyOutcome g P q k scratch old) r scratch′ new → r .number ≡ 0 → Lists g P q k old new r
   pub short : SearchExported (shortOutcome g P q scratch old) r scratch′ new → r .number ≡ 0 → Lists g P q 1 old new r × Counts g P q 1 r
   pub by-table : (K : ℕ) (ids distances : List ℕ) → ruleVerdict (tableCheckAnswer g P K ids distances) .yes ≡ 1

@@ -13,6 +13,7 @@ use Rattle.network.specs.Cases.{roads, points}
 use Rattle.conditions.specs.declared.answers.Listed.the-variants as is
 use Rattle.conditions.specs.declared.answers.Rule.the-variants as rule
 use Rattle.conditions.specs.declared.kind.Kind.the-variants.{Insert, Remove}
+use Rattle.conditions.specs.Conditions.{tableKNumber}
 use Rattle.numbers.specs.Numbers.{buildNumber, tableQueryNumber, changeNumber}
 use Rattle.site_calls.specs.Distances.{distancesOutcome}
 use Rattle.site_calls.specs.Nearest.{nearestOutcome}
@@ -20,6 +21,8 @@ use Rattle.site_calls.specs.Verify.{verifyOutcome}
 use Rattle.site_calls.specs.Eager.{eagerOutcome, shortOutcome}
 use Rattle.site_calls.specs.Lazy.{lazyOutcome}
 use Rattle.table_calls.specs.TableCheck.{tableCheckAnswer}
+use Rattle.table_calls.specs.Build.{buildOutcome}
+use Rattle.demands.specs.Book.{bookAnswers}
 
 -- N; a scratch of S entries for m = 2, of any contents; six old answers; seven old visits; and the table of N with K = 2
 abbrev pub N : Network
@@ -47,6 +50,10 @@ star = network (0 ∷ 2 ∷ 3 ∷ 4 ∷ []) (1 ∷ 2 ∷ 0 ∷ 0 ∷ []) (5 ∷ 
 -- two nodes, 4 apart
 abbrev pub two : Network
 two = network (0 ∷ 1 ∷ 2 ∷ []) (1 ∷ 0 ∷ []) (4 ∷ 4 ∷ [])
+
+-- one node, without a road
+abbrev pub lone : Network
+lone = network (0 ∷ 0 ∷ []) [] []
 
 pub record Examples : Type 0 where
   -- 1: 'starts of 1 entry'
@@ -132,3 +139,29 @@ pub record Examples : Type 0 where
   -- Ask 8: with a second locker at 2 it is another table; 'repeat a node for each locker', 'cut after K places'
   pub missing : tableCheckAnswer N (0 ∷ 0 ∷ 2 ∷ 0 ∷ 1 ∷ 1 ∷ []) 2 ids distances ≡ rule.Answer false
   pub copies : tableCheckAnswer N (0 ∷ 0 ∷ 2 ∷ 0 ∷ 1 ∷ 1 ∷ []) 2 (2 ∷ 2 ∷ 2 ∷ 2 ∷ 2 ∷ 2 ∷ 4 ∷ 2 ∷ 4 ∷ 2 ∷ 5 ∷ NONE ∷ []) (7 ∷ 7 ∷ 3 ∷ 3 ∷ 0 ∷ 0 ∷ 3 ∷ 10 ∷ 0 ∷ 7 ∷ 0 ∷ NONE ∷ []) ≡ rule.Answer true
+  -- one node with a locker: it is expanded, and not listed for a site on it; the rest of its row is NONE
+  pub lone-eager : eagerOutcome lone (1 ∷ []) 0 1 1 (replicate 12 9) (9 ∷ []) (8 ∷ [])
+      ≡ record { search = record { answer = is.Points 0 1; scratch = replicate 12 0; answers = 9 ∷ [] }; visits = 0 ∷ [] }
+  pub lone-built : buildOutcome lone (1 ∷ []) 2 (replicate 32 9) (9 ∷ 9 ∷ []) (9 ∷ 9 ∷ [])
+      ≡ record { number = 0; scratch = replicate 32 0; ids = 0 ∷ NONE ∷ []; distances = 0 ∷ NONE ∷ [] }
+  -- 'k from 1 to K - 1', with K = 17
+  pub k-16 : tableKNumber 16 17 ≡ 0
+  pub k-17 : tableKNumber 17 17 ≡ 9
+  -- the plain book 'tries 7, 8, 10 and 11 in this order': another K, a scratch that is one short, node 1; one more, one less twice, and none left
+  pub book : bookAnswers lone 2 (1 ∷ [])
+      (record { kind = Remove; node = 0; places = 3; scratchLength = 40 }
+      ∷ record { kind = Remove; node = 0; places = 2; scratchLength = 31 }
+      ∷ record { kind = Remove; node = 1; places = 0; scratchLength = 0 }
+      ∷ record { kind = Insert; node = 0; places = 2; scratchLength = 32 }
+      ∷ record { kind = Remove; node = 0; places = 2; scratchLength = 32 }
+      ∷ record { kind = Remove; node = 0; places = 2; scratchLength = 99 }
+      ∷ record { kind = Remove; node = 0; places = 2; scratchLength = 32 }
+      ∷ [])
+      ≡ record { number = 8; changed = 0 }
+      ∷ record { number = 10; changed = 0 }
+      ∷ record { number = 7; changed = 0 }
+      ∷ record { number = 0; changed = 1 }
+      ∷ record { number = 0; changed = 1 }
+      ∷ record { number = 0; changed = 1 }
+      ∷ record { number = 11; changed = 0 }
+      ∷ []

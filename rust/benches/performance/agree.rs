@@ -9,7 +9,8 @@ use super::common::random::Random;
 use super::common::shapes::random_network;
 use super::common::table::PlainTable;
 use super::common::table_damage;
-use super::lent::{Lent, Written, OLD};
+use super::lent::{Written, OLD};
+use super::outcome::{assert_same, built};
 
 /// How many words of scratch, and eager of visits, a call is lent beyond those that it asks for: mostly
 /// none, at times a few, and at times it is one too few.
@@ -36,7 +37,7 @@ pub fn try_small_networks(networks: u64) -> (usize, usize) {
 
 /// Tries every call, and the table check on a damaged table as well.
 fn try_calls(network: &OwnedNetwork, points: &[u8], random: &mut Random) -> Vec<Answer> {
-    let mut lent = Lent::built(network.lend(), points, some_places(random), MOST_M);
+    let mut lent = built(network.lend(), points, some_places(random), MOST_M);
     let visits = points.len().saturating_add_signed(random.pick(&MORE));
     lent.written.visits.resize(visits, OLD);
     let before = lent.written.clone();
@@ -44,11 +45,11 @@ fn try_calls(network: &OwnedNetwork, points: &[u8], random: &mut Random) -> Vec<
     for call in calls::ALL {
         let query = some_query(network, random);
         lent.scratch.more = random.pick(&MORE);
-        answers.push(lent.assert_same(TWINS, call, query, &before));
+        answers.push(assert_same(&mut lent, TWINS, call, query, &before));
     }
     let query = some_query(network, random);
     let damaged = with_a_damaged_table(before, lent.places, random);
-    answers.push(lent.assert_same(TWINS, TABLE_CHECK, query, &damaged));
+    answers.push(assert_same(&mut lent, TWINS, TABLE_CHECK, query, &damaged));
     answers
 }
 

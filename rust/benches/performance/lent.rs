@@ -1,6 +1,5 @@
-//! The arrays that calls are lent.
+//! The arrays that calls are lent. It knows no call: `calls.rs` stands on it.
 
-use super::calls::{Answer, Call, Functions, Query, BUILD, ENGINE};
 use overlap::calls::{scratch_len, Network, TableMut};
 
 /// All that a call is lent.
@@ -57,14 +56,15 @@ impl Scratch {
         &mut self.words[..self.lent]
     }
 
-    fn make_old(&mut self) {
+    /// Old entries everywhere.
+    pub fn make_old(&mut self) {
         self.words.fill(OLD);
         self.lent = 0;
     }
 
     /// The word that the last call left in all that it was lent, if that is any. Two builds may be
     /// lent different lengths, so it is this that is compared.
-    fn left(&self) -> Option<u32> {
+    pub fn left(&self) -> Option<u32> {
         let (lent, rest) = self.words.split_at(self.lent);
         assert!(rest.iter().all(|&word| word == OLD), "it wrote behind");
         assert!(lent.iter().all(|&word| word == lent[0]), "it left a part");
@@ -83,9 +83,8 @@ impl Written {
         (&mut self.points, table)
     }
 
-    /// Whether these two left the same in each array, in the visits where both list them.
-    pub fn is_same(&self, other: &Self, by: [&Functions; 2]) -> bool {
-        let with_visits = by.iter().all(|by| by.lists_visits);
+    /// Whether these two left the same in each array, the visits compared or not.
+    pub fn is_same(&self, other: &Self, with_visits: bool) -> bool {
         self.points == other.points && self.words(with_visits).eq(other.words(with_visits))
     }
 
@@ -132,62 +131,8 @@ impl<'a> Lent<'a> {
         }
     }
 
-    /// The same with the table of the points, where network and points are accepted.
-    pub fn built(network: Network<'a>, points: &[u8], places: u32, most_m: u32) -> Self {
-        let mut lent = Self::new(network, points, places, most_m);
-        let query = Query {
-            site: 0,
-            point: 0,
-            k: 1,
-            limit: 0,
-        };
-        (BUILD.run)(&ENGINE, &mut lent, query);
-        lent
-    }
-
     /// Brings points and table back to what they were.
     pub fn restore(&mut self, before: &Written) {
         self.written.take_table_of(before);
-    }
-
-    /// Runs a call by the engine and by the other from the same arrays and returns the answer, which
-    /// is the same.
-    pub fn assert_same(
-        &mut self,
-        by: [&Functions; 2],
-        call: Call,
-        query: Query,
-        before: &Written,
-    ) -> Answer {
-        let [engine, other] = by.map(|by| self.outcome(by, call, query, before));
-        let is_same = engine.is_same(&other, by);
-        assert!(is_same, "{} differs: {query:?}", call.name);
-        engine.answer
-    }
-
-    /// What a call answers and leaves when it starts from these arrays and old entries in scratch.
-    fn outcome(&mut self, by: &Functions, call: Call, query: Query, before: &Written) -> Outcome {
-        self.written.clone_from(before);
-        self.scratch.make_old();
-        Outcome {
-            answer: (call.run)(by, self, query),
-            written: self.written.clone(),
-            scratch: self.scratch.left(),
-        }
-    }
-}
-
-/// What a call answers, and what it leaves in every array that it may write.
-struct Outcome {
-    answer: Answer,
-    written: Written,
-    scratch: Option<u32>,
-}
-
-impl Outcome {
-    /// Whether these two answered and left the same.
-    fn is_same(&self, other: &Self, by: [&Functions; 2]) -> bool {
-        (self.answer, self.scratch) == (other.answer, other.scratch)
-            && self.written.is_same(&other.written, by)
     }
 }

@@ -13,6 +13,7 @@ mod extremes;
 mod lent;
 mod measure;
 mod networks;
+mod outcome;
 #[path = "../plain/mod.rs"]
 mod plain;
 mod report;
@@ -21,9 +22,9 @@ mod settings;
 
 use calls::{Call, TWINS};
 use chart::{Axis, Chart, Panel, Sample};
-use lent::Lent;
 use measure::{measure, Budget, Pairs};
 use networks::{limits, roads, several, streets, Subject};
+use outcome::built;
 use settings::Settings;
 use std::fs;
 use std::time::Instant;
@@ -49,7 +50,7 @@ fn measure_calls(
         subject.nodes()
     );
     let queries = subject.queries(k);
-    let mut lent = Lent::built(subject.network.lend(), &subject.points, places, places);
+    let mut lent = built(subject.network.lend(), &subject.points, places, places);
     let mut times = Vec::new();
     for &call in calls {
         let pairs = measure(call, TWINS, &mut lent, &queries, budget);

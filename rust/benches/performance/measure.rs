@@ -3,6 +3,7 @@
 
 use super::calls::{Answer, Call, Functions, Query};
 use super::lent::{Lent, Written};
+use super::outcome::{assert_same, both_list_visits};
 use std::hint::black_box;
 use std::time::{Duration, Instant};
 
@@ -97,7 +98,7 @@ pub fn measure(
     budget: Budget,
 ) -> Pairs {
     let before = lent.written.clone();
-    let answer = lent.assert_same(by, call, queries[0], &before);
+    let answer = assert_same(lent, by, call, queries[0], &before);
     assert_eq!(answer.0, 0, "{} is refused", call.name);
     let mut timed = Timed {
         call,
@@ -136,7 +137,7 @@ impl Timed<'_, '_> {
         let first_written = self.lent.written.clone();
         let (second_time, second_answer) = self.time(second, query);
         assert_eq!(first_answer, second_answer, "{}", self.call.name);
-        let is_same = first_written.is_same(&self.lent.written, self.by);
+        let is_same = first_written.is_same(&self.lent.written, both_list_visits(self.by));
         assert!(is_same, "{}", self.call.name);
         match engine_first {
             true => (first_time, second_time),

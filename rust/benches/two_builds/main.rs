@@ -16,6 +16,8 @@ mod measure;
 #[allow(dead_code)]
 #[path = "../performance/networks.rs"]
 mod networks;
+#[path = "../performance/outcome.rs"]
+mod outcome;
 #[path = "../plain/mod.rs"]
 mod plain;
 #[path = "../performance/roads.rs"]
@@ -23,9 +25,9 @@ mod roads;
 
 use before::BEFORE;
 use calls::{Call, Query, ENGINE};
-use lent::Lent;
 use measure::{measure, Budget};
 use networks::{limits, roads, streets, Subject};
+use outcome::built;
 use std::time::Duration;
 
 const BUDGET: Budget = Budget {
@@ -44,7 +46,7 @@ fn print_times(subject: &Subject, calls: &[Call], places: u32) {
     let is_on_a_point = |query: &Query| subject.points[query.site as usize] > 0;
     let differs = "a build before Ask 6 lists a point on its own site";
     assert!(!queries.iter().any(is_on_a_point), "{differs}");
-    let mut lent = Lent::built(subject.network.lend(), &subject.points, places, places);
+    let mut lent = built(subject.network.lend(), &subject.points, places, places);
     for &call in calls {
         let pairs = measure(call, [&ENGINE, &BEFORE], &mut lent, &queries, BUDGET);
         print!("{}", pairs.row(call.name, 3));

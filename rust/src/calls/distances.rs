@@ -1,6 +1,6 @@
 //! Distances from a node.
 
-use super::{ffi, Network};
+use super::{ffi, lend, Network};
 
 /// Document 01: "Distances from a node: n entries, NONE where none."
 ///
@@ -42,18 +42,11 @@ pub fn distances(network: Network<'_>, node: u32, scratch: &mut [u32], answers: 
     // the call writes are lent to it alone. It touches no word outside the slices. An empty slice
     // has a pointer that is not null.
     unsafe {
-        ffi::overlap_distances(
-            network.starts.as_ptr(),
-            network.starts.len(),
-            network.neighbours.as_ptr(),
-            network.neighbours.len(),
-            network.weights.as_ptr(),
-            network.weights.len(),
+        lend!(ffi::overlap_distances(
+            ..network,
             node,
-            scratch.as_mut_ptr(),
-            scratch.len(),
-            answers.as_mut_ptr(),
-            answers.len(),
-        )
+            &mut scratch,
+            &mut answers
+        ))
     }
 }

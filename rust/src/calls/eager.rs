@@ -1,6 +1,6 @@
 //! Eager and the short query: the points that list a site.
 
-use super::{ffi, Listing, Network};
+use super::{ffi, lend, Listing, Network};
 
 /// Document 01: "Eager (000, Fig. 4): expands outward from q, stops behind a node with k points
 /// strictly nearer than q. It takes a 32-bit limit and returns the list and the count of nodes
@@ -71,25 +71,16 @@ pub fn eager(
     // the call writes are lent to it alone. It touches no word outside the slices. An empty slice
     // has a pointer that is not null.
     unsafe {
-        ffi::overlap_eager(
-            network.starts.as_ptr(),
-            network.starts.len(),
-            network.neighbours.as_ptr(),
-            network.neighbours.len(),
-            network.weights.as_ptr(),
-            network.weights.len(),
-            points.as_ptr(),
-            points.len(),
+        lend!(ffi::overlap_eager(
+            ..network,
+            &points,
             q,
             k,
             limit,
-            scratch.as_mut_ptr(),
-            scratch.len(),
-            answers.as_mut_ptr(),
-            answers.len(),
-            visits.as_mut_ptr(),
-            visits.len(),
-        )
+            &mut scratch,
+            &mut answers,
+            &mut visits
+        ))
     }
 }
 
@@ -128,20 +119,12 @@ pub fn short_query(
 ) -> Listing {
     // SAFETY: as for `eager`.
     unsafe {
-        ffi::overlap_short_query(
-            network.starts.as_ptr(),
-            network.starts.len(),
-            network.neighbours.as_ptr(),
-            network.neighbours.len(),
-            network.weights.as_ptr(),
-            network.weights.len(),
-            points.as_ptr(),
-            points.len(),
+        lend!(ffi::overlap_short_query(
+            ..network,
+            &points,
             q,
-            scratch.as_mut_ptr(),
-            scratch.len(),
-            answers.as_mut_ptr(),
-            answers.len(),
-        )
+            &mut scratch,
+            &mut answers
+        ))
     }
 }

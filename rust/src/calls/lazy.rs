@@ -1,6 +1,6 @@
 //! Lazy and lazy-EP: the points that list a site, again.
 
-use super::{ffi, Listing, Network};
+use super::{ffi, lend, Listing, Network};
 
 /// Document 01: "Lazy (000, 3.3) [...]: the list."
 ///
@@ -109,22 +109,5 @@ fn search(
     answers: &mut [u32],
 ) -> Listing {
     // SAFETY: as for `eager`.
-    unsafe {
-        call(
-            network.starts.as_ptr(),
-            network.starts.len(),
-            network.neighbours.as_ptr(),
-            network.neighbours.len(),
-            network.weights.as_ptr(),
-            network.weights.len(),
-            points.as_ptr(),
-            points.len(),
-            q,
-            k,
-            scratch.as_mut_ptr(),
-            scratch.len(),
-            answers.as_mut_ptr(),
-            answers.len(),
-        )
-    }
+    unsafe { lend!(call(..network, &points, q, k, &mut scratch, &mut answers)) }
 }

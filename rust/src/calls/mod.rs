@@ -34,6 +34,7 @@ mod distances;
 mod eager;
 mod ffi;
 mod lazy;
+mod lend;
 mod nearest;
 mod network;
 mod numbers;
@@ -42,6 +43,8 @@ mod table;
 mod table_query;
 mod table_remove;
 mod verify;
+
+use lend::lend;
 
 pub use crate::NONE;
 pub use distances::distances;

@@ -1,6 +1,6 @@
 //! The nearest points of a node.
 
-use super::{ffi, Listing, Network};
+use super::{ffi, lend, Listing, Network};
 
 /// The arrays in which [`nearest`] puts its answer. Document 01: "ids and distances in two arrays".
 ///
@@ -87,24 +87,15 @@ pub fn nearest(
     // that the call writes are lent to it alone. It touches no word outside the slices. An empty
     // slice has a pointer that is not null.
     unsafe {
-        ffi::overlap_nearest(
-            network.starts.as_ptr(),
-            network.starts.len(),
-            network.neighbours.as_ptr(),
-            network.neighbours.len(),
-            network.weights.as_ptr(),
-            network.weights.len(),
-            points.as_ptr(),
-            points.len(),
+        lend!(ffi::overlap_nearest(
+            ..network,
+            &points,
             node,
             e,
             k,
-            scratch.as_mut_ptr(),
-            scratch.len(),
-            found.ids.as_mut_ptr(),
-            found.ids.len(),
-            found.distances.as_mut_ptr(),
-            found.distances.len(),
-        )
+            &mut scratch,
+            &mut found.ids,
+            &mut found.distances
+        ))
     }
 }

@@ -1,6 +1,6 @@
 //! The network and its check.
 
-use super::ffi;
+use super::{ffi, lend};
 
 /// Document 01: "Three lent arrays of 32-bit unsigned numbers: starts (n + 1 entries), neighbours
 /// and weights (A entries each, A the number of arcs)."
@@ -50,14 +50,5 @@ pub struct Network<'a> {
 pub fn network_check(network: Network<'_>) -> u32 {
     // SAFETY: each pointer and length are those of one slice, lent for the whole call; the call
     // reads no word outside them and writes nothing. An empty slice has a pointer that is not null.
-    unsafe {
-        ffi::overlap_network_check(
-            network.starts.as_ptr(),
-            network.starts.len(),
-            network.neighbours.as_ptr(),
-            network.neighbours.len(),
-            network.weights.as_ptr(),
-            network.weights.len(),
-        )
-    }
+    unsafe { lend!(ffi::overlap_network_check(..network)) }
 }

@@ -1,6 +1,6 @@
 //! The table: the nearest points of each node.
 
-use super::{ffi, Network, Update, Verdict};
+use super::{ffi, lend, Network, Update, Verdict};
 
 /// A table that a call reads.
 ///
@@ -92,23 +92,14 @@ pub fn build(network: Network<'_>, points: &[u8], scratch: &mut [u32], table: Ta
     // that the call writes are lent to it alone. It touches no word outside the slices. An empty
     // slice has a pointer that is not null.
     unsafe {
-        ffi::overlap_build(
-            network.starts.as_ptr(),
-            network.starts.len(),
-            network.neighbours.as_ptr(),
-            network.neighbours.len(),
-            network.weights.as_ptr(),
-            network.weights.len(),
-            points.as_ptr(),
-            points.len(),
+        lend!(ffi::overlap_build(
+            ..network,
+            &points,
             table.places,
-            scratch.as_mut_ptr(),
-            scratch.len(),
-            table.ids.as_mut_ptr(),
-            table.ids.len(),
-            table.distances.as_mut_ptr(),
-            table.distances.len(),
-        )
+            &mut scratch,
+            &mut table.ids,
+            &mut table.distances
+        ))
     }
 }
 
@@ -179,24 +170,15 @@ pub(crate) fn change(
 ) -> Update {
     // SAFETY: as for `build`; the call writes the points too, and they are lent to it alone.
     unsafe {
-        call(
-            network.starts.as_ptr(),
-            network.starts.len(),
-            network.neighbours.as_ptr(),
-            network.neighbours.len(),
-            network.weights.as_ptr(),
-            network.weights.len(),
-            points.as_mut_ptr(),
-            points.len(),
+        lend!(call(
+            ..network,
+            &mut points,
             node,
             table.places,
-            scratch.as_mut_ptr(),
-            scratch.len(),
-            table.ids.as_mut_ptr(),
-            table.ids.len(),
-            table.distances.as_mut_ptr(),
-            table.distances.len(),
-        )
+            &mut scratch,
+            &mut table.ids,
+            &mut table.distances
+        ))
     }
 }
 
@@ -231,20 +213,12 @@ pub fn table_check(network: Network<'_>, points: &[u8], table: Table<'_>) -> Ver
     // none of them and touches no word outside of them. An empty slice has a pointer that is not
     // null.
     unsafe {
-        ffi::overlap_table_check(
-            network.starts.as_ptr(),
-            network.starts.len(),
-            network.neighbours.as_ptr(),
-            network.neighbours.len(),
-            network.weights.as_ptr(),
-            network.weights.len(),
-            points.as_ptr(),
-            points.len(),
+        lend!(ffi::overlap_table_check(
+            ..network,
+            &points,
             table.places,
-            table.ids.as_ptr(),
-            table.ids.len(),
-            table.distances.as_ptr(),
-            table.distances.len(),
-        )
+            &table.ids,
+            &table.distances
+        ))
     }
 }

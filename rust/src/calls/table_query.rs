@@ -1,6 +1,6 @@
 //! The table query: the points that list a site, by the table.
 
-use super::{ffi, Listing, Network, Table};
+use super::{ffi, lend, Listing, Network, Table};
 
 /// Document 01: "Table query (eager-M): the list, k from 1 to K - 1, since a point's row spends one
 /// place on itself."
@@ -63,26 +63,16 @@ pub fn table_query(
     // the call writes are lent to it alone. It touches no word outside the slices. An empty slice
     // has a pointer that is not null.
     unsafe {
-        ffi::overlap_table_query(
-            network.starts.as_ptr(),
-            network.starts.len(),
-            network.neighbours.as_ptr(),
-            network.neighbours.len(),
-            network.weights.as_ptr(),
-            network.weights.len(),
-            points.as_ptr(),
-            points.len(),
+        lend!(ffi::overlap_table_query(
+            ..network,
+            &points,
             q,
             k,
             table.places,
-            table.ids.as_ptr(),
-            table.ids.len(),
-            table.distances.as_ptr(),
-            table.distances.len(),
-            scratch.as_mut_ptr(),
-            scratch.len(),
-            answers.as_mut_ptr(),
-            answers.len(),
-        )
+            &table.ids,
+            &table.distances,
+            &mut scratch,
+            &mut answers
+        ))
     }
 }

@@ -1,6 +1,6 @@
 //! The verification of one point.
 
-use super::{ffi, Network, Verdict};
+use super::{ffi, lend, Network, Verdict};
 
 /// Document 01: "Verify: for a marked p and q, yes or no by the rule above."
 ///
@@ -67,20 +67,13 @@ pub fn verify(
     // one that the call writes, is lent to it alone. It touches no word outside the slices. An
     // empty slice has a pointer that is not null.
     unsafe {
-        ffi::overlap_verify(
-            network.starts.as_ptr(),
-            network.starts.len(),
-            network.neighbours.as_ptr(),
-            network.neighbours.len(),
-            network.weights.as_ptr(),
-            network.weights.len(),
-            points.as_ptr(),
-            points.len(),
+        lend!(ffi::overlap_verify(
+            ..network,
+            &points,
             p,
             q,
             k,
-            scratch.as_mut_ptr(),
-            scratch.len(),
-        )
+            &mut scratch
+        ))
     }
 }
