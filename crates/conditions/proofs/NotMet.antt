@@ -78,17 +78,17 @@ k-ready k e =
     let n = eqb-false k 0 (r .0) in
     (omega arith, ltb-false 16 k (r .1))
 
-pub table-ready : (n K ids distances : ℕ) → tableNumber n K ids distances ≡ 0 → (2 ≤ K) × (K ≤ 17) × (ids ≡ n * K) × (distances ≡ n * K)
+pub table-ready : (n K id-count distance-count : ℕ) → tableNumber n K id-count distance-count ≡ 0 → (2 ≤ K) × (K ≤ 17) × (id-count ≡ n * K) × (distance-count ≡ n * K)
 unfolding tableNumber
-table-ready n K ids distances e =
-    let t = number-none (ltb K 2 || ltb 17 K || not (eqb ids (n * K)) || not (eqb distances (n * K))) 8 (omega arith) e in
-    let a = or-parts (ltb K 2 || ltb 17 K || not (eqb ids (n * K))) _ t in
+table-ready n K id-count distance-count e =
+    let t = number-none (ltb K 2 || ltb 17 K || not (eqb id-count (n * K)) || not (eqb distance-count (n * K))) 8 (omega arith) e in
+    let a = or-parts (ltb K 2 || ltb 17 K || not (eqb id-count (n * K))) _ t in
     let b = or-parts (ltb K 2 || ltb 17 K) _ (a .0) in
     let c = or-parts (ltb K 2) _ (b .0) in (
       ltb-false K 2 (c .0),
       ltb-false 17 K (c .1),
-      eqb-true ids (n * K) (not-false (eqb ids (n * K)) (b .1)),
-      eqb-true distances (n * K) (not-false (eqb distances (n * K)) (a .1)),
+      eqb-true id-count (n * K) (not-false (eqb id-count (n * K)) (b .1)),
+      eqb-true distance-count (n * K) (not-false (eqb distance-count (n * K)) (a .1)),
     )
 
 pub short-ready : (have need : ℕ) → shortNumber have need ≡ 0 → need ≤ have

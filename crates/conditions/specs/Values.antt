@@ -6,7 +6,7 @@ use Rattle.conditions.specs.declared.answers.Listing.{Listing}
 use Rattle.conditions.specs.declared.answers.Verdict.{Verdict}
 use Rattle.conditions.specs.declared.answers.Update.{Update}
 use Rattle.conditions.specs.declared.answers.Listed.{Listed}
-use Rattle.conditions.specs.declared.answers.Listed.the-variants as listed
+use Rattle.conditions.specs.declared.answers.Listed.the-variants as found
 use Rattle.conditions.specs.declared.answers.Rule.{Rule}
 use Rattle.conditions.specs.declared.answers.Rule.the-variants as rule
 use Rattle.conditions.specs.declared.answers.Updated.{Updated}
@@ -15,8 +15,8 @@ use Rattle.conditions.specs.declared.answers.Updated.the-variants as upd
 -- document 01's number and values for each case: 'An accepted call returns number 0; a listing or nearest call also the length of its list. A
 -- refusal returns its number, count 0'; eager 'returns the list and the count of nodes expanded'
 abbrev pub listedListing : Listed → Listing
-listedListing (listed.Refused number) = record { number = number; count = 0; length = 0 }
-listedListing (listed.Points found count) = record { number = 0; count = count; length = found }
+listedListing (found.Refused number) = record { number = number; count = 0; length = 0 }
+listedListing (found.Points size count) = record { number = 0; count = count; length = size }
 
 -- document 01's number and values for each case: 'A refusal returns its number, count 0 and no'
 abbrev pub ruleVerdict : Rule → Verdict

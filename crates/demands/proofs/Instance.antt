@@ -67,7 +67,7 @@ leaves kind g node K old =
                             λ _.
                             record {
                               changed = rowsChanged g (old .points) Q K;
-                              answered = refl;
+                              answered-so = refl;
                               done =
                                   record {
                                     marks = refl;

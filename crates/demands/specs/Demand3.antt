@@ -1,5 +1,5 @@
 -- Demand 3: 'a single claim about the whole list, not one for each call; the list may be empty'. It speaks of the records that the public contracts
--- ensure. The theorem is proofs/Demand.antt's.
+-- ensure. The theorem is proofs/Demand3.antt's.
 -- Assumes nothing.
 use Prim.Native.Nat.{ℕ, _≤_, _<_}
 use mathlib.Core.Path.{_≡_}

@@ -1,5 +1,5 @@
--- Document 01, 'Numbers of refusal': its column of examples, and what the calls leave of N, as one statement about the definitions of the calls. Its
--- proof, by computation, is `examples` of proofs/Examples.antt.
+-- Document 01, 'Numbers of refusal': its column of examples, and what the calls leave of N, as one statement about the definitions of the calls; with
+-- edges of these definitions: one node, the largest K, the book's order. Its proof, by computation, is `examples` of proofs/Examples.antt.
 -- Assumes nothing.
 use Prim.Native.Nat.{ℕ}
 use mathlib.Core.Path.{_≡_}

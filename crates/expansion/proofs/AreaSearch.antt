@@ -19,7 +19,7 @@ use Rattle.expansion.proofs.TagLaws.{entry-same, tag-fits, key-distance
 use Rattle.expansion.specs.NodeQueue.{PushedNode}
 use Rattle.expansion.proofs.Origins.{Origin, Lawful, one, one-lawful}
 use Rattle.expansion.proofs.Search.{Search, AtMost, Leads, pop-exact, finished}
-use Rattle.expansion.proofs.Steps.{Outcome, waits, has-label, initial, same-settled, requeue, Marks, Along, Spreads, settle}
+use Rattle.expansion.proofs.Steps.{AfterStep, waits, has-label, initial, same-settled, requeue, Marks, Along, Spreads, settle}
 use Rattle.expansion.proofs.AreaLaws.{held-low, popped-moved, area-moved, settledAs, area-settle, label-settle, queue-settle, others-settle, area-followed}
 
 -- the search of an area
@@ -111,7 +111,7 @@ module _ {g : Network} (ok : Accepted g) {s : Origin} {Open Seen : ℕ → Type 
       pub search-took : Search g s Open Seen (LabelAt (nodeCount g) ys b) (AndOne (nodeCount g) ys b left v l)
       search-took = same-settled (label-on took-moved) (label-back took-moved) (requeue ok e becomes kept-walk)
         where
-          becomes : (x m : ℕ) → HeldAt (nodeCount g) xs b len x m → Outcome Open Seen (LabelAt (nodeCount g) xs b) (AndOne (nodeCount g) ys b left v l) x m
+          becomes : (x m : ℕ) → HeldAt (nodeCount g) xs b len x m → AfterStep Open Seen (LabelAt (nodeCount g) xs b) (AndOne (nodeCount g) ys b left v l) x m
           becomes x m h =
               ⊎-elim
               (λ k. waits m (omega arith) (inl (record { parent = h .parent; inside = h .inside; from = h .from; holds = holds-left (keyOf m (tagOf x (h .parent))) k })))
@@ -225,7 +225,7 @@ module _ {g : Network} (ok : Accepted g) {ys : List ℕ} {b settled left v : ℕ
             (λ i. inr (along y i))
             (f .old (keyOf m (tagOf x (y .parent))) (y .holds))
 
-    arcs : (x w : ℕ) → Open v → Arc g v x w → Outcome Open Seen (LabelAt (nodeCount g) ws b) (HeldAt (nodeCount g) ws b more) x (l + w)
+    arcs : (x w : ℕ) → Open v → Arc g v x w → AfterStep Open Seen (LabelAt (nodeCount g) ws b) (HeldAt (nodeCount g) ws b more) x (l + w)
     arcs x w o r =
         let i = arc-place (accepted-ranges ok) r in
         let k = ok .leads-in r in

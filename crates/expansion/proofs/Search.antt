@@ -17,7 +17,7 @@ pub record AtMost (L : ℕ → Type 0) (m : ℕ) : Type 0 where
   pub low : label ≤ m
   pub has : L label
 
-pub record Waiting (Held : ℕ → ℕ → Type 0) (m : ℕ) : Type 0 where
+pub record WaitsUpto (Held : ℕ → ℕ → Type 0) (m : ℕ) : Type 0 where
   pub node : ℕ
   pub label : ℕ
   pub low : label ≤ m
@@ -61,10 +61,10 @@ pub record Leads (g : Network) (s : Origin) (Open Seen : ℕ → Type 0) : Type 
   pub through : (v : ℕ) → Seen v → (s .Source v → ⊥) → s .far v ≢ NONE → Through g s Open Seen v
 
 -- the nodes before an open node are open
-pub record Closed (g : Network) (s : Origin) (Open : ℕ → Type 0) : Type 0 where
+pub record ClosedBefore (g : Network) (s : Origin) (Open : ℕ → Type 0) : Type 0 where
   pub before : (u v w : ℕ) → Open v → Arc g u v w → s .far v ≡ s .far u + w → s .far u ≢ NONE → Open u
 
-pub closed-leads : {g : Network} {s : Origin} {Open : ℕ → Type 0} → Lawful g s → Closed g s Open → Leads g s Open Open
+pub closed-leads : {g : Network} {s : Origin} {Open : ℕ → Type 0} → Lawful g s → ClosedBefore g s Open → Leads g s Open Open
 closed-leads {g} {s} {Open} lawful closed = record { start = λ v h o. o; through = λ v o ne n. by v o (lawful .previous v ne n) }
   where
     by : (v : ℕ) → Open v → Last g s v → Through g s Open Open v
@@ -74,22 +74,22 @@ closed-leads {g} {s} {Open} lawful closed = record { start = λ v h o. o; throug
 
 -- v is settled at its distance, or an entry waits that is no farther
 abbrev pub Reached : Network → Origin → (ℕ → ℕ → Type 0) → (ℕ → ℕ → Type 0) → ℕ → Type 0
-Reached g s Settled Held v = Settled v (s .far v) ⊎ Waiting Held (s .far v)
+Reached g s Settled Held v = Settled v (s .far v) ⊎ WaitsUpto Held (s .far v)
 
 -- where v stands: it is settled at its distance; or an entry of it waits at its distance; or an entry waits that is nearer
-pub data Stands (g : Network) (s : Origin) (Settled : ℕ → ℕ → Type 0) (Held : ℕ → ℕ → Type 0) (v : ℕ) : Type 0 where
-  is-settled : Settled v (s .far v) → Stands g s Settled Held v
-  is-held : Held v (s .far v) → Stands g s Settled Held v
-  is-behind : (x m : ℕ) → Held x m → m < s .far v → Stands g s Settled Held v
+pub data Whereabouts (g : Network) (s : Origin) (Settled : ℕ → ℕ → Type 0) (Held : ℕ → ℕ → Type 0) (v : ℕ) : Type 0 where
+  is-settled : Settled v (s .far v) → Whereabouts g s Settled Held v
+  is-held : Held v (s .far v) → Whereabouts g s Settled Held v
+  is-behind : (x m : ℕ) → Held x m → m < s .far v → Whereabouts g s Settled Held v
 
 module _ {g : Network} (ok : Accepted g) {s : Origin} {Open Seen : ℕ → Type 0} {Settled : ℕ → ℕ → Type 0} {Held : ℕ → ℕ → Type 0} (leads : Leads g s Open Seen) (e : Search g s Open Seen Settled Held) where
-  at-source : (v : ℕ) → Seen v → s .Source v → Stands g s Settled Held v
+  at-source : (v : ℕ) → Seen v → s .Source v → Whereabouts g s Settled Held v
   at-source v o h =
       let z = e .lawful .zero v h in
       ⊎-elim (λ a. is-settled (rw z a)) (λ a. is-held (rw z a)) (e .source v h (leads .start v h o) o)
 
   -- where the node before v is settled, v is, or an entry of it waits; where an entry waits that is no farther than that node, it is nearer than v
-  after : (v : ℕ) → Seen v → (t : Through g s Open Seen v) → Reached g s Settled Held (t .last .from) → Stands g s Settled Held v
+  after : (v : ℕ) → Seen v → (t : Through g s Open Seen v) → Reached g s Settled Held (t .last .from) → Whereabouts g s Settled Held v
   after v o t =
       let p = t .last in
       let w = ok .weight-low (p .arc) in
@@ -103,24 +103,24 @@ module _ {g : Network} (ok : Accepted g) {s : Origin} {Open Seen : ℕ → Type 
       (e .opened (p .from) v (s .far (p .from)) (p .weight) a (t .is-open) o (p .arc)))
       (λ a. is-behind (a .node) (a .label) (a .held) (omega (arith, a .low, p .sum)))
 
-  reached : {v : ℕ} → Stands g s Settled Held v → Reached g s Settled Held v
+  reached : {v : ℕ} → Whereabouts g s Settled Held v → Reached g s Settled Held v
   reached (is-settled a) = inl a
   reached {v} (is-held a) = inr (record { node = v; label = s .far v; low = omega arith; held = a })
   reached (is-behind x m a h) = inr (record { node = x; label = m; low = omega arith; held = a })
 
   -- by the distance, which is below b
-  below : (b v : ℕ) → s .far v < b → Seen v → s .far v ≢ NONE → Stands g s Settled Held v
+  below : (b v : ℕ) → s .far v < b → Seen v → s .far v ≢ NONE → Whereabouts g s Settled Held v
   below zero v h o n = absurd (omega arith)
   below (suc b) v h o n = elim (e .lawful .is-source v) [ yes q ↦ at-source v o q | no ne ↦ go (λ u. below b u) (leads .through v o ne n) ]
     where
-      go : ((u : ℕ) → s .far u < b → Seen u → s .far u ≢ NONE → Stands g s Settled Held u) → Through g s Open Seen v → Stands g s Settled Held v
+      go : ((u : ℕ) → s .far u < b → Seen u → s .far u ≢ NONE → Whereabouts g s Settled Held u) → Through g s Open Seen v → Whereabouts g s Settled Held v
       go ih t =
           let p = t .last in
           let w = ok .weight-low (p .arc) in
           after v o t (reached (ih (p .from) (omega (arith, p .sum)) (t .is-seen) (p .reach)))
 
   -- where a node stands that s reaches; in short, it is settled, or an entry waits that is no farther
-  pub stands : (v : ℕ) → Seen v → s .far v ≢ NONE → Stands g s Settled Held v
+  pub stands : (v : ℕ) → Seen v → s .far v ≢ NONE → Whereabouts g s Settled Held v
   stands v o n = below (suc (s .far v)) v (omega arith) o n
 
   pub frontier : (v : ℕ) → Seen v → s .far v ≢ NONE → Reached g s Settled Held v
@@ -143,7 +143,7 @@ module _ {g : Network} (ok : Accepted g) {s : Origin} {Open Seen : ℕ → Type 
   pub settled-before : (l y : ℕ) → ((x m : ℕ) → Held x m → (l < m) ⊎ ((l ≡ m) × (y ≤ x))) → (v : ℕ) → Seen v → s .far v ≢ NONE → (s .far v < l) ⊎ ((s .far v ≡ l) × (v < y)) → Settled v (s .far v)
   settled-before l y first v o n before = by (stands v o n)
     where
-      by : Stands g s Settled Held v → Settled v (s .far v)
+      by : Whereabouts g s Settled Held v → Settled v (s .far v)
       by (is-settled a) = a
       by (is-held a) =
           absurd
@@ -160,7 +160,7 @@ module _ {g : Network} (ok : Accepted g) {s : Origin} {Open Seen : ℕ → Type 
 
   -- Where the nodes before an open node are open: the least entry of a node that is not settled and seen came along the arc of an open node. (Lazy drops
   -- an entry whose parent is beaten: its node is beaten too.)
-  pub parent-open : Closed g s Seen → (v l u m w : ℕ) → Held v l → ((x y : ℕ) → Held x y → l ≤ y) → ((x : ℕ) → Settled v x → ⊥) → Seen v → s .From u m → Arc g u v w → l ≡ m + w → Seen u
+  pub parent-open : ClosedBefore g s Seen → (v l u m w : ℕ) → Held v l → ((x y : ℕ) → Held x y → l ≤ y) → ((x : ℕ) → Settled v x → ⊥) → Seen v → s .From u m → Arc g u v w → l ≡ m + w → Seen u
   parent-open closed v l u m w h least new o k r q =
       let a : l ≡ s .far v = pop-exact v l h least new o in
       let d = e .lawful .upto k in

@@ -11,10 +11,10 @@ use Rattle.expansion.proofs.Origins.{Origin, Lawful}
 use Rattle.expansion.proofs.Search.{Search, AtMost, Leads, pop-exact}
 
 -- What becomes of an entry (x, m): it waits on, or one with no greater label does; or x is settled; or the search does not answer for x.
-pub data Outcome (Open Seen : ℕ → Type 0) (Settled : ℕ → ℕ → Type 0) (Held : ℕ → ℕ → Type 0) (x m : ℕ) : Type 0 where
-  waits : (y : ℕ) → y ≤ m → Held x y → Outcome Open Seen Settled Held x m
-  has-label : (l : ℕ) → Settled x l → Outcome Open Seen Settled Held x m
-  not-seen : (Seen x → ⊥) → Outcome Open Seen Settled Held x m
+pub data AfterStep (Open Seen : ℕ → Type 0) (Settled : ℕ → ℕ → Type 0) (Held : ℕ → ℕ → Type 0) (x m : ℕ) : Type 0 where
+  waits : (y : ℕ) → y ≤ m → Held x y → AfterStep Open Seen Settled Held x m
+  has-label : (l : ℕ) → Settled x l → AfterStep Open Seen Settled Held x m
+  not-seen : (Seen x → ⊥) → AfterStep Open Seen Settled Held x m
 
 -- The search begins: the sources wait alone.
 pub initial : {g : Network} {s : Origin} {Open Seen : ℕ → Type 0} {Settled : ℕ → ℕ → Type 0} {Held : ℕ → ℕ → Type 0} → Lawful g s → ((v l : ℕ) → Settled v l → ⊥) → ((v : ℕ) → s .Source v → Held v 0) → ((v l : ℕ) → Held v l → s .Source v × (l ≡ 0)) → Search g s Open Seen Settled Held
@@ -47,19 +47,19 @@ same-settled kept old e =
 
 -- An entry that is there no more is not missed: a node that is settled at its distance is reached by any walk at no less.
 module _ {g : Network} {s : Origin} (lawful : Lawful g s) {Open Seen : ℕ → Type 0} {Settled : ℕ → ℕ → Type 0} {Held : ℕ → ℕ → Type 0} where
-  reached : {x m j : ℕ} → ((l : ℕ) → Settled x l → Seen x → l ≡ s .far x) → Seen x → s .From x j → m ≤ j → Outcome Open Seen Settled Held x m → AtMost (Settled x) j ⊎ AtMost (Held x) j
+  reached : {x m j : ℕ} → ((l : ℕ) → Settled x l → Seen x → l ≡ s .far x) → Seen x → s .From x j → m ≤ j → AfterStep Open Seen Settled Held x m → AtMost (Settled x) j ⊎ AtMost (Held x) j
   reached exact p k h (waits y le a) = inr (record { label = y; low = omega arith; has = a })
   reached exact p k h (has-label l a) = inl (record { label = l; low = omega (arith, exact l a p, lawful .upto k .most); has = a })
   reached exact p k h (not-seen n) = absurd (n p)
 
-  begun : (v : ℕ) → s .Source v → ((l : ℕ) → Settled v l → Seen v → l ≡ s .far v) → Seen v → Outcome Open Seen Settled Held v 0 → Settled v 0 ⊎ Held v 0
+  begun : (v : ℕ) → s .Source v → ((l : ℕ) → Settled v l → Seen v → l ≡ s .far v) → Seen v → AfterStep Open Seen Settled Held v 0 → Settled v 0 ⊎ Held v 0
   begun v h exact p (waits y le a) = let e : y ≡ 0 = omega arith in inr (rw e at a)
   begun v h exact p (has-label l a) = inl (rw (exact l a p, lawful .zero v h) at a)
   begun v h exact p (not-seen n) = absurd (n p)
 
 -- the queue alone changes
 module _ {g : Network} (ok : Accepted g) {s : Origin} {Open Seen : ℕ → Type 0} {Settled : ℕ → ℕ → Type 0} {Held Held′ : ℕ → ℕ → Type 0} (e : Search g s Open Seen Settled Held) where
-  pub requeue : ((x m : ℕ) → Held x m → Outcome Open Seen Settled Held′ x m) → ((x m : ℕ) → Held′ x m → s .From x m) → Search g s Open Seen Settled Held′
+  pub requeue : ((x m : ℕ) → Held x m → AfterStep Open Seen Settled Held′ x m) → ((x m : ℕ) → Held′ x m → s .From x m) → Search g s Open Seen Settled Held′
   requeue becomes walk =
       record {
         lawful = e .lawful;
@@ -105,11 +105,11 @@ module _ {g : Network} (ok : Accepted g) {s : Origin} {Open Seen : ℕ → Type 
   held-walks x m h =
       ⊎-elim (λ a. e .held-walk x m a) (λ a. rw (a .sum) (e .lawful .along walk (a .arc))) (spreads .old x m h)
 
-  becomes : (x m : ℕ) → Held x m → Outcome Open Seen Settled′ Held′ x m
+  becomes : (x m : ℕ) → Held x m → AfterStep Open Seen Settled′ Held′ x m
   becomes x m a = ⊎-elim (λ b. waits (b .label) (b .low) (b .has)) (λ q. has-label l (rw q (marks .here))) (spreads .kept x m a)
 
   -- where l is the distance of v, if the search answers for it, and what goes on from v is in the queue, if v is open
-  settle-by : (Seen v → l ≡ s .far v) → ((x w : ℕ) → Open v → Arc g v x w → Outcome Open Seen Settled′ Held′ x (l + w)) → Search g s Open Seen Settled′ Held′
+  settle-by : (Seen v → l ≡ s .far v) → ((x w : ℕ) → Open v → Arc g v x w → AfterStep Open Seen Settled′ Held′ x (l + w)) → Search g s Open Seen Settled′ Held′
   settle-by right arcs = record { lawful = e .lawful; settled-walk = walks; held-walk = held-walks; exact = exact; opened = opened; source = source }
     where
       exact : (x m : ℕ) → Settled′ x m → Seen x → m ≡ s .far x
@@ -125,7 +125,7 @@ module _ {g : Network} (ok : Accepted g) {s : Origin} {Open Seen : ℕ → Type 
           (λ b. reached (e .lawful) (exact x) p k (b .low) (becomes x (b .label) (b .has)))
           (e .opened u x j w a o p r))
           (λ q.
-          let b : Outcome Open Seen Settled′ Held′ x (j + w) = rw (q .1) (arcs x w (rw (q .0) at o) (rw (q .0) at r)) in
+          let b : AfterStep Open Seen Settled′ Held′ x (j + w) = rw (q .1) (arcs x w (rw (q .0) at o) (rw (q .0) at r)) in
           reached (e .lawful) (exact x) p k (omega arith) b)
           (marks .old u j h)
 
@@ -144,5 +144,5 @@ module _ {g : Network} (ok : Accepted g) {s : Origin} {Open Seen : ℕ → Type 
         settle-by ok e v l (e .held-walk v l h) marks (removes-spreads gone) (pop-exact ok leads e v l h least new) (λ x w o r. absurd (n o))
 
     -- what goes on from v is put in
-    pub settle : Spreads g Held Held′ v l → ((x w : ℕ) → Open v → Arc g v x w → Outcome Open Seen Settled′ Held′ x (l + w)) → Search g s Open Seen Settled′ Held′
+    pub settle : Spreads g Held Held′ v l → ((x w : ℕ) → Open v → Arc g v x w → AfterStep Open Seen Settled′ Held′ x (l + w)) → Search g s Open Seen Settled′ Held′
     settle spreads arcs = settle-by ok e v l (e .held-walk v l h) marks spreads (pop-exact ok leads e v l h least new) arcs

@@ -54,14 +54,14 @@ nearer-more g M M′ v u d sub new h less =
         (bool-cases (marked M′ v))
 
 -- the counts, where the points M are verified
-pub record Counts (g : Network) (M : List ℕ) (q k : ℕ) (xs : List ℕ) : Type 0 where
+pub record CountsFit (g : Network) (M : List ℕ) (q k : ℕ) (xs : List ℕ) : Type 0 where
   pub most : (u : ℕ) → u < nodeCount g → Unbeaten g M q k u → getD xs u 0 ≤ countNearer g M u (dist g u q)
 
 pub record Lazily (g : Network) (P : List ℕ) (q k : ℕ) (xs : List ℕ) (b settled len : ℕ) : Type 0 where
   pub verified : List ℕ
   pub searched : Discovering g P verified q k xs b (nodeCount g) settled len
   pub blank : (j : ℕ) → visitBase (nodeCount g) ≤ j → j < b → getD xs j 0 ≡ 0
-  pub counts : Counts g verified q k xs
+  pub counts : CountsFit g verified q k xs
   pub few : (u : ℕ) → u < nodeCount g → getD xs u 0 ≤ 255 * settled
 
 -- the node v is verified, where it is a point, and not yet settled
@@ -69,11 +69,11 @@ pub record Arriving (g : Network) (P : List ℕ) (q k : ℕ) (ys : List ℕ) (b 
   pub verified : List ℕ
   pub arrived : Arrived g P verified q k ys b (nodeCount g) settled left l v
   pub blank : (j : ℕ) → visitBase (nodeCount g) ≤ j → j < b → getD ys j 0 ≡ 0
-  pub counts : Counts g verified q k ys
+  pub counts : CountsFit g verified q k ys
   pub few : (u : ℕ) → u < nodeCount g → getD ys u 0 ≤ 255 * (settled + 1)
 
 -- a node with a count of k is beaten
-pub closed : {g : Network} {M : List ℕ} {q k : ℕ} {xs : List ℕ} → Counts g M q k xs → (u : ℕ) → u < nodeCount g → k ≤ getD xs u 0 → Unbeaten g M q k u → ⊥
+pub closed : {g : Network} {M : List ℕ} {q k : ℕ} {xs : List ℕ} → CountsFit g M q k xs → (u : ℕ) → u < nodeCount g → k ≤ getD xs u 0 → Unbeaten g M q k u → ⊥
 closed c u h full o = o (omega (arith, c .most u h o))
 
 module _ {g : Network} {P : List ℕ} {q b : ℕ} {s₀ : List ℕ} (c : CanExploreLazy g P s₀ b q) where
@@ -102,7 +102,7 @@ module _ {g : Network} {P : List ℕ} {q b : ℕ} {s₀ : List ℕ} (c : CanExpl
     front-taken : (i : ℕ) → i < b → getD ys i 0 ≡ getD xs i 0
     front-taken i h = t .popped .frame .before i h
 
-    counts-taken : Counts g (e .verified) q k ys
+    counts-taken : CountsFit g (e .verified) q k ys
     counts-taken = record { most = λ x h o. rw (front-taken x (omega (arith, low))) (e .counts .most x h o) }
 
     pub parent-inside : u < nodeCount g
@@ -223,7 +223,7 @@ module _ {g : Network} {P : List ℕ} {q b : ℕ} {s₀ : List ℕ} (c : CanExpl
       kept-front : (i : ℕ) → i < b → getD ws i 0 ≡ getD ys i 0
       kept-front = front ok low (a .arrived) same
 
-      counts-kept : Counts g (a .verified) q k ws
+      counts-kept : CountsFit g (a .verified) q k ws
       counts-kept = record { most = λ x h o. rw (kept-front x (omega (arith, low))) (a .counts .most x h o) }
 
       next : {more : ℕ} → Discovering g P (a .verified) q k ws b (nodeCount g) (settled + 1) more → Lazily g P q k ws b (settled + 1) more

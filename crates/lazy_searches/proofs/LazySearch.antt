@@ -28,7 +28,7 @@ use Rattle.expansion.specs.Area.{queueBase, LabelAt, HeldAt, Area, Moved, Blank
 use Rattle.expansion.specs.Expand.{CanExpand}
 use Rattle.expansion.proofs.Origins.{one, one-lawful}
 use Rattle.expansion.proofs.Search.{Leads, monotone, closed-leads, frontier}
-use Rattle.expansion.proofs.Steps.{Outcome, waits, not-seen, requeue}
+use Rattle.expansion.proofs.Steps.{AfterStep, waits, not-seen, requeue}
 use Rattle.expansion.proofs.Settled.{zero-blank}
 use Rattle.expansion.proofs.AreaLaws.{moved-same, settledAs, frame-settle, others-settle}
 use Rattle.expansion.proofs.AreaSearch.{AndOne, search-took, took-area, took-word, took-moved, took-waited, took-least, took-exact, search-finished, settle-marks}
@@ -190,7 +190,7 @@ module _ {g : Network} (ok : Accepted g) {P : List ℕ} {q k b f : ℕ} (low : f
           came = came-took ok (d .progress) t (d .came);
         }
       where
-        becomes : (x m : ℕ) → AndOne (nodeCount g) ys b left v l x m → Outcome (Unbeaten g M q k) (Unbeaten g M q k) (LabelAt (nodeCount g) ys b) (HeldAt (nodeCount g) ys b left) x m
+        becomes : (x m : ℕ) → AndOne (nodeCount g) ys b left v l x m → AfterStep (Unbeaten g M q k) (Unbeaten g M q k) (LabelAt (nodeCount g) ys b) (HeldAt (nodeCount g) ys b left) x m
         becomes x m (inl h) = waits m (omega arith) h
         becomes x m (inr e) =
             ⊎-elim

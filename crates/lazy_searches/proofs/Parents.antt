@@ -18,7 +18,7 @@ use Rattle.expansion.specs.Tags.{tagOf}
 use Rattle.expansion.specs.NodeQueue.{PushedNode}
 use Rattle.expansion.specs.Area.{queueBase, queueOf, PutAmong, arcKey, Took, Followed}
 use Rattle.expansion.proofs.Origins.{one}
-use Rattle.expansion.proofs.Search.{Closed, Leads, parent-open}
+use Rattle.expansion.proofs.Search.{ClosedBefore, Leads, parent-open}
 use Rattle.expansion.proofs.TagLaws.{entry-same}
 use Rattle.expansion.proofs.AreaLaws.{settledAs, queue-settle}
 use Rattle.expansion.proofs.AreaSearch.{small, search-took, took-area, took-word, took-least, took-new}
@@ -97,7 +97,7 @@ module _ {g : Network} (ok : Accepted g) {q : ℕ} {Open Seen : ℕ → Type 0} 
       omega (arith, e .2, c .from)
 
   -- where the parent is not seen, the node is not
-  pub parent-seen : AllCame g q xs b len → Leads g (one g q) Open Seen → Closed g (one g q) Seen → (Seen u → ⊥) → Seen v → ⊥
+  pub parent-seen : AllCame g q xs b len → Leads g (one g q) Open Seen → ClosedBefore g (one g q) Seen → (Seen u → ⊥) → Seen v → ⊥
   parent-seen all leads closed n o =
       let c = all (keyOf l (tagOf v u)) (t .popped .popped .was) in
       let e = entry-same l v u (c .label) (c .node) (c .parent) (small ok (t .inside)) (t .tagged) (small ok (c .inside)) (small ok (c .from)) (c .is) in
@@ -112,13 +112,13 @@ module _ {g : Network} (ok : Accepted g) {q : ℕ} {Open Seen : ℕ → Type 0} 
       (c .way)
 
 -- ---- The measure of a search that may drop entries: a node that is settled outweighs all that wait.
-abbrev pub work : ℕ → ℕ → ℕ → ℕ
-work n settled len = (n - settled) * (n + 1) + len
+abbrev pub searchWork : ℕ → ℕ → ℕ → ℕ
+searchWork n settled len = (n - settled) * (n + 1) + len
 
 mul-next : (d m : ℕ) → suc d * m ≡ d * m + m
 mul-next d m = suc-mul d m
 
-pub work-settled : (n settled len more : ℕ) → settled < n → more ≤ n → work n (settled + 1) more < work n settled len
+pub work-settled : (n settled len more : ℕ) → settled < n → more ≤ n → searchWork n (settled + 1) more < searchWork n settled len
 work-settled n settled len more h l =
     let e : n - settled ≡ suc (n - (settled + 1)) = omega arith in
     rw e (omega (arith, mul-next (n - (settled + 1)) (n + 1)))

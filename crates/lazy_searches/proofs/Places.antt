@@ -14,7 +14,7 @@ use Rattle.network.proofs.Counts.{count-none, count-all, count-but, without, wi
 use Rattle.expansion.specs.Area.{unsettled, Area}
 
 -- v stands at a place below m that passes p
-record Placed (f : ℕ → ℕ) (p : ℕ → Bool) (m v : ℕ) : Type 0 where
+record PlacedAmong (f : ℕ → ℕ) (p : ℕ → Bool) (m v : ℕ) : Type 0 where
   place : ℕ
   low : place < m
   passes : p place ≡ true
@@ -24,19 +24,19 @@ not-last : {x m : ℕ} → x < suc m → x ≢ m → x < m
 not-last h n = omega arith
 
 -- where each number below n that passes t has a place that passes p, no more numbers pass t than places pass p
-placed-most : (f : ℕ → ℕ) (p : ℕ → Bool) (n m : ℕ) (t : ℕ → Bool) → ((v : ℕ) → v < n → t v ≡ true → Placed f p m v) → count t n ≤ count p m
+placed-most : (f : ℕ → ℕ) (p : ℕ → Bool) (n m : ℕ) (t : ℕ → Bool) → ((v : ℕ) → v < n → t v ≡ true → PlacedAmong f p m v) → count t n ≤ count p m
 unfolding count
 placed-most f p n zero t h =
     omega (arith, count-none t n (λ v l a. omega (arith, h v l a .low)))
 placed-most f p n (suc m) t h = by (λ u. placed-most f p n m u) (p m) refl
   where
-    fewer : (v : ℕ) → v < n → without t (f m) v ≡ true → Placed f p m v
+    fewer : (v : ℕ) → v < n → without t (f m) v ≡ true → PlacedAmong f p m v
     fewer v l a =
         let ne = without-not t (f m) v a in
         let s = h v l (sym (without-other t (f m) v ne) ∙ a) in
         record { place = s .place; low = not-last (s .low) (λ e. ne (sym (s .is) ∙ ap f e)); passes = s .passes; is = s .is }
 
-    by : ((u : ℕ → Bool) → ((v : ℕ) → v < n → u v ≡ true → Placed f p m v) → count u n ≤ count p m) → (x : Bool) → p m ≡ x → count t n ≤ count p m + bit (p m)
+    by : ((u : ℕ → Bool) → ((v : ℕ) → v < n → u v ≡ true → PlacedAmong f p m v) → count u n ≤ count p m) → (x : Bool) → p m ≡ x → count t n ≤ count p m + bit (p m)
     by ih true e =
         rw e (omega (arith, ih (without t (f m)) fewer, count-but t (without t (f m)) (f m) n (λ x ne a. without-other t (f m) x ne ∙ a)))
     by ih false e =
@@ -64,7 +64,7 @@ module _ {n : ℕ} {xs : List ℕ} {b settled len : ℕ} (a : Area n xs b settle
       bits false = refl
 
   -- no place can be spared
-  needed : (i : ℕ) → i < settled → ((v : ℕ) → v < n → n < getD xs (b + v) 0 → Placed (λ j. getD xs (b + n + j) 0) (without (λ _. true) i) settled v) → ⊥
+  needed : (i : ℕ) → i < settled → ((v : ℕ) → v < n → n < getD xs (b + v) 0 → PlacedAmong (λ j. getD xs (b + n + j) 0) (without (λ _. true) i) settled v) → ⊥
   needed i h all =
       omega (
         arith,

@@ -40,33 +40,33 @@ word-below zero l m h e = omega arith
 word-below (suc w) l m h e = omega arith
 
 -- the places before j: `place` is the farthest of those that are farther than d, and p is at none
-pub record Looking (xs : List ℕ) (ids words k p d place most j : ℕ) : Type 0 where
+pub record Looking (xs : List ℕ) (a b k p d place most j : ℕ) : Type 0 where
   pub low : j ≤ k
   pub inside : place ≤ k
   pub from : d ≤ most
-  pub farther : place < k → d < rowDistance (getD xs (words + place) 0)
-  pub absent : (i : ℕ) → i < j → getD xs (words + i) 0 ≢ 0 → getD xs (ids + i) 0 ≢ p
+  pub farther : place < k → d < rowDistance (getD xs (b + place) 0)
+  pub absent : (i : ℕ) → i < j → getD xs (b + i) 0 ≢ 0 → getD xs (a + i) 0 ≢ p
 
-module _ {xs : List ℕ} {ids words k p d : ℕ} where
-  pub looking-none : Looking xs ids words k p d k d 0
+module _ {xs : List ℕ} {a b k p d : ℕ} where
+  pub looking-none : Looking xs a b k p d k d 0
   looking-none =
       record { low = omega arith; inside = omega arith; from = omega arith; farther = λ h. absurd (omega arith); absent = λ i h. absurd (omega arith) }
 
-  module _ {place most j : ℕ} (l : Looking xs ids words k p d place most j) (h : j < k) (other : getD xs (words + j) 0 ≢ 0 → getD xs (ids + j) 0 ≢ p) where
-    absent-more : (i : ℕ) → i < j + 1 → getD xs (words + i) 0 ≢ 0 → getD xs (ids + i) 0 ≢ p
+  module _ {place most j : ℕ} (l : Looking xs a b k p d place most j) (h : j < k) (other : getD xs (b + j) 0 ≢ 0 → getD xs (a + j) 0 ≢ p) where
+    absent-more : (i : ℕ) → i < j + 1 → getD xs (b + i) 0 ≢ 0 → getD xs (a + i) 0 ≢ p
     absent-more i m = elim (ℕ-discrete i j) [ yes e ↦ rw e other | no n ↦ l .absent i (omega arith) ]
 
-    pub looking-farther : (far : ℕ) → far ≡ rowDistance (getD xs (words + j) 0) → most < far → Looking xs ids words k p d j far (j + 1)
+    pub looking-farther : (far : ℕ) → far ≡ rowDistance (getD xs (b + j) 0) → most < far → Looking xs a b k p d j far (j + 1)
     looking-farther far e m =
         record { low = omega arith; inside = omega arith; from = omega (arith, l .from); farther = λ _. omega (arith, l .from); absent = absent-more }
 
-    pub looking-on : Looking xs ids words k p d place most (j + 1)
+    pub looking-on : Looking xs a b k p d place most (j + 1)
     looking-on = record { low = omega arith; inside = l .inside; from = l .from; farther = l .farther; absent = absent-more }
 
-  pub looked-for : {place most j : ℕ} → Looking xs ids words k p d place most j → k ≤ j → PlaceFor xs ids words k p d place
+  pub looked-for : {place most j : ℕ} → Looking xs a b k p d place most j → k ≤ j → PlaceFor xs a b k p d place
   looked-for l h = record { most = l .inside; farther = l .farther; absent = λ _ i m. l .absent i (omega arith) }
 
-  pub place-none : PlaceFor xs ids words k p d k
+  pub place-none : PlaceFor xs a b k p d k
   place-none = record { most = omega arith; farther = λ h. absurd (omega arith); absent = λ h. absurd (omega arith) }
 
 -- a sum with one term that is less
@@ -81,26 +81,26 @@ total-less f h v n l a e =
 
 -- the lockers at the first places of a row with distances below l
 abbrev pub tallyOf : List ℕ → List ℕ → ℕ → ℕ → ℕ → ℕ → ℕ
-tallyOf P xs ids words l j = sumOver (λ i. ltb (rowDistance (getD xs (words + i) 0)) l) (λ i. lockers P (getD xs (ids + i) 0)) j
+tallyOf P xs a b l j = sumOver (λ i. ltb (rowDistance (getD xs (b + i) 0)) l) (λ i. lockers P (getD xs (a + i) 0)) j
 
-module _ (P xs : List ℕ) (ids words l : ℕ) where
-  pub tally-none : tallyOf P xs ids words l 0 ≡ 0
+module _ (P xs : List ℕ) (a b l : ℕ) where
+  pub tally-none : tallyOf P xs a b l 0 ≡ 0
   unfolding total
   tally-none = refl
 
   abbrev weight : ℕ → ℕ
-  weight i = weighed (ltb (rowDistance (getD xs (words + i) 0)) l) (lockers P (getD xs (ids + i) 0))
+  weight i = weighed (ltb (rowDistance (getD xs (b + i) 0)) l) (lockers P (getD xs (a + i) 0))
 
-  module _ (j far : ℕ) (e : far ≡ rowDistance (getD xs (words + j) 0)) where
-    pub tally-more : far < l → tallyOf P xs ids words l (j + 1) ≡ tallyOf P xs ids words l j + lockers P (getD xs (ids + j) 0)
+  module _ (j far : ℕ) (e : far ≡ rowDistance (getD xs (b + j) 0)) where
+    pub tally-more : far < l → tallyOf P xs a b l (j + 1) ≡ tallyOf P xs a b l j + lockers P (getD xs (a + j) 0)
     tally-more h =
-        omega (arith, total-next weight j, ap (λ b. weighed b (lockers P (getD xs (ids + j) 0))) (lt-ltb (rowDistance (getD xs (words + j) 0)) l (omega arith)))
+        omega (arith, total-next weight j, ap (λ t. weighed t (lockers P (getD xs (a + j) 0))) (lt-ltb (rowDistance (getD xs (b + j) 0)) l (omega arith)))
 
-    pub tally-same : l ≤ far → tallyOf P xs ids words l (j + 1) ≡ tallyOf P xs ids words l j
+    pub tally-same : l ≤ far → tallyOf P xs a b l (j + 1) ≡ tallyOf P xs a b l j
     tally-same h =
-        omega (arith, total-next weight j, ap (λ b. weighed b (lockers P (getD xs (ids + j) 0))) (le-ltb (rowDistance (getD xs (words + j) 0)) l (omega arith)))
+        omega (arith, total-next weight j, ap (λ t. weighed t (lockers P (getD xs (a + j) 0))) (le-ltb (rowDistance (getD xs (b + j) 0)) l (omega arith)))
 
-  pub tally-upto : (j k : ℕ) → j ≤ k → tallyOf P xs ids words l j ≤ tallyOf P xs ids words l k
+  pub tally-upto : (j k : ℕ) → j ≤ k → tallyOf P xs a b l j ≤ tallyOf P xs a b l k
   tally-upto j k h = total-upto weight j k h
 
 -- the tally of node u's row, whose number is w in the code

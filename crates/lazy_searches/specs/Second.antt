@@ -15,8 +15,8 @@ use Rattle.network.specs.Accepted.{Accepted}
 use Rattle.network.specs.Walk.{Walk}
 use Rattle.network.specs.Count.{total, sumOver}
 use Rattle.network.specs.Points.{lockers, marked}
-use Rattle.expansion.specs.Queue.{Holds, Queue}
-use Rattle.expansion.specs.Tags.{tagNode, tagParent}
+use Rattle.expansion.specs.Queue.{distanceOf, Holds, Queue}
+use Rattle.expansion.specs.Tags.{nodeOf, tagParent}
 use Rattle.expansion.specs.Area.{Kept}
 use Rattle.expansion.specs.Expand.{wordDistance}
 
@@ -26,13 +26,13 @@ rowDistance word = wordDistance 0 word
 
 -- the point, the node and the distance of the entry with the key
 abbrev pub pointOf : ℕ → ℕ
-pointOf key = tagNode (key % 4294967296)
+pointOf key = nodeOf key
 
 abbrev pub besideOf : ℕ → ℕ
 besideOf key = tagParent (key % 4294967296)
 
 abbrev pub farOf : ℕ → ℕ
-farOf key = key / 4294967296
+farOf key = distanceOf key
 
 -- where the row words start, and the queue
 abbrev pub wordsBase : ℕ → ℕ → ℕ

@@ -279,11 +279,11 @@ copies-some k p (x ∷ xs) =
     (λ c. inr (record { far = c .far; mem = List·Memᴰ·tail (c .mem); low = c .low }))
     (copies-some k p xs)
 
-pub record Stands (p : ℕ) (xs : List (ℕ × ℕ)) : Type 0 where
+pub record Occurs (p : ℕ) (xs : List (ℕ × ℕ)) : Type 0 where
   pub far : ℕ
   pub mem : List·Memᴰ (p, far) xs
 
-pub times-some : (p : ℕ) (xs : List (ℕ × ℕ)) → (times p xs ≡ 0) ⊎ Stands p xs
+pub times-some : (p : ℕ) (xs : List (ℕ × ℕ)) → (times p xs ≡ 0) ⊎ Occurs p xs
 times-some p [] = inl refl
 times-some p (x ∷ xs) =
     ⊎-elim

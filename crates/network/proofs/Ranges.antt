@@ -21,17 +21,17 @@ use Rattle.network.proofs.Tests.{or-parts, or-intro, any-none, none-any
 use Rattle.network.proofs.NodeArcs.{arc-source, part-length, part-at}
 
 -- 1
-pub record Sized (starts : List ℕ) : Type 0 where
+pub record StartsFit (starts : List ℕ) : Type 0 where
   pub least : 2 ≤ length starts
   pub most : length starts ≤ 65536
 
-pub sized : (starts : List ℕ) → badSize starts ≡ false → Sized starts
+pub sized : (starts : List ℕ) → badSize starts ≡ false → StartsFit starts
 unfolding badSize
 sized starts e =
     let r = or-parts (ltb (length starts) 2) _ e in
     record { least = ltb-false (length starts) 2 (r .0); most = ltb-false 65536 (length starts) (r .1) }
 
-pub sized-passes : (starts : List ℕ) → Sized starts → badSize starts ≡ false
+pub sized-passes : (starts : List ℕ) → StartsFit starts → badSize starts ≡ false
 unfolding badSize
 sized-passes starts s = or-intro (ltb (length starts) 2) _ (le-ltb (length starts) 2 (s .least)) (le-ltb 65536 (length starts) (s .most))
 

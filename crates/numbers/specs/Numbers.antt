@@ -115,6 +115,7 @@ tableNodeNumber g P node K ids distances =
     ∷ tableNumber (nodeCount g) K (length ids) (length distances)
     ∷ [])
 
+-- insert and remove: 1 to 5, 6, 7, 8, 10, 11; m is K
 unfoldable pub changeNumber : Kind → Network → List ℕ → ℕ → ℕ → List ℕ → List ℕ → List ℕ → ℕ
 changeNumber kind g P node K scratch ids distances =
     firstNumber

@@ -21,7 +21,7 @@ use Rattle.network.proofs.Distances.{Next, dist-at-most, dist-walk, dist-symmet
 use Rattle.network.proofs.Rank.{nearer-passes, passes-nearer}
 use Rattle.network.proofs.Prefix.{count-next}
 use Rattle.expansion.proofs.Origins.{one}
-use Rattle.expansion.proofs.Search.{Closed}
+use Rattle.expansion.proofs.Search.{ClosedBefore}
 
 -- k marks are nearer to m than q; and they are not
 abbrev pub Beaten : Network → List ℕ → ℕ → ℕ → ℕ → Type 0
@@ -88,7 +88,7 @@ module _ {g : Network} (ok : Accepted g) (M : List ℕ) (q k : ℕ) where
       let n : Next g m q = record { to = c; weight = w; arc = ok .returns r; reach = omega arith; sum = omega arith } in
       omega (arith, count-next ok M q k m n)
 
-  pub unbeaten-closed : Closed g (one g q) (Unbeaten g M q k)
+  pub unbeaten-closed : ClosedBefore g (one g q) (Unbeaten g M q k)
   unbeaten-closed = record { before = λ u v w o r e n b. o (propagates u v w r e b) }
 
 -- the nodes of the whole search

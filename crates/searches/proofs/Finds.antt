@@ -18,10 +18,10 @@ use Rattle.network.proofs.Rank.{count-nearer-mono, others-nearly, others-part}
 use Rattle.expansion.proofs.Origins.{Last, one, one-lawful}
 use Rattle.expansion.proofs.Search.{Through, Leads}
 use Rattle.searches.proofs.Beaten.{Beaten, Unbeaten, decBeaten, unbeaten-closed}
-use Rattle.searches.proofs.Listed.{Lists, listed-parts, own-unbeaten}
+use Rattle.searches.proofs.Listed.{ListedParts, listed-parts, own-unbeaten}
 
 -- an arc from an unbeaten node, on a shortest way from q
-pub record Behind (g : Network) (P : List ℕ) (q k c : ℕ) : Type 0 where
+pub record BehindUnbeaten (g : Network) (P : List ℕ) (q k c : ℕ) : Type 0 where
   pub from : ℕ
   pub weight : ℕ
   pub unbeaten : Unbeaten g P q k from
@@ -31,7 +31,7 @@ pub record Behind (g : Network) (P : List ℕ) (q k c : ℕ) : Type 0 where
 
 -- what a search comes to that follows the arcs of the unbeaten nodes
 abbrev pub Met : Network → List ℕ → ℕ → ℕ → ℕ → Type 0
-Met g P q k c = Unbeaten g P q k c ⊎ Behind g P q k c
+Met g P q k c = Unbeaten g P q k c ⊎ BehindUnbeaten g P q k c
 
 pub met-leads : {g : Network} → Accepted g → (P : List ℕ) (q k : ℕ) → 1 ≤ k → Leads g (one g q) (Unbeaten g P q k) (Met g P q k)
 met-leads {g} ok P q k some = record { start = λ v e m. rw e (own-unbeaten ok P q k some); through = λ v m ne n. by v m (one-lawful ok q .previous v ne n) }
@@ -61,7 +61,7 @@ record On (g : Network) (q p c : ℕ) : Type 0 where
   rest : dist g c p ≢ NONE
   sum : dist g q p ≡ dist g q c + dist g c p
 
-module _ {g : Network} (ok : Accepted g) (P : List ℕ) (q k p : ℕ) (h : Lists g P q k p) where
+module _ {g : Network} (ok : Accepted g) (P : List ℕ) (q k p : ℕ) (h : ListedParts g P q k p) where
   -- what is nearer to such a node than q is nearer to p than q
   nearer-too : (c x : ℕ) → On g q p c → dist g c x < dist g c q → dist g p x < dist g p q
   nearer-too c x r l =

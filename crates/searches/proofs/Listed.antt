@@ -19,7 +19,7 @@ use Rattle.network.proofs.Rank.{others-part}
 use Rattle.searches.proofs.Beaten.{Unbeaten, Part, part-marked}
 
 -- the parts of the test
-pub record Lists (g : Network) (P : List ℕ) (q k p : ℕ) : Type 0 where
+pub record ListedParts (g : Network) (P : List ℕ) (q k p : ℕ) : Type 0 where
   pub mark : marked P p ≡ true
   pub other : p ≢ q
   pub reach : dist g p q ≢ NONE
@@ -43,7 +43,7 @@ verified-parts g P p q k = (
     test-off : (a b : ℕ) → not (eqb a b) ≡ true → a ≢ b
     test-off a b t = eqb-false a b (not-true (eqb a b) t)
 
-pub listed-parts : (g : Network) (P : List ℕ) (q k p : ℕ) → (isListed g P q k p ≡ true) ↔ Lists g P q k p
+pub listed-parts : (g : Network) (P : List ℕ) (q k p : ℕ) → (isListed g P q k p ≡ true) ↔ ListedParts g P q k p
 unfolding isListed
 listed-parts g P q k p = (
   λ e.

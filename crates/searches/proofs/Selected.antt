@@ -20,18 +20,18 @@ unfolding select
 select-no t n e = rw (e, append-nil)
 
 -- the numbers below v that pass are written, len of them
-pub record Written (t : ℕ → Bool) (v : ℕ) (old new : List ℕ) (len : ℕ) : Type 0 where
+pub record WrittenList (t : ℕ → Bool) (v : ℕ) (old new : List ℕ) (len : ℕ) : Type 0 where
   pub size : length new ≡ length old
   pub few : len ≤ v
   pub count : len ≡ length (select t v)
   pub is : new ≡ select t v ++ drop len old
 
-pub written-none : (t : ℕ → Bool) (old : List ℕ) → Written t 0 old old 0
+pub written-none : (t : ℕ → Bool) (old : List ℕ) → WrittenList t 0 old old 0
 unfolding select
 written-none t old = record { size = refl; few = omega arith; count = refl; is = refl }
 
-module _ {t : ℕ → Bool} {v : ℕ} {old new : List ℕ} {len : ℕ} (w : Written t v old new len) where
-  pub written-more : v < length old → t v ≡ true → Written t (v + 1) old (set new len v) (len + 1)
+module _ {t : ℕ → Bool} {v : ℕ} {old new : List ℕ} {len : ℕ} (w : WrittenList t v old new len) where
+  pub written-more : v < length old → t v ≡ true → WrittenList t (v + 1) old (set new len v) (len + 1)
   written-more h e =
       let l : len < length old = omega (arith, w .few) in
       record {
@@ -43,7 +43,7 @@ module _ {t : ℕ → Bool} {v : ℕ} {old new : List ℕ} {len : ℕ} (w : Writ
             (set-at (select t v) (getD old len 0) (drop (suc len) old) v len (sym (w .count)) ∙ sym (append-assoc (select t v) (v ∷ []) (drop (suc len) old)));
       }
 
-  pub written-skip : t v ≡ false → Written t (v + 1) old new len
+  pub written-skip : t v ≡ false → WrittenList t (v + 1) old new len
   written-skip e =
       record { size = w .size; few = omega (arith, w .few); count = rw (add-one v, select-no t v e) (w .count); is = rw (add-one v, select-no t v e) (w .is) }
 

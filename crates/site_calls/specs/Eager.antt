@@ -9,7 +9,6 @@ use Rattle.network.specs.Network.{Network}
 use Rattle.network.specs.Points.{listed, expanded}
 use Rattle.network.specs.Visits.{visits}
 use Rattle.network.specs.Answers.{answered}
-use Rattle.conditions.specs.declared.answers.Listed as call
 use Rattle.conditions.specs.declared.answers.Listed.the-variants as is
 use Rattle.conditions.specs.Conditions.{byNumber, limitNumber}
 use Rattle.numbers.specs.Numbers.{limitedNumber, eagerNumber}

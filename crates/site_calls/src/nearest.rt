@@ -29,7 +29,7 @@ fn run(
         ⌜ (now (scratch .exit)
         ≡ replicate (length (now (scratch .entry))) 0) × NearestDone g (now (points .entry)) node e k (now (ids .entry)) (now (ids .exit)) (now (distances .entry)) (now (distances .exit)) r ⌝ }
 {
-    let places = wide(k);
+    let wanted = wide(k);
     words::zero(scratch);
     let found = expansion::nearest::nearest(
         starts,
@@ -39,12 +39,12 @@ fn run(
         scratch,
         node,
         e,
-        places,
+        wanted,
     );
-    words::copy(scratch, places, found, ids);
-    let behind = 2 * places;
+    words::copy(scratch, wanted, found, ids);
+    let behind = 2 * wanted;
     words::copy(scratch, behind, found, distances);
-    let end = 3 * places;
+    let end = 3 * wanted;
     words::zero(&mut scratch[..end]);
     found
 }

@@ -52,7 +52,7 @@ pub record Building (g : Network) (P : List ℕ) (K : ℕ) (T : ℕ → List (�
   pub held : (i p d : ℕ) → Held i p d → Offer g P i p d
 
 -- the offer (p, d) to the row of i is taken out: it comes before or at all others
-pub record TakenOut (Held Left : ℕ → ℕ → ℕ → Type 0) (i p d : ℕ) : Type 0 where
+pub record OfferOut (Held Left : ℕ → ℕ → ℕ → Type 0) (i p d : ℕ) : Type 0 where
   pub was : Held i p d
   pub least : (j q e : ℕ) → Held j q e → key (p, d) ≤ key (q, e)
   pub old : (j q e : ℕ) → Left j q e → Held j q e
@@ -107,7 +107,7 @@ module _ {g : Network} (ok : Accepted g) {P : List ℕ} {K : ℕ} where
         closed = λ {i} {c} {w} r p d m. ⊎-elim (λ a. a) (λ o. absurd (none i p (d + w) o)) (b .rows .closed r p d m);
       }
 
-  module _ {T : ℕ → List (ℕ × ℕ)} {Held Left : ℕ → ℕ → ℕ → Type 0} {last i p d : ℕ} (some : 1 ≤ K) (b : Building g P K T Held last) (o : TakenOut Held Left i p d) where
+  module _ {T : ℕ → List (ℕ × ℕ)} {Held Left : ℕ → ℕ → ℕ → Type 0} {last i p d : ℕ} (some : 1 ≤ K) (b : Building g P K T Held last) (o : OfferOut Held Left i p d) where
     pub offer : Offer g P i p d
     offer = b .held i p d (o .was)
 

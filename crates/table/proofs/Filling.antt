@@ -37,7 +37,7 @@ use Rattle.rows.proofs.Flat.{places-length, place-in, in-place, places-padded, 
 use Rattle.network.proofs.Lends.{row-fits}
 use Rattle.rows.proofs.Laid.{rows-apart, rows-table}
 use Rattle.rows.proofs.PutLaws.{places-nil}
-use Rattle.table.proofs.Building.{Offer, Building, TakenOut, RowTakes, OverArc, Served, has, filled, OffersOn, building-same, building-done, building-dropped, building-taken, offer, stands-placed, full-placed, taken-exact}
+use Rattle.table.proofs.Building.{Offer, Building, OfferOut, RowTakes, OverArc, Served, has, filled, OffersOn, building-same, building-done, building-dropped, building-taken, offer, stands-placed, full-placed, taken-exact}
 use Rattle.table.proofs.BuildSteps.{place-or}
 use Rattle.table.proofs.BuildRoom.{freeArcs, free-same, free-less, free-all}
 use Rattle.table.proofs.Runs.{run-length, run-in, run-out, places-run}
@@ -168,7 +168,7 @@ filling-table {g} {P} {xs} {ids} {dists} {K} {len} ok f h =
 -- ---- A turn.
 module _ {g : Network} {P xs ys ids dists : List ℕ} {K len : ℕ} (ok : Accepted g) (some : 1 ≤ K) (f : Filling g P K xs ids dists len) (more : 0 < len) (i p d : ℕ)
     (node-fits : i < 65536) (point-fits : p < 65536) (pop : PoppedAt xs ys (nodeCount g) len (offerOf i p d)) where
-  pub taken-out : TakenOut (HeldIn (nodeCount g) xs len) (HeldIn (nodeCount g) ys (len - 1)) i p d
+  pub taken-out : OfferOut (HeldIn (nodeCount g) xs len) (HeldIn (nodeCount g) ys (len - 1)) i p d
   taken-out =
       record {
         was = record { node = node-fits; point = point-fits; holds = pop .queue .was };

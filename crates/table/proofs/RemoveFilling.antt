@@ -148,8 +148,8 @@ pub record Filling (g : Network) (P : List ℕ) (K : ℕ) (xs ids dists : List �
   pub mending : Mending g P K ids dists xs len → Mending g P K ids′ dists′ ys left
 
 -- what is left to do
-abbrev pub work : Network → List ℕ → ℕ → ℕ
-work g xs left = left + arcsLeft g (isShort xs) (nodeCount g)
+abbrev pub fillWork : Network → List ℕ → ℕ → ℕ
+fillWork g xs left = left + arcsLeft g (isShort xs) (nodeCount g)
 
 pub filling-start : (P : List ℕ) {g : Network} {xs : List ℕ} {len : ℕ} {ids dists : List ℕ} {K : ℕ} → CanFill g xs len ids dists K → Filling g P K xs ids dists len xs ids dists len
 filling-start P c = record { size = refl; sized = c .sized; waiting = c .waiting; mending = λ m. m }
@@ -196,7 +196,7 @@ module _ {g : Network} {P : List ℕ} {K : ℕ} {xs ids dists : List ℕ} {len :
           mending = λ m. mending-skipped (can .accepted) (can .some) (f .mending m) i p d (inside .0) (inside .1) o (t .others) q;
         }
 
-    pub skipped-falls : r ≡ false → work g ws (left - 1) < work g ys left
+    pub skipped-falls : r ≡ false → fillWork g ws (left - 1) < fillWork g ys left
     skipped-falls e = rw (t .refused e .words) (popped-falls (can .accepted) (f .waiting) i p d o some)
 
     -- what `offer` requires
@@ -221,7 +221,7 @@ module _ {g : Network} {P : List ℕ} {K : ℕ} {xs ids dists : List ℕ} {len :
                 (omega (arith, o .size, f .waiting .size, inside .0)) (t .taken e) u;
           }
 
-      pub taken-work : work g vs more < work g ys left
+      pub taken-work : fillWork g vs more < fillWork g ys left
       taken-work =
           omega (
             arith,
@@ -232,8 +232,8 @@ module _ {g : Network} {P : List ℕ} {K : ℕ} {xs ids dists : List ℕ} {len :
 -- ---- Remove.
 module _ {g : Network} {P xs ids dists : List ℕ} {x K : ℕ} (can : CanRemove g P xs ids dists x K) where
   -- what `free` requires, for any number of rows
-  pub remove-free : (rows : ℕ) → rows ≤ nodeCount g → CanFree xs ids dists rows K
-  remove-free rows h =
+  pub remove-free : (m : ℕ) → m ≤ nodeCount g → CanFree xs ids dists m K
+  remove-free m h =
       record {
         few = omega (arith, can .accepted .few);
         flags = omega (arith, can .room);

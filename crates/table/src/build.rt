@@ -17,12 +17,12 @@ use network::points::lockers_at;
 use rows::rows::row_of;
 
 // Makes every place empty.
-fn empty(places: &mut [u32])
-    ensures { λ _. ⌜ now (places .exit) ≡ replicate (length (now (places .entry))) NONE ⌝ }
+fn empty(entries: &mut [u32])
+    ensures { λ _. ⌜ now (entries .exit) ≡ replicate (length (now (entries .entry))) NONE ⌝ }
 {
     let mut i = 0;
-    while i < places.len() {
-        places[i] = Distance::NONE;
+    while i < entries.len() {
+        entries[i] = Distance::NONE;
         i += 1;
     }
 }

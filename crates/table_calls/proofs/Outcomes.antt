@@ -57,7 +57,7 @@ module _ {kind : Kind} {g : Network} {node K : ℕ} {old new : Arrays} {r : Upda
   pub change-accepted : changes ≡ 0 → (r .number ≡ 0) × UpdateDone g (kindMarks kind (old .points) node) K old new (r .changed)
   change-accepted z =
       let d = h .left .accepted z in
-      let e : r ≡ record { number = 0; changed = d .changed } = h .values ∙ ap updatedUpdate (d .answered) in
+      let e : r ≡ record { number = 0; changed = d .changed } = h .values ∙ ap updatedUpdate (d .answered-so) in
       rw e (refl, d .done)
 
 -- what an exported table query says

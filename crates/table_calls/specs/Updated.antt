@@ -42,7 +42,7 @@ pub record UpdateDone (g : Network) (Q : List ℕ) (K : ℕ) (old new : Arrays) 
 -- what an accepted call answers: so many rows changed
 pub record UpdateAccepted (g : Network) (Q : List ℕ) (K : ℕ) (old new : Arrays) (answer : Updated) : Type 0 where
   pub changed : ℕ
-  pub answered : answer ≡ is.Changed changed
+  pub answered-so : answer ≡ is.Changed changed
   pub done : UpdateDone g Q K old new changed
 
 -- what a call of this number answers and leaves: 'A refusal returns its number, count 0 [..], and changes no buffer'

@@ -1,7 +1,7 @@
 // The table query: its work once no condition is met. Document 01, 'The table': 'Table query (eager-M): the list, k from 1 to K - 1, since a point's
 // row spends one place on itself.'
 ghost use Rattle.network.specs.Network.{network};
-ghost use Rattle.query.specs.Query as table;
+ghost use Rattle.query.specs.Query.{QueryLeft};
 ghost use Rattle.numbers.specs.Ready.{TableQueryReady};
 ghost use Rattle.table_calls.specs.TableQuery.{QueryArrays, TableQueryLeft};
 use conditions::answers::Listed;
@@ -23,7 +23,7 @@ fn run(
     answers: &mut [u32],
 ) -> usize
     requires { ⌜ TableQueryReady (network (now starts) (now neighbours) (now weights)) (now points) q k places (now ids) (now distances) (now scratch) (now answers) ⌝ }
-    ensures { λ r. ⌜ table.QueryLeft (network (now (starts .entry)) (now (neighbours .entry)) (now (weights .entry))) (now (points .entry)) (now (ids .entry)) (now (distances .entry)) q k places (now (scratch .entry)) (now (scratch .exit)) (now (answers .entry)) (now (answers .exit)) r ⌝ }
+    ensures { λ r. ⌜ QueryLeft (network (now (starts .entry)) (now (neighbours .entry)) (now (weights .entry))) (now (points .entry)) (now (ids .entry)) (now (distances .entry)) q k places (now (scratch .entry)) (now (scratch .exit)) (now (answers .entry)) (now (answers .exit)) r ⌝ }
 {
     let used = 10 * (starts.len() - 1);
     words::zero(scratch);

@@ -1,7 +1,7 @@
 // The insert and the remove call: their work once no condition is met. Document 01, 'The table', with Ask 8: 'Insert adds one, remove takes one';
 // 'each brings the table up to date and returns the number of rows whose contents differ before and after.'
 ghost use Rattle.network.specs.Network.{network};
-ghost use Rattle.table.specs.Updated as table;
+ghost use Rattle.table.specs.Updated.{UpdateLeft};
 ghost use Rattle.table_calls.specs.Updated.{kindMarks, Arrays, ChangeLeft};
 ghost use Rattle.numbers.specs.Ready.{ChangeReady};
 ghost use Rattle.table_calls.specs.Work.{CanChange};
@@ -26,7 +26,7 @@ fn change(
     requires { ⌜ CanChange kind (network (now starts) (now neighbours) (now weights)) (now points) (now area) (now ids) (now distances) node places ⌝ }
     ensures { λ r.
         let g = network (now (starts .entry)) (now (neighbours .entry)) (now (weights .entry)) in
-        ⌜ table.UpdateLeft g (now (points .entry)) (kindMarks kind (now (points .entry)) node) (now (points .exit)) (now (area .entry)) (now (area .exit)) (now (ids .entry)) (now (distances .entry)) (now (ids .exit)) (now (distances .exit)) places r ⌝ }
+        ⌜ UpdateLeft g (now (points .entry)) (kindMarks kind (now (points .entry)) node) (now (points .exit)) (now (area .entry)) (now (area .exit)) (now (ids .entry)) (now (distances .entry)) (now (ids .exit)) (now (distances .exit)) places r ⌝ }
 {
     match kind {
         Kind::Insert => table::insert::insert(
@@ -70,7 +70,7 @@ fn run(
     requires { ⌜ ChangeReady kind (network (now starts) (now neighbours) (now weights)) (now points) node places (now scratch) (now ids) (now distances) ⌝ }
     ensures { λ r.
         let g = network (now (starts .entry)) (now (neighbours .entry)) (now (weights .entry)) in
-        ⌜ table.UpdateLeft g (now (points .entry)) (kindMarks kind (now (points .entry)) node) (now (points .exit)) (now (scratch .entry)) (now (scratch .exit)) (now (ids .entry)) (now (distances .entry)) (now (ids .exit)) (now (distances .exit)) places r ⌝ }
+        ⌜ UpdateLeft g (now (points .entry)) (kindMarks kind (now (points .entry)) node) (now (points .exit)) (now (scratch .entry)) (now (scratch .exit)) (now (ids .entry)) (now (distances .entry)) (now (ids .exit)) (now (distances .exit)) places r ⌝ }
 {
     let used = 4 * (starts.len() - 1) + 2 * neighbours.len();
     words::zero(scratch);

@@ -1,7 +1,10 @@
 -- `conditions::table_number` meets its contract: each return is what its tests say.
 -- Assumes nothing.
 use Prim.Native.Nat.{ℕ, _*_}
-use mathlib.Core.Path.{sym, ap, _∙_}
+use mathlib.Core.Path.{refl, sym, ap, _∙_}
+use mathlib.Core.Bool.{_||_, not}
+use lib.Dec.{eqb, ltb}
+use Rattle.network.proofs.Tests.{or-left, or-right}
 use native.Mathlib.Nat.{mul-le-mul-right}
 use native.Mathlib.Omega.{arith}
 use borrow.Author.Tests.{eq-eqb, ne-eqb, lt-ltb, le-ltb}
@@ -39,11 +42,9 @@ returns-3 c =
     let e = w .before in
     let s = e .before .before in
     let a = s .args in
-    rw (
-      le-ltb (a .places) 2 (omega (arith, e .before .if1 .left)),
-      le-ltb 17 (a .places) (omega (arith, e .if2 .left)),
-      ne-eqb (a .id-count) (a .n * a .places) (λ q. c .if3 .taken (q ∙ ap (λ (k : ℕ). a .n * k) (sym (w .wide .ensures)))),
-    )
+    let range = ltb (a .places) 2 || ltb 17 (a .places) in
+    let other = ne-eqb (a .id-count) (a .n * a .places) (λ q. c .if3 .taken (q ∙ ap (λ (k : ℕ). a .n * k) (sym (w .wide .ensures)))) in
+    rw (or-left (range || not (eqb (a .id-count) (a .n * a .places))) _ (or-right range _ (ap not other))) refl
 
 returns-4 : tie.Need-returns-4
 unfolding tableNumber
@@ -53,12 +54,9 @@ returns-4 c =
     let e = w .before in
     let s = e .before .before in
     let a = s .args in
-    rw (
-      le-ltb (a .places) 2 (omega (arith, e .before .if1 .left)),
-      le-ltb 17 (a .places) (omega (arith, e .if2 .left)),
-      eq-eqb (a .id-count) (a .n * a .places) (f .if3 .left ∙ ap (λ (k : ℕ). a .n * k) (w .wide .ensures)),
-      ne-eqb (a .distance-count) (a .n * a .places) (λ q. omega (arith, c .if4 .taken, q, ap (λ (k : ℕ). a .n * k) (w .wide .ensures))),
-    )
+    let range = ltb (a .places) 2 || ltb 17 (a .places) in
+    let other = ne-eqb (a .distance-count) (a .n * a .places) (λ q. omega (arith, c .if4 .taken, q, ap (λ (k : ℕ). a .n * k) (w .wide .ensures))) in
+    rw (or-right (range || not (eqb (a .id-count) (a .n * a .places))) _ (ap not other)) refl
 
 returns-5 : tie.Need-returns-5
 unfolding tableNumber

@@ -12,7 +12,7 @@ use Rattle.network.specs.Network.{Network, network, nodeCount, neighboursOf}
 use Rattle.expansion.specs.Area.{Took, Followed}
 use Rattle.expansion.proofs.AreaLaws.{settledAs}
 use Rattle.expansion.proofs.Progress.{took-place, took-fits, took-follow}
-use Rattle.lazy_searches.proofs.Parents.{work, work-settled}
+use Rattle.lazy_searches.proofs.Parents.{searchWork, work-settled}
 use Rattle.lazy_searches.proofs.Lazily.{Lazily, Arriving, lazily-start, parent-inside, node-fits, lazily-dropped, can-discover, discovered, lazily-stopped, lazily-opened, lazily-listed}
 use borrow.Author.Needs.{needs}
 use Rattle.lazy_searches.proofs.lazy.explore.Statement.{statement}
@@ -23,7 +23,7 @@ Inv-loop starts neighbours weights points s₀ b q k n settled₀ len₀ s settl
     (length s ≡ length s₀) × Lazily (network starts neighbours weights) points q k s b settled len
 
 abbrev μ-loop : tie.MeasureT-loop
-μ-loop starts neighbours weights points s₀ b q k n settled₀ len₀ s settled len = work (nodeCount (network starts neighbours weights)) settled len
+μ-loop starts neighbours weights points s₀ b q k n settled₀ len₀ s settled len = searchWork (nodeCount (network starts neighbours weights)) settled len
 
 -- the places: where the loop begins, the entry that was taken, its node and the node that put it in looked up, its node verified, and settled
 abbrev start-of : tie.At-loop Inv-loop μ-loop → tie.Start Inv-loop μ-loop

@@ -11,7 +11,7 @@ use Rattle.network.specs.Network.{Network, network, nodeCount, neighboursOf}
 use Rattle.expansion.specs.Area.{Took, Followed}
 use Rattle.expansion.proofs.AreaLaws.{settledAs}
 use Rattle.expansion.proofs.Progress.{took-place, took-fits, took-follow}
-use Rattle.lazy_searches.proofs.Parents.{work, work-settled}
+use Rattle.lazy_searches.proofs.Parents.{searchWork, work-settled}
 use Rattle.lazy_searches.proofs.LazyEpLaws.{Extending, Coming, extending-start, can-advance, advanced-size, can-take-back, extending-dropped, fits-on, can-discover, coming, come-size, can-close, kept-settled, extending-stopped, extending-opened, extended-listed}
 use borrow.Author.Needs.{needs}
 use Rattle.lazy_searches.proofs.lazy_ep.settle_found.Statement.{statement}
@@ -22,7 +22,7 @@ Inv-loop starts neighbours weights points s₀ inner outer q k n settled₀ len�
     (length s ≡ length s₀) × Extending (network starts neighbours weights) points q k s inner outer settled len waiting
 
 abbrev μ-loop : tie.MeasureT-loop
-μ-loop starts neighbours weights points s₀ inner outer q k n settled₀ len₀ waiting₀ s settled len waiting = work (nodeCount (network starts neighbours weights)) settled len
+μ-loop starts neighbours weights points s₀ inner outer q k n settled₀ len₀ waiting₀ s settled len waiting = searchWork (nodeCount (network starts neighbours weights)) settled len
 
 -- the loop's state at a place: where the function and its loop began, the entry that was taken, the second expansion gone on, the node come to, and
 -- settled

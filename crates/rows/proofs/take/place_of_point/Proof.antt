@@ -15,37 +15,29 @@ Inv-loop ids p at₀ at = (at ≤ length ids) × ((j : _) → j < at → getD id
 abbrev μ-loop : tie.MeasureT-loop
 μ-loop ids p at₀ at = length ids - at
 
--- src/take.rt:13:5
 loop-holds : tie.Need-loop-holds Inv-loop μ-loop
 loop-holds c = (omega arith, λ j h. absurd (omega arith))
 
--- src/take.rt:14:17
 mul-q : tie.Need-mul-q Inv-loop μ-loop
 mul-q c = search needs
 
--- src/take.rt:14:17
 shared-slice-read-q : tie.Need-shared-slice-read-q Inv-loop μ-loop
 shared-slice-read-q c = search needs
 
--- src/take.rt:16:13
 returns : tie.Need-returns Inv-loop μ-loop
 returns c = let l = c .before .before .before .loop in record { most = l .inv .0; before = l .inv .1; here = λ h. c .if1 .taken }
 
--- src/take.rt:18:9
 add-at : tie.Need-add-at Inv-loop μ-loop
 add-at c = search needs
 
--- src/take.rt:13:5
 loop-less : tie.Need-loop-less Inv-loop μ-loop
 loop-less c = search needs
 
--- src/take.rt:13:5
 loop-again : tie.Need-loop-again Inv-loop μ-loop
 loop-again c =
     let l = c .before .before .before in
     (omega arith, point-more (l .before .args .ids .now) (l .before .args .p) (l .loop .at) (l .loop .inv .1) (c .if1 .left))
 
--- src/take.rt:9:1
 returns-2 : tie.Need-returns-2 Inv-loop μ-loop
 returns-2 c = let l = c .before .loop in record { most = l .inv .0; before = l .inv .1; here = λ h. absurd (omega arith) }
 

@@ -12,43 +12,33 @@ Inv-loop row₀ place held₀ at₀ row held at = Shifting row₀ row place at h
 abbrev μ-loop : tie.MeasureT-loop
 μ-loop row₀ place held₀ at₀ row held at = at
 
--- src/take.rt:30:5
 loop-holds : tie.Need-loop-holds Inv-loop μ-loop
 loop-holds c = shift-none (c .args .row .now) (c .args .place) (c .pre)
 
--- src/take.rt:31:9
 sub-at : tie.Need-sub-at Inv-loop μ-loop
 sub-at c = search needs
 
--- src/take.rt:32:17
 mul-x : tie.Need-mul-x Inv-loop μ-loop
 mul-x c = search needs
 
--- src/take.rt:32:17
 slice-read-x : tie.Need-slice-read-x Inv-loop μ-loop
 slice-read-x c = let l = c .before .before .loop .inv in omega (arith, l .size, l .high)
 
--- src/take.rt:33:9
 mul-row : tie.Need-mul-row Inv-loop μ-loop
 mul-row c = search needs
 
--- src/take.rt:33:9
 slice-write-row : tie.Need-slice-write-row Inv-loop μ-loop
 slice-write-row c = let l = c .before .before .loop .inv in omega (arith, l .size, l .high)
 
--- src/take.rt:30:5
 loop-less : tie.Need-loop-less Inv-loop μ-loop
 loop-less c = search needs
 
--- src/take.rt:30:5
 loop-again : tie.Need-loop-again Inv-loop μ-loop
 loop-again c = shift-more (c .before .before .loop .inv) (c .before .loop-test .taken)
 
--- src/take.rt:24:1
 same-length : tie.Need-same-length Inv-loop μ-loop
 same-length c = c .before .loop .inv .size
 
--- src/take.rt:24:1
 returns : tie.Need-returns Inv-loop μ-loop
 returns c = shift-all (c .before .loop .inv) (omega arith)
 

@@ -4,61 +4,46 @@ use Rattle.rows.proofs.RowLends.{taken-out-of-row}
 use borrow.Author.Needs.{needs}
 use Rattle.rows.proofs.take.take_out_of_row.Statement.{statement}
 use Rattle.rows.proofs.take.take_out_of_row.Tie as tie
-use Rattle.rows.proofs.take.take_out.Reads as take-out-reads
 
--- src/take.rt:60:13
 mul-a : tie.Need-mul-a
 mul-a c = search needs
 
--- src/take.rt:61:13
 add-e : tie.Need-add-e
 add-e c = search needs
 
--- src/take.rt:62:14
 mul-take-out : tie.Need-mul-take-out
 mul-take-out c = search needs
 
--- src/take.rt:62:14
 sub-take-out : tie.Need-sub-take-out
 sub-take-out c = search needs
 
--- src/take.rt:62:14
 part-take-out-start : tie.Need-part-take-out-start
 part-take-out-start c = search needs
 
--- src/take.rt:62:14
 part-take-out-end : tie.Need-part-take-out-end
 part-take-out-end c = search needs
 
--- src/take.rt:62:30
 mul-take-out-2 : tie.Need-mul-take-out-2
 mul-take-out-2 c = search needs
 
--- src/take.rt:62:30
 sub-take-out-2 : tie.Need-sub-take-out-2
 sub-take-out-2 c = search needs
 
--- src/take.rt:62:30
 part-take-out-start-2 : tie.Need-part-take-out-start-2
 part-take-out-start-2 c = search needs
 
--- src/take.rt:62:30
 part-take-out-end-2 : tie.Need-part-take-out-end-2
 part-take-out-end-2 c = search needs
 
--- src/take.rt:62:5
 take-out-requires : tie.Need-take-out-requires
 take-out-requires c κs = search needs
 
--- src/take.rt:50:1
 same-length : tie.Need-same-length
 same-length c = search needs
 
--- src/take.rt:50:1
 same-length-2 : tie.Need-same-length-2
 same-length-2 c = search needs
 
--- src/take.rt:50:1
 returns : tie.Need-returns
 returns c =
     let t = c .before .before .before .before in

@@ -9,14 +9,14 @@ use lib.ListN.{getD}
 use borrow.Author.Tests.{eq-eqb, ne-eqb}
 use native.Mathlib.Omega.{arith}
 use Rattle.searches.specs.Eager.{isFound}
-use Rattle.searches.proofs.Selected.{Written, written-none, written-more, written-skip, written-all}
+use Rattle.searches.proofs.Selected.{WrittenList, written-none, written-more, written-skip, written-all}
 use borrow.Author.Needs.{needs}
 use Rattle.searches.proofs.flags.write_found.Statement.{statement}
 use Rattle.searches.proofs.flags.write_found.Tie as tie
 
 abbrev Inv-loop : tie.InvT-loop
 Inv-loop s answers₀ b n len₀ p₀ at₀ answers len p at =
-    (at ≤ n) × (p ≡ at) × Written (isFound b s) at answers₀ answers len
+    (at ≤ n) × (p ≡ at) × WrittenList (isFound b s) at answers₀ answers len
 
 abbrev μ-loop : tie.MeasureT-loop
 μ-loop s answers₀ b n len₀ p₀ at₀ answers len p at = n - at

@@ -13,19 +13,19 @@ use Rattle.table.proofs.build.empty.Statement.{statement}
 use Rattle.table.proofs.build.empty.Tie as tie
 
 abbrev Inv-loop : tie.InvT-loop
-Inv-loop places₀ i₀ places i = (i ≤ length places₀) × (length places ≡ length places₀) × (places ≡ replicate i NONE ++ drop i places₀)
+Inv-loop entries₀ i₀ entries i = (i ≤ length entries₀) × (length entries ≡ length entries₀) × (entries ≡ replicate i NONE ++ drop i entries₀)
 
 abbrev μ-loop : tie.MeasureT-loop
-μ-loop places₀ i₀ places i = length places - i
+μ-loop entries₀ i₀ entries i = length entries - i
 
 loop-holds : tie.Need-loop-holds Inv-loop μ-loop
 loop-holds c = (search needs, refl, refl)
 
-mul-places : tie.Need-mul-places Inv-loop μ-loop
-mul-places c = search needs
+mul-entries : tie.Need-mul-entries Inv-loop μ-loop
+mul-entries c = search needs
 
-slice-write-places : tie.Need-slice-write-places Inv-loop μ-loop
-slice-write-places c = search needs
+slice-write-entries : tie.Need-slice-write-entries Inv-loop μ-loop
+slice-write-entries c = search needs
 
 add-i : tie.Need-add-i Inv-loop μ-loop
 add-i c = search needs
@@ -36,7 +36,7 @@ loop-less c = simp length-set (omega arith)
 loop-again : tie.Need-loop-again Inv-loop μ-loop
 loop-again c =
     let l = c .before .loop in
-    (omega arith, simp length-set (l .inv .1), rw (l .inv .2) (fill-more (l .i) NONE (c .before .before .args .places .now) (omega arith)))
+    (omega arith, simp length-set (l .inv .1), rw (l .inv .2) (fill-more (l .i) NONE (c .before .before .args .entries .now) (omega arith)))
 
 same-length : tie.Need-same-length Inv-loop μ-loop
 same-length c = search needs
@@ -44,7 +44,7 @@ same-length c = search needs
 returns : tie.Need-returns Inv-loop μ-loop
 returns c =
     let l = c .before .loop in
-    let s = c .before .before .args .places .now in
+    let s = c .before .before .args .entries .now in
     let e : l .i ≡ length s = omega arith in
     l .inv .2 ∙ rw (e, drop-length, append-nil)
 
@@ -55,8 +55,8 @@ empty-spec =
     Inv-loop
     μ-loop
     loop-holds
-    mul-places
-    slice-write-places
+    mul-entries
+    slice-write-entries
     add-i
     loop-less
     loop-again

@@ -7,7 +7,7 @@ use native.Mathlib.Omega.{arith}
 use Rattle.network.specs.Network.{network}
 use Rattle.expansion.specs.Queue.{keyOf}
 use Rattle.table.specs.Offer.{offerOf}
-use Rattle.table.proofs.RemoveFilling.{Filling, work, filling-start, filling-end, filling-can, filling-offer, filling-taken, taken-work, filling-skipped, skipped-falls}
+use Rattle.table.proofs.RemoveFilling.{Filling, fillWork, filling-start, filling-end, filling-can, filling-offer, filling-taken, taken-work, filling-skipped, skipped-falls}
 use borrow.Author.Needs.{needs}
 use Rattle.table.proofs.remove.fill.Statement.{statement}
 use Rattle.table.proofs.remove.fill.Tie as tie
@@ -16,7 +16,7 @@ abbrev Inv-loop : tie.InvT-loop
 Inv-loop starts neighbours weights points s₀ len ids₀ distances₀ places n left₀ s ids distances left = Filling (network starts neighbours weights) points places s₀ ids₀ distances₀ len s ids distances left
 
 abbrev μ-loop : tie.MeasureT-loop
-μ-loop starts neighbours weights points s₀ len ids₀ distances₀ places n left₀ s ids distances left = work (network starts neighbours weights) s left
+μ-loop starts neighbours weights points s₀ len ids₀ distances₀ places n left₀ s ids distances left = fillWork (network starts neighbours weights) s left
 
 abbrev start : tie.After-wide Inv-loop μ-loop → tie.Start Inv-loop μ-loop
 start c = c .before .before .before .before .before .before .before .before .before .before .before .before .before .before .before .before

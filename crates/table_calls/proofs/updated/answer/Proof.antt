@@ -72,7 +72,7 @@ returns-2 c =
           λ _.
           record {
             changed = r .run .result;
-            answered = refl;
+            answered-so = refl;
             done =
                 record {
                   marks = d .marks;
