@@ -1,5 +1,5 @@
 -- The area of an expansion: seats n | settled nodes n | node queue 2 n, from word b of a lent slice on: 4 n words. What the steps of an expansion
--- require and leave. The seat of node v is 0 while v was not met, i + 1 while it waits as entry i, n + 1 + l once it is settled at label l. Settled
+-- require and leave. The seat of node v is 0 while v neither waits nor is settled, i + 1 while it waits as entry i, n + 1 + l once it is settled at label l. Settled
 -- nodes: in the order in which they were settled.
 -- (No sentence of document 01: the answers of the expansions are network's definitions.)
 -- Assumes nothing.

@@ -1,6 +1,6 @@
 -- The node queue: the queue of Queue.antt, from the word `at` of a list on, in which every node stands at most once, so that n entries are enough.
 -- The word b + v, before the queue, is the seat of node v: i + 1 while v waits as entry i, which is below n; 0, or a word above n, while v doesn't
--- wait (0: it was not met; n + 1 + l: it is settled at label l).
+-- wait (0: it is not settled either; n + 1 + l: it is settled at label l).
 -- Assumes nothing.
 use Prim.Native.Nat.{ℕ, zero, suc, _+_, _-_, _*_, _≤_, _<_}
 use mathlib.Core.Path.{_≡_}
