@@ -1,2 +1,2 @@
--- The proofs of the exported calls, each in the folder of its name. Demands 2 and 3, about the records that these calls ensure, stand in the crate
--- `demands`.
+-- The proofs of the exported calls, each in the folder of its name. Demand 2 and demand 3, about the records that these calls ensure, stand in the
+-- crate `demands`.
