@@ -203,19 +203,12 @@ module _ {n : ℕ} {xs ys : List ℕ} {b settled len : ℕ} (a : Area n xs b set
         counted = rw (count-same (unsettled n xs b) (unsettled n ys b) n unsettled-same) (a .counted);
       }
 
--- the source waits alone
-module _ {n : ℕ} {xs ys : List ℕ} {b source : ℕ} (blank : Blank xs b) (room : queueBase n b + 2 * n ≤ length xs) (few : n ≤ 65535) (h : source < n)
-    (p : PushedNode n xs ys b (queueBase n b) 0 (keyOf 0 (tagOf source source))) where
+-- nothing waits, and no node is settled
+module _ {n : ℕ} {xs : List ℕ} {b : ℕ} (blank : Blank xs b) (room : queueBase n b + 2 * n ≤ length xs) (few : n ≤ 65535) where
   none : (v : ℕ) → getD xs (b + v) 0 ≡ 0
   none v = blank .zero (b + v) (omega arith)
 
-  pub started-moved : Moved n xs ys b
-  started-moved =
-      moved (node-blank blank room few) (p .queue) (p .frame) (λ k x. inl (p .holds k .1 (inl x)))
-      (λ l. held-low (p .queue) (keyOf 0 (tagOf source source)) (p .holds (keyOf 0 (tagOf source source)) .1 (inr refl)))
-      (λ l. absurd (omega (arith, none (nodeOf (keyOf 0 (tagOf source source))))))
-
-  area-blank : Area n xs b 0 0
+  pub area-blank : Area n xs b 0 0
   area-blank =
       record {
         queue = node-blank blank room few;
@@ -227,19 +220,38 @@ module _ {n : ℕ} {xs ys : List ℕ} {b source : ℕ} (blank : Blank xs b) (roo
         counted = omega (arith, count-same (λ _. true) (unsettled n xs b) n (λ v l. le-leb (getD xs (b + v) 0) n (omega (arith, none v))), count-all n);
       }
 
-  pub area-start : Area n ys b 0 1
-  area-start =
-      area-moved area-blank started-moved (p .queue)
+pub key-own : (l v u : ℕ) → v < 65536 → u < 65536 → nodeOf (keyOf l (tagOf v u)) ≡ v
+key-own l v u h k = omega arith
+
+-- a source more waits
+module _ {n : ℕ} {xs ys : List ℕ} {b len source : ℕ} (a : Area n xs b 0 len) (h : source < n) (new : getD xs (b + source) 0 ≡ 0)
+    (p : PushedNode n xs ys b (queueBase n b) len (keyOf 0 (tagOf source source))) where
+  own : nodeOf (keyOf 0 (tagOf source source)) ≡ source
+  own = let low : source < 65536 = omega (arith, a .queue .few) in key-own 0 source source low low
+
+  pub pushed-moved : Moved n xs ys b
+  pushed-moved =
+      moved (a .queue) (p .queue) (p .frame) (λ k x. inl (p .holds k .1 (inl x)))
+      (λ l. held-low (p .queue) (keyOf 0 (tagOf source source)) (p .holds (keyOf 0 (tagOf source source)) .1 (inr refl)))
+      (λ l. absurd (omega (arith, ap (λ (x : ℕ). getD xs (b + x) 0) own)))
+
+  pub area-pushed : Area n ys b 0 (len + 1)
+  area-pushed =
+      area-moved a pushed-moved (p .queue)
       (λ k e.
-      record {
-        label = 0;
-        node = source;
-        parent = source;
-        is = ⊎-elim (λ x. absurd (omega (arith, x .inside))) (λ x. x) (p .holds k .0 e);
-        inside = h;
-        from = h;
-        low = omega arith;
-      })
+      ⊎-elim
+      (λ x. a .entries k x)
+      (λ x. record { label = 0; node = source; parent = source; is = x; inside = h; from = h; low = omega arith })
+      (p .holds k .0 e))
+
+-- the source waits alone
+module _ {n : ℕ} {xs ys : List ℕ} {b source : ℕ} (blank : Blank xs b) (room : queueBase n b + 2 * n ≤ length xs) (few : n ≤ 65535) (h : source < n)
+    (p : PushedNode n xs ys b (queueBase n b) 0 (keyOf 0 (tagOf source source))) where
+  pub started-moved : Moved n xs ys b
+  started-moved = pushed-moved (area-blank blank room few) h (blank .zero (b + source) (omega arith)) p
+
+  pub area-start : Area n ys b 0 1
+  area-start = area-pushed (area-blank blank room few) h (blank .zero (b + source) (omega arith)) p
 
 -- v is settled at label l: its seat, and its place behind the others
 abbrev pub settledAs : ℕ → List ℕ → ℕ → ℕ → ℕ → ℕ → List ℕ

@@ -57,31 +57,6 @@ label-known n xs b v l h e some =
           record { inside = h; is = omega (arith, m, s) }
     ]
 
--- nothing waits: all is settled
-pub progress-done : {g : Network} (ok : Accepted g) {s : ℕ} {xs ys : List ℕ} {b settled len : ℕ} → Progress g (one g s) All All ys b settled len → len ≡ 0 → Kept xs ys b → SettledAll g xs ys b s settled
-progress-done {g} ok {s} {xs} {ys} {b} {settled} {len} p z frame =
-    record {
-      frame = frame;
-      area = rw z at (p .area);
-      labels =
-          λ v h.
-          elim (ℕ-discrete (dist g s v) NONE) [
-            | yes e ↦ none v h e (getD ys (b + v) 0) refl ∙ sym (label-none (nodeCount g) (dist g s v) e)
-            | no n ↦
-                search-finished ok (p .area) (p .searched) z (all-leads ok s) v tt n .is ∙ sym (label-some (nodeCount g) (dist g s v) n)
-          ];
-    }
-  where
-    none : (v : ℕ) → v < nodeCount g → dist g s v ≡ NONE → (w : ℕ) → getD ys (b + v) 0 ≡ w → getD ys (b + v) 0 ≡ 0
-    none v h e zero q = q
-    none v h e (suc i) q =
-        elim (decLe (suc i) (nodeCount g)) [
-          | yes k ↦ absurd (omega (arith, p .area .queue .waits v i h q (omega arith) .0))
-          | no k ↦
-              let d = word-label {n = nodeCount g} {xs = ys} b v h (omega arith) in
-              absurd (dist-walk ok (p .searched .settled-walk v (d .0) (d .1)) .some e)
-        ]
-
 -- the answers that the seats stand for, and the blank area
 pub settled-distances : {g : Network} {source settled : ℕ} {xs ys : List ℕ} → SettledAll g xs ys 0 source settled
     → tabulate (λ v. wordDistance (nodeCount g) (getD ys v 0)) (nodeCount g) ≡ distancesFrom g source

@@ -1,14 +1,15 @@
--- What an expansion requires, and what the expansion of everything leaves.
+-- What an expansion requires, and what the expansion of everything leaves, from one node or from several together.
 -- Assumes nothing.
-use Prim.Native.Nat.{ℕ, suc, _+_, _-_, _*_, _≤_, _<_}
+use Prim.Native.Nat.{ℕ, suc, _+_, _-_, _*_, _≤_, _<_, min}
 use mathlib.Core.Path.{_≡_}
-use mathlib.Core.Bool.{cond}
-use mathlib.Core.List.{List}
+use mathlib.Core.Bool.{Bool, cond, not}
+use mathlib.Core.List.{List, [], _∷_}
 use lib.Dec.{eqb, leb}
 use lib.ListN.{length, getD}
 use Rattle.network.specs.Network.{Network, nodeCount}
 use Rattle.network.specs.Accepted.{Accepted}
 use Rattle.network.specs.Distance.{NONE, dist}
+use Rattle.network.specs.Count.{select}
 use Rattle.expansion.specs.Area.{queueBase, Area, Kept, Blank}
 
 -- an accepted network, a node to start from, and a blank area from word b on: 4 n words
@@ -37,3 +38,28 @@ pub record SettledAll (g : Network) (xs ys : List ℕ) (b source settled : ℕ) 
   pub frame : Kept xs ys b
   pub area : Area (nodeCount g) ys b settled 0
   pub labels : (v : ℕ) → v < nodeCount g → getD ys (b + v) 0 ≡ labelWord (nodeCount g) (dist g source v)
+
+-- ---- From several nodes together.
+
+-- the distance of the node of a list that is nearest to v, NONE where none can be reached
+unfoldable pub distFrom : Network → List ℕ → ℕ → ℕ
+distFrom g [] v = NONE
+distFrom g (s ∷ ss) v = min (dist g s v) (distFrom g ss v)
+
+-- the nodes that wait, where none is settled
+abbrev pub isWaiting : List ℕ → ℕ → ℕ → Bool
+isWaiting xs b v = not (eqb (getD xs (b + v) 0) 0)
+
+unfoldable pub nodesWaiting : ℕ → List ℕ → ℕ → List ℕ
+nodesWaiting n xs b = select (isWaiting xs b) n
+
+-- an accepted network, and an area in which no node is settled: what waits there waits at label 0
+pub record CanSettleFrom (g : Network) (xs : List ℕ) (b len : ℕ) : Type 0 where
+  pub accepted : Accepted g
+  pub area : Area (nodeCount g) xs b 0 len
+
+-- every node that one of those reaches is settled at the distance of the nearest, and no entry waits
+pub record SettledFrom (g : Network) (xs ys : List ℕ) (b settled : ℕ) : Type 0 where
+  pub frame : Kept xs ys b
+  pub area : Area (nodeCount g) ys b settled 0
+  pub labels : (v : ℕ) → v < nodeCount g → getD ys (b + v) 0 ≡ labelWord (nodeCount g) (distFrom g (nodesWaiting (nodeCount g) xs b) v)

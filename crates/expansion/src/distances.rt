@@ -5,28 +5,27 @@ ghost use lib.ListN.{length, getD};
 ghost use Rattle.network.specs.Network.{network};
 ghost use Rattle.network.specs.Count.{tabulate};
 ghost use Rattle.network.specs.Answers.{answered};
-ghost use Rattle.expansion.specs.Expand.{CanExpand, SettledAll, wordDistance};
+ghost use Rattle.expansion.specs.Expand.{CanExpand, SettledAll, CanSettleFrom, SettledFrom, wordDistance};
 ghost use Rattle.expansion.specs.Distances.{DistancesLeft};
 use crate::labels;
 use crate::step;
 use crate::step::Taken;
 
-// Settles every node that can be reached from the source, each with its distance. Returns how many.
-pub fn settle_all(
+// Settles every node that those who wait can reach, each with the distance of the nearest. Returns how many.
+pub fn settle_waiting(
     starts: &[u32],
     neighbours: &[u32],
     weights: &[u32],
     s: &mut [u32],
     b: usize,
-    source: u32,
+    first: usize,
 ) -> usize
-    requires { ⌜ CanExpand (network (now starts) (now neighbours) (now weights)) (now s) b source ⌝ }
-    ensures { λ r. ⌜ SettledAll (network (now (starts .entry)) (now (neighbours .entry)) (now (weights .entry))) (now (s .entry)) (now (s .exit)) b source r ⌝ }
+    requires { ⌜ CanSettleFrom (network (now starts) (now neighbours) (now weights)) (now s) b first ⌝ }
+    ensures { λ r. ⌜ SettledFrom (network (now (starts .entry)) (now (neighbours .entry)) (now (weights .entry))) (now (s .entry)) (now (s .exit)) b r ⌝ }
 {
     let n = starts.len() - 1;
-    step::start(s, b, n, source);
     let mut settled = 0;
-    let mut len = 1;
+    let mut len = first;
     loop {
         let taken = step::next(s, b, n, len);
         let Taken::Node {
@@ -42,6 +41,23 @@ pub fn settle_all(
         settled += 1;
         len = step::open(starts, neighbours, weights, s, b, left, node, label);
     }
+}
+
+// Settles every node that can be reached from the source, each with its distance. Returns how many.
+fn settle_all(
+    starts: &[u32],
+    neighbours: &[u32],
+    weights: &[u32],
+    s: &mut [u32],
+    b: usize,
+    source: u32,
+) -> usize
+    requires { ⌜ CanExpand (network (now starts) (now neighbours) (now weights)) (now s) b source ⌝ }
+    ensures { λ r. ⌜ SettledAll (network (now (starts .entry)) (now (neighbours .entry)) (now (weights .entry))) (now (s .entry)) (now (s .exit)) b source r ⌝ }
+{
+    let n = starts.len() - 1;
+    step::start(s, b, n, source);
+    settle_waiting(starts, neighbours, weights, s, b, 1)
 }
 
 // Writes the distances that n seats stand for.

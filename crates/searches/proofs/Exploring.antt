@@ -23,26 +23,27 @@ use Rattle.network.proofs.Tests.{bool-cases}
 use Rattle.network.proofs.Counts.{count-few}
 use Rattle.network.proofs.Lends.{first-part}
 use Rattle.network.proofs.Rank.{Near}
-use Rattle.network.proofs.Rows.{nearest-length, near-listed}
+use Rattle.network.proofs.Rows.{near-listed}
 use Rattle.network.proofs.Visits.{visitPairs, visits-size, visits-at, visits-count, counted-lockers, nearer-counted}
 use Rattle.expansion.specs.Queue.{keyOf}
 use Rattle.expansion.specs.Tags.{tagOf}
-use Rattle.expansion.specs.Area.{queueBase, LabelAt, Area, Moved, Took, Followed}
+use Rattle.expansion.specs.Area.{queueBase, LabelAt, Moved, Took, Followed}
 use Rattle.expansion.specs.NodeQueue.{PushedNode}
 use Rattle.expansion.specs.Expand.{CanExpand}
 use Rattle.expansion.proofs.Origins.{one}
 use Rattle.expansion.proofs.Search.{Leads}
-use Rattle.expansion.proofs.AreaLaws.{moved-same, settledAs, frame-settle}
-use Rattle.expansion.proofs.AreaSearch.{label-back, took-area, took-word, took-moved, took-exact, took-held, search-finished, settle-marks}
+use Rattle.expansion.proofs.AreaLaws.{moved-same, settledAs}
+use Rattle.expansion.proofs.AreaSearch.{took-exact, search-finished}
 use Rattle.expansion.proofs.Progress.{Progress, progress-begun, progress-start, progress-settled, took-small}
 use Rattle.expansion.proofs.Beside.{Beside, beside-first, beside-label-at, progress-beside}
 use Rattle.expansion.proofs.Stopping.{progress-stopped, took-beside}
 use Rattle.expansion.proofs.Turns.{InTurn, turn-start, turn-beside, turn-all, turn-fits, turn-next, turn-other, turn-point}
 use Rattle.searches.specs.Flags.{flagsEnd, idsBase, Flags, CanLook, Looked}
 use Rattle.searches.specs.Eager.{CanExploreEager, isFound, VisitsKept}
-use Rattle.searches.proofs.Beaten.{Beaten, Unbeaten, stops, goes-on, expanded-unbeaten}
+use Rattle.searches.proofs.Beaten.{Beaten, Unbeaten, expanded-unbeaten}
 use Rattle.searches.proofs.Finds.{Met, met-leads}
-use Rattle.searches.proofs.Answers.{listed-flagged, come-expanded}
+use Rattle.searches.proofs.Answers.{listed-flagged}
+use Rattle.searches.proofs.Tells.{tells-expanded, tells-beaten, front-kept, labels-then}
 use Rattle.searches.proofs.FlagLaws.{no-flags, flag-right}
 use Rattle.searches.proofs.LookLaws.{flags-same}
 
@@ -188,17 +189,11 @@ module _ {g : Network} {P : List ℕ} {q k b : ℕ} {s₀ : List ℕ} (c : CanEx
       looked-told p near a = rw (flag p (near .nearer .inside)) (seen .told p (dist g v p) (near-listed ok P v l k p near) a)
 
     -- ---- The node is settled. r points were found from it.
-    -- fewer than k: the node is expanded; k: it is beaten
     pub few-expanded : {r : ℕ} → r ≡ length (nearest g P v l k) → r < k → isExpanded g P q k v ≡ true
-    few-expanded n h =
-        let walk = e .progress .searched .held-walk v l (took-held ok (e .progress .area) (e .progress .searched) t) in
-        come-expanded ok P q k v walk (goes-on ok P q k v l walk (omega (arith, nearest-length g P v l k)))
+    few-expanded = tells-expanded ok (e .progress) t P k
 
     pub many-beaten : {r : ℕ} → r ≡ length (nearest g P v l k) → k ≤ r → Beaten g P q k v
-    many-beaten n h =
-        stops ok P q k v l
-        (λ o. took-exact ok (e .progress .area) (e .progress .searched) t leads (inl o))
-        (omega (arith, nearest-length g P v l k))
+    many-beaten = tells-beaten ok (e .progress) t P k leads (λ o. inl o)
 
     -- a counted node is the next of the visits
     module _ (h : isExpanded g P q k v ≡ true) where
@@ -234,14 +229,8 @@ module _ {g : Network} {P : List ℕ} {q k b : ℕ} {s₀ : List ℕ} (c : CanEx
 
     -- ws is the area in which the node is settled, and perhaps its arcs are followed
     module _ {ws : List ℕ} (same : Moved (nodeCount g) (settledAs (nodeCount g) ys b settled v l) ws b) where
-      area : Area (nodeCount g) ys b settled left
-      area = took-area ok (e .progress .area) (e .progress .searched) t
-
-      new : getD ys (b + v) 0 ≡ 0
-      new = took-word ok (e .progress .area) (e .progress .searched) t
-
       front : (i : ℕ) → i < b → getD ws i 0 ≡ getD xs i 0
-      front i h = same .before i h ∙ frame-settle area v l (t .inside) new .words i h ∙ t .popped .frame .before i h
+      front = front-kept ok (e .progress) t same
 
       pub visited-kept : VisitsKept g P q k xs count → VisitsKept g P q k ws count
       visited-kept w i h = let c = few-counted e in front (flagsEnd g + i) (omega (arith, low)) ∙ w i h
@@ -252,9 +241,9 @@ module _ {g : Network} {P : List ℕ} {q k b : ℕ} {s₀ : List ℕ} (c : CanEx
         told-next x m p h near a =
             rw (front (nodeCount g + p) (omega (arith, low, near .nearer .inside)))
             (⊎-elim
-            (λ o. e .told x m p (label-back (took-moved ok (e .progress .area) (e .progress .searched) t) x m o) near a)
+            (λ o. e .told x m p o near a)
             (λ s. told p (rw (s .0, s .1) at near) a)
-            (settle-marks ok area l (t .inside) new same .old x m h))
+            (labels-then ok (e .progress) t same x m h))
 
         next : {more now : ℕ} → Progress g (one g q) (Unbeaten g P q k) (Met g P q k) ws b (settled + 1) more
             → CountedInTurn g P q k ws b now → now ≤ limit → Exploring g P q k limit ws b (settled + 1) more now

@@ -1,6 +1,6 @@
--- The words when those before the found nodes and the outer area are cleared.
+-- The words when the first of them and the outer area are cleared.
 -- Assumes nothing.
-use Prim.Native.Nat.{ℕ, _*_, _≤_}
+use Prim.Native.Nat.{ℕ, _*_, _≤_, _<_}
 use mathlib.Core.Path.{_≡_, ap, _∙_}
 use mathlib.Core.List.{List, _++_}
 use native.Mathlib.Decide.{decLt}
@@ -12,6 +12,31 @@ use Rattle.expansion.proofs.Settled.{zero-blank}
 use Rattle.searches.specs.Eager.{CanWipe}
 use Rattle.network.proofs.Lends.{first-size, first-part, first-after}
 
+-- the first e words are cleared, those up to b are 0 already, and the area from b on is blank
+pub wiped-front : {xs ys zs : List ℕ} (e b : ℕ) → e ≤ length ys → ((j : ℕ) → e ≤ j → j < b → getD xs j 0 ≡ 0) → Wiped xs ys b
+    → zs ≡ replicate (length (take e ys)) 0 → Wiped xs (zs ++ drop e ys) 0
+wiped-front {xs} {ys} {zs} e b fits blank w is =
+    record {
+      frame = record { size = first-size e ys zs fits same ∙ w .frame .size; words = λ i h. absurd (omega arith) };
+      blank = record { zero = λ j h. word j };
+    }
+  where
+    same : length zs ≡ length (take e ys)
+    same = ap length is ∙ length-replicate (length (take e ys)) 0
+
+    word : (j : ℕ) → getD (zs ++ drop e ys) j 0 ≡ 0
+    word j =
+        elim (decLt j e) [
+          | yes h ↦ first-part e ys zs fits same j h ∙ zero-blank (length (take e ys)) 0 is .zero j (omega arith)
+          | no h ↦
+              first-after e ys zs fits same j (omega arith)
+              ∙ elim (decLt j b) [
+                | yes l ↦ w .frame .words j l ∙ blank j (omega arith) l
+                | no l ↦ w .blank .zero j (omega arith)
+              ]
+        ]
+
+-- eager's: the words before the found nodes
 module _ {n : ℕ} {xs ys : List ℕ} {b settled len : ℕ} (c : CanWipe n xs b settled len) (w : Wiped xs ys b) where
   pub flags-fit : 3 * n ≤ length ys
   flags-fit = omega (arith, c .low, c .area .queue .room, w .frame .size)
@@ -20,23 +45,4 @@ module _ {n : ℕ} {xs ys : List ℕ} {b settled len : ℕ} (c : CanWipe n xs b 
   flags-length = length-take-le (3 * n) ys flags-fit
 
   pub wiped-all : {zs : List ℕ} → zs ≡ replicate (length (take (3 * n) ys)) 0 → Wiped xs (zs ++ drop (3 * n) ys) 0
-  wiped-all {zs} e =
-      record {
-        frame = record { size = first-size (3 * n) ys zs flags-fit same ∙ w .frame .size; words = λ i h. absurd (omega arith) };
-        blank = record { zero = λ j h. word j };
-      }
-    where
-      same : length zs ≡ length (take (3 * n) ys)
-      same = ap length e ∙ length-replicate (length (take (3 * n) ys)) 0
-
-      word : (j : ℕ) → getD (zs ++ drop (3 * n) ys) j 0 ≡ 0
-      word j =
-          elim (decLt j (3 * n)) [
-            | yes h ↦ first-part (3 * n) ys zs flags-fit same j h ∙ zero-blank (length (take (3 * n) ys)) 0 e .zero j (omega arith)
-            | no h ↦
-                first-after (3 * n) ys zs flags-fit same j (omega arith)
-                ∙ elim (decLt j b) [
-                  | yes l ↦ w .frame .words j l ∙ c .blank j (omega arith) l
-                  | no l ↦ w .blank .zero j (omega arith)
-                ]
-          ]
+  wiped-all = wiped-front (3 * n) b flags-fit (c .blank) w
