@@ -22,5 +22,6 @@ pub mod Rank
 pub mod Rows
 pub mod Visits
 pub mod OwnLockers
+pub mod Households
 pub mod Prefix
 pub mod Cases

@@ -62,6 +62,10 @@ isExpanded g P q k m =
 unfoldable pub expanded : Network → List ℕ → ℕ → ℕ → ℕ
 expanded g P q k = count (isExpanded g P q k) (nodeCount g)
 
+-- 'The short query: no k and no limit; eager with k = 1 and limit 65,535': its k, by name
+abbrev pub shortK : ℕ
+shortK = 1
+
 -- 12: 'eager: the expanded count would exceed the limit'
 unfoldable pub exceedsLimit : Network → List ℕ → ℕ → ℕ → ℕ → Bool
 exceedsLimit g P q k limit = ltb limit (expanded g P q k)
