@@ -5,7 +5,7 @@ use mathlib.Core.Path.{_≡_}
 use mathlib.Core.Bool.{Bool, true, false, not, _&&_}
 use mathlib.Core.List.{List, [], _∷_, _++_, map}
 use lib.Dec.{eqb}
-use lib.ListN.{length, replicate}
+use lib.ListN.{length, replicate, take, drop}
 use Rattle.network.specs.Network.{Network, nodeCount}
 use Rattle.network.specs.Distance.{NONE}
 use Rattle.network.specs.Count.{count}
@@ -29,6 +29,10 @@ tableIds g P K = map (λ x. x .0) (rowsBelow g P K (nodeCount g))
 
 unfoldable pub tableDistances : Network → List ℕ → ℕ → List ℕ
 tableDistances g P K = map (λ x. x .1) (rowsBelow g P K (nodeCount g))
+
+-- row i of the ids or of the distances: 'Row i starts in the middle of each array, at i × K, and is passed to its reader or writer as that part.'
+unfoldable pub rowPart : ℕ → ℕ → List ℕ → List ℕ
+rowPart K i xs = take K (drop (i * K) xs)
 
 -- 'Two arrays of n × K entries'
 pub record Sized (g : Network) (K : ℕ) (ids dists : List ℕ) : Type 0 where

@@ -14,6 +14,8 @@ ghost use Rattle.table_calls.specs.TableQuery.{QueryArrays, TableQueryExported}
 ghost use Rattle.table_calls.specs.Build.{buildOutcome};
 ghost use Rattle.table_calls.specs.Updated.{Arrays, ChangeExported};
 ghost use Rattle.site_calls.specs.Exported.{NearestExported, VerifyExported, SearchExported, EagerExported};
+ghost use Rattle.nearer_row.specs.Nearer.{rowNumber, rowOutcome};
+ghost use Rattle.nearer_row.specs.Part.{PartReturned};
 pub use conditions::answers::Listing;
 pub use conditions::answers::Update;
 pub use conditions::answers::Verdict;
@@ -21,6 +23,7 @@ use conditions::answers::listing_of;
 use conditions::answers::update_of;
 use conditions::answers::verdict_of;
 use conditions::kind::Kind;
+pub use nearer_row::RowPart;
 use site_calls::distances;
 use site_calls::eager;
 use site_calls::lazy;
@@ -396,4 +399,99 @@ pub extern "C" fn overlap_table_query(
         scratch,
         answers,
     ))
+}
+
+// The number of the nearer row. Lent: the network, the junction, one K, and both tables of any contents, and nothing is written. Returned: 0, or 1 to 5, 7,
+// 8 of the own table, 8 of the rival's. Document 02: 'a second call on the same inputs gives the number'; 'Checks: [..] 8 each table, in the order lent.'
+#[no_mangle]
+pub extern "C" fn overlap_nearer_row_number(
+    starts: &[u32],
+    neighbours: &[u32],
+    weights: &[u32],
+    junction: u32,
+    places: u32,
+    own_ids: &[u32],
+    own_distances: &[u32],
+    rival_ids: &[u32],
+    rival_distances: &[u32],
+) -> u32
+    ensures { λ r.
+        let g = network (now (starts .entry)) (now (neighbours .entry)) (now (weights .entry)) in
+        ⌜ r ≡ rowNumber g junction places (now («own_ids» .entry)) (now («own_distances» .entry)) (now («rival_ids» .entry)) (now («rival_distances» .entry)) ⌝ }
+{
+    nearer_row::number(
+        starts,
+        neighbours,
+        weights,
+        junction,
+        places,
+        own_ids,
+        own_distances,
+        rival_ids,
+        rival_distances,
+    )
+}
+
+// The nearer row, as C has it. Lent: as for the number. Returned: number 0, and which K entries the row's distances are: of the own distances (rival 0) or
+// of the rival's (rival 1), from junction × K on; or 1 to 5, 7, 8 (own), 8 (rival's), and the rest 0. Accepted: those entries lie in their array, and are
+// what `overlap_nearer_row` returns. Refused: they are none, its empty part. Document 02: 'of an own table and a rival's, the call hands back the row
+// whose first entry is nearer, the own one when equal.'
+#[no_mangle]
+pub extern "C" fn overlap_nearer_row_part(
+    starts: &[u32],
+    neighbours: &[u32],
+    weights: &[u32],
+    junction: u32,
+    places: u32,
+    own_ids: &[u32],
+    own_distances: &[u32],
+    rival_ids: &[u32],
+    rival_distances: &[u32],
+) -> RowPart
+    ensures { λ r.
+        let g = network (now (starts .entry)) (now (neighbours .entry)) (now (weights .entry)) in
+        ⌜ PartReturned g junction places (now («own_ids» .entry)) (now («own_distances» .entry)) (now («rival_ids» .entry)) (now («rival_distances» .entry)) r ⌝ }
+{
+    nearer_row::part(
+        starts,
+        neighbours,
+        weights,
+        junction,
+        places,
+        own_ids,
+        own_distances,
+        rival_ids,
+        rival_distances,
+    )
+}
+
+// The nearer row, within Rattle: a returned reference does not cross to C. Lent: as for the number. Accepted: returned are the row's K distances, a part of
+// the own distances or of the rival's, nothing copied. Refused: returned is an empty part. Document 02: 'of an own table and a rival's, the call hands back
+// the row whose first entry is nearer, the own one when equal. [..] It returns the row's distances, on a refusal an empty part'.
+pub fn overlap_nearer_row<'a>(
+    starts: &[u32],
+    neighbours: &[u32],
+    weights: &[u32],
+    junction: u32,
+    places: u32,
+    own_ids: &[u32],
+    own_distances: &'a [u32],
+    rival_ids: &[u32],
+    rival_distances: &'a [u32],
+) -> &'a [u32]
+    ensures { λ r.
+        let g = network (now (starts .entry)) (now (neighbours .entry)) (now (weights .entry)) in
+        ⌜ now r ≡ rowOutcome g junction places (now («own_ids» .entry)) (now («own_distances» .entry)) (now («rival_ids» .entry)) (now («rival_distances» .entry)) ⌝ }
+{
+    nearer_row::row(
+        starts,
+        neighbours,
+        weights,
+        junction,
+        places,
+        own_ids,
+        own_distances,
+        rival_ids,
+        rival_distances,
+    )
 }

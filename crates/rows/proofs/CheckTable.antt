@@ -16,7 +16,7 @@ use Rattle.network.specs.Accepted.{Accepted}
 use Rattle.network.specs.Distance.{NONE}
 use Rattle.network.specs.Count.{any}
 use Rattle.network.specs.Points.{lockers, marked}
-use Rattle.network.specs.Rows.{tableIds, tableDistances, IsTable, sameList, sameTable}
+use Rattle.network.specs.Rows.{rowPart, tableIds, tableDistances, IsTable, sameList, sameTable}
 use Rattle.network.proofs.Tests.{and-parts, and-intro, and-left, and-right, or-parts, or-intro, or-cases, or-left, or-right, any-none, none-any, one-any, any-passes}
 use Rattle.network.proofs.Rank.{marked-inside}
 use Rattle.network.proofs.NodeArcs.{arc-source}
@@ -24,7 +24,7 @@ use Rattle.network.proofs.Ranges.{arc-at, arc-place}
 use Rattle.network.proofs.NumberZero.{accepted-ranges}
 use Rattle.rows.specs.Exact.{Placed, Support, own, via}
 use Rattle.rows.specs.Flat.{unpadded, places, rowAt, Flat}
-use Rattle.rows.specs.Check.{rowPart, rowHolds, isPlaced, badRow, comesFrom, comesAt, comesOver, isOwn, isSupported, unsupportedAt, unsupported, lacksOwn, asksFor, asksAt, asks, asksFrom, asksOver, unclosed, badNode, CanCheck}
+use Rattle.rows.specs.Check.{rowHolds, isPlaced, badRow, comesFrom, comesAt, comesOver, isOwn, isSupported, unsupportedAt, unsupported, lacksOwn, asksFor, asksAt, asks, asksFrom, asksOver, unclosed, badNode, CanCheck}
 use Rattle.rows.proofs.Laid.{part-places, flat-iff-table}
 use Rattle.rows.proofs.CheckTests.{rows-lie, row-part-length, supported-padding, asks-padding, asks-entry}
 use Rattle.rows.proofs.CheckRows.{rowOf, entries, Good, shape-padded, shape-in, in-shape, entry-low, held-in, in-held, good-sorted, placed-in, in-placed, among-has, row-good, good-row, sorted-good}

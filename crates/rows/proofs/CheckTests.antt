@@ -15,11 +15,12 @@ use Rattle.network.specs.Distance.{NONE}
 use Rattle.network.specs.Count.{count, bit}
 use Rattle.network.specs.Points.{lockers, marked}
 use Rattle.network.specs.Nearest.{key}
+use Rattle.network.specs.Rows.{rowPart}
 use Rattle.network.proofs.Tests.{and-intro, and-left, and-right}
 use Rattle.network.proofs.Ranges.{arc-at}
 use Rattle.network.proofs.NumberZero.{accepted-ranges}
 use Rattle.rows.specs.Flat.{place}
-use Rattle.rows.specs.Check.{rowPart, isEntry, rowHolds, isWithin, endsBy, hasWithin, isPlaced, isId, among, wholeBefore, repeats, begins, follows, badPadding, badEntry, badPlace, comesFrom, comesOver, isOwn, isSupported, lacksOwn, asksFor, badRow, unsupported, unclosed, badNode, HasRows, CanRead}
+use Rattle.rows.specs.Check.{isEntry, rowHolds, isWithin, endsBy, hasWithin, isPlaced, isId, among, wholeBefore, repeats, begins, follows, badPadding, badEntry, badPlace, comesFrom, comesOver, isOwn, isSupported, lacksOwn, asksFor, badRow, unsupported, unclosed, badNode, HasRows, CanRead}
 use Rattle.network.proofs.Lends.{mid-length, row-fits}
 
 -- one place

@@ -7,19 +7,15 @@ use mathlib.Core.Path.{_≡_}
 use mathlib.Core.Bool.{Bool, cond, not, _&&_, _||_}
 use mathlib.Core.List.{List}
 use lib.Dec.{eqb, ltb, leb}
-use lib.ListN.{length, getD, take, drop}
+use lib.ListN.{length, getD}
 use Rattle.network.specs.Network.{Network, nodeCount, neighboursOf, weightsOf}
 use Rattle.network.specs.Accepted.{Accepted}
 use Rattle.network.specs.Distance.{NONE}
 use Rattle.network.specs.Count.{any, count}
 use Rattle.network.specs.Points.{lockers, marked}
 use Rattle.network.specs.Nearest.{key}
-use Rattle.network.specs.Rows.{Sized}
+use Rattle.network.specs.Rows.{rowPart, Sized}
 use Rattle.rows.specs.Flat.{place}
-
--- 'Row i starts in the middle of each array, at i × K, and is passed to its reader or writer as that part.'
-unfoldable pub rowPart : ℕ → ℕ → List ℕ → List ℕ
-rowPart K i xs = take K (drop (i * K) xs)
 
 -- place j of a row is p at distance d; a place of it is
 unfoldable pub isEntry : List ℕ → List ℕ → ℕ → ℕ → ℕ → Bool

@@ -4,7 +4,8 @@ ghost use Prim.Native.Nat.{_+_, _*_, _≤_};
 ghost use lib.Dec.{eqb};
 ghost use lib.ListN.{length};
 ghost use Rattle.network.specs.Count.{bit};
-ghost use Rattle.rows.specs.Check.{rowPart, among};
+ghost use Rattle.network.specs.Rows.{rowPart};
+ghost use Rattle.rows.specs.Check.{among};
 
 // Row i of the ids or of the distances, with some places to a row. Nothing is copied.
 pub fn row_of<'a>(entries: &'a [u32], i: usize, places: usize) -> &'a [u32]

@@ -10,7 +10,7 @@ use native.Mathlib.Omega.{arith}
 use lib.ListN.{length, getD, set}
 use borrow.Rule.Slice.PartMut.{midOf, putMid, mid-len, put-same}
 use Rattle.network.proofs.Lends.{mid-length, mid-at}
-use Rattle.rows.specs.Check.{rowPart}
+use Rattle.network.specs.Rows.{rowPart}
 use Rattle.table.specs.Build.{Stands, HasPlace, NoPlace, HasPlaceIs, HasPlaceAtIs, AppendTakes, AppendRefuses, CanReadRow, HasPlaceAt, NoPlaceAt, CanAppend, AppendTakesAt, AppendRefusesAt, withRun, often}
 use Rattle.table.proofs.Runs.{put-run}
 

@@ -2,7 +2,8 @@
 -- Assumes nothing.
 use mathlib.Core.Path.{_≡_, sym, _∙_}
 use native.Mathlib.Omega.{arith}
-use Rattle.rows.specs.Check.{rowPart, badRow, lacksOwn}
+use Rattle.network.specs.Rows.{rowPart}
+use Rattle.rows.specs.Check.{badRow, lacksOwn}
 use Rattle.rows.proofs.CheckTests.{rows-lie, row-parts-even, node-row, node-own, node-unsupported, node-unclosed}
 use Rattle.rows.proofs.check.bad_node.Statement.{statement}
 use Rattle.rows.proofs.check.bad_node.Tie as tie

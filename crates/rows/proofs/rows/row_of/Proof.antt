@@ -3,7 +3,7 @@
 use Prim.Native.Nat.{_+_, _-_, _*_}
 use mathlib.Core.Path.{_≡_}
 use native.Mathlib.Omega.{arith}
-use Rattle.rows.specs.Check.{rowPart}
+use Rattle.network.specs.Rows.{rowPart}
 use borrow.Author.Needs.{needs}
 use Rattle.rows.proofs.rows.row_of.Statement.{statement}
 use Rattle.rows.proofs.rows.row_of.Tie as tie
