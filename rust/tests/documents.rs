@@ -190,7 +190,7 @@ fn edit(path: &Path) -> String {
 /// differ in case only.
 const PAIRS: [[&str; 2]; 8] = [
     ["BuildOutcome", "buildOutcome"],
-    ["DistancesOutcome", "distancesOutcome"],
+    ["EntriesOutcome", "entriesOutcome"],
     ["EagerOutcome", "eagerOutcome"],
     ["Listed", "listed"],
     ["NearestOutcome", "nearestOutcome"],

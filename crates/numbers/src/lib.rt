@@ -6,7 +6,12 @@ use conditions::kind::Kind;
 use network::arcs::wide;
 
 // What every call with points tests first: 1 to 5, 6.
-fn network_points_number(starts: &[u32], neighbours: &[u32], weights: &[u32], points: &[u8]) -> u32
+pub fn network_points_number(
+    starts: &[u32],
+    neighbours: &[u32],
+    weights: &[u32],
+    points: &[u8],
+) -> u32
     ensures { λ r. ⌜ r ≡ networkPointsNumber (network (now (starts .entry)) (now (neighbours .entry)) (now (weights .entry))) (now (points .entry)) ⌝ }
 {
     let number = network::check::network_number(starts, neighbours, weights);

@@ -10,7 +10,7 @@ use borrow.Author.Tests.{eq-eqb, ne-eqb, lt-ltb, le-ltb}
 use Rattle.network.specs.Network.{Network}
 use Rattle.network.specs.Distance.{distancesFrom}
 use Rattle.network.specs.Answers.{answered}
-use Rattle.network.specs.Points.{verified, listed, expanded, exceedsLimit}
+use Rattle.network.specs.Points.{verified, listed, expanded, shortK, exceedsLimit}
 use Rattle.network.specs.Visits.{visits}
 use Rattle.expansion.specs.Area.{Wiped}
 use Rattle.searches.specs.declared.eager.Limited as search
@@ -21,29 +21,51 @@ use Rattle.conditions.specs.declared.answers.Rule.{Rule}
 use Rattle.conditions.specs.declared.answers.Rule.the-variants.{Answer}
 use Rattle.conditions.specs.declared.answers.Listed as call
 use Rattle.conditions.specs.declared.answers.Listed.the-variants as is
-use Rattle.site_calls.specs.Distances.{DistancesOutcome, distancesOutcome}
+use Rattle.site_calls.specs.Distances.{distancesOutcome}
 use Rattle.numbers.specs.Numbers.{distancesNumber, nearestNumber, verifyNumber, searchNumber, limitedNumber, eagerNumber}
 use Rattle.site_calls.specs.Nearest.{NearestOutcome, nearestOutcome}
 use Rattle.site_calls.specs.Work.{NearestDone, limitedListed}
 use Rattle.site_calls.specs.Verify.{VerifyOutcome, verifyOutcome}
 use Rattle.conditions.specs.Conditions.{limitNumber}
-use Rattle.site_calls.specs.Searched.{SearchOutcome}
+use Rattle.site_calls.specs.Searched.{SearchOutcome, listOutcome, EntriesOutcome, entriesOutcome}
 use Rattle.conditions.specs.Values.{listedListing}
 use Rattle.site_calls.specs.Eager.{EagerOutcome, limitedOutcome, visitsOutcome, eagerOutcome, shortOutcome}
 use Rattle.site_calls.specs.Lazy.{lazyOutcome}
 use Rattle.site_calls.specs.Exported.{NearestExported, SearchExported, EagerExported}
 
+-- a call that lists nodes, and one that writes entries
+module _ (list scratch answers : List ℕ) where
+  pub list-refused : {number : ℕ} (r : ℕ) → r ≡ number → r ≢ 0
+      → _≡_ {A = SearchOutcome} (record { answer = is.Refused r; scratch = scratch; answers = answers }) (listOutcome number list scratch answers)
+  unfolding listOutcome
+  list-refused r e n = rw (← e, ne-eqb r 0 n)
+
+  pub list-done : {number size : ℕ} {s a : List ℕ} → number ≡ 0 → s ≡ replicate (length scratch) 0 → size ≡ length list → a ≡ answered list answers
+      → _≡_ {A = SearchOutcome} (record { answer = is.Points size 0; scratch = s; answers = a }) (listOutcome number list scratch answers)
+  unfolding listOutcome
+  list-done {number} e z m h = rw (eq-eqb number 0 e, z, m, h)
+
+  pub entries-refused : {number : ℕ} (r : ℕ) → r ≡ number → r ≢ 0
+      → _≡_ {A = EntriesOutcome} (record { number = r; scratch = scratch; answers = answers }) (entriesOutcome number list scratch answers)
+  unfolding entriesOutcome
+  entries-refused r e n = rw (← e, ne-eqb r 0 n)
+
+  pub entries-done : {number : ℕ} {s a : List ℕ} → number ≡ 0 → s ≡ replicate (length scratch) 0 → a ≡ answered list answers
+      → _≡_ {A = EntriesOutcome} (record { number = 0; scratch = s; answers = a }) (entriesOutcome number list scratch answers)
+  unfolding entriesOutcome
+  entries-done {number} e z h = rw (eq-eqb number 0 e, z, h)
+
 module _ (g : Network) (node : ℕ) (scratch answers : List ℕ) where
   pub distances-refused : (number : ℕ) → number ≡ distancesNumber g node scratch answers → number ≢ 0
-      → _≡_ {A = DistancesOutcome} (record { number = number; scratch = scratch; answers = answers }) (distancesOutcome g node scratch answers)
+      → _≡_ {A = EntriesOutcome} (record { number = number; scratch = scratch; answers = answers }) (distancesOutcome g node scratch answers)
   unfolding distancesOutcome
-  distances-refused number e n = rw (← e, ne-eqb number 0 n)
+  distances-refused = entries-refused (distancesFrom g node) scratch answers
 
   pub distances-done : {s a : List ℕ} → distancesNumber g node scratch answers ≡ 0 → s ≡ replicate (length scratch) 0
       → a ≡ answered (distancesFrom g node) answers
-      → _≡_ {A = DistancesOutcome} (record { number = 0; scratch = s; answers = a }) (distancesOutcome g node scratch answers)
+      → _≡_ {A = EntriesOutcome} (record { number = 0; scratch = s; answers = a }) (distancesOutcome g node scratch answers)
   unfolding distancesOutcome
-  distances-done e p q = rw (eq-eqb (distancesNumber g node scratch answers) 0 e, p, q)
+  distances-done = entries-done (distancesFrom g node) scratch answers
 
 module _ (g : Network) (P : List ℕ) (node e k : ℕ) (scratch ids distances : List ℕ) where
   pub nearest-refused : (number : ℕ) → number ≡ nearestNumber g P node k scratch ids distances → number ≢ 0
@@ -123,7 +145,7 @@ unfolding eagerOutcome
 eager-is g P q k limit scratch answers steps a b = λ i. record { search = a i; visits = b i }
 
 pub short-is : (g : Network) (P : List ℕ) (q : ℕ) (scratch answers : List ℕ) {o : SearchOutcome}
-    → o ≡ limitedOutcome (limitedNumber g P q 1 scratch answers) g P q 1 65535 scratch answers → o ≡ shortOutcome g P q scratch answers
+    → o ≡ limitedOutcome (limitedNumber g P q shortK scratch answers) g P q shortK 65535 scratch answers → o ≡ shortOutcome g P q scratch answers
 unfolding shortOutcome
 short-is g P q scratch answers e = e
 
@@ -131,13 +153,13 @@ module _ (g : Network) (P : List ℕ) (q k : ℕ) (scratch answers : List ℕ) w
   pub lazy-refused : (number : ℕ) → number ≡ searchNumber g P q k scratch answers → number ≢ 0
       → _≡_ {A = SearchOutcome} (record { answer = is.Refused number; scratch = scratch; answers = answers }) (lazyOutcome g P q k scratch answers)
   unfolding lazyOutcome
-  lazy-refused number e n = rw (← e, ne-eqb number 0 n)
+  lazy-refused = list-refused (listed g P q k) scratch answers
 
   pub lazy-done : {s a : List ℕ} {size : ℕ} → searchNumber g P q k scratch answers ≡ 0 → s ≡ replicate (length scratch) 0
       → size ≡ length (listed g P q k) → a ≡ answered (listed g P q k) answers
       → _≡_ {A = SearchOutcome} (record { answer = is.Points size 0; scratch = s; answers = a }) (lazyOutcome g P q k scratch answers)
   unfolding lazyOutcome
-  lazy-done e z m h = rw (eq-eqb (searchNumber g P q k scratch answers) 0 e, z, m, h)
+  lazy-done = list-done (listed g P q k) scratch answers
 
 -- overlap.h's struct of an answer, and the arrays as it leaves them
 pub nearest-exported : {o : NearestOutcome} {a : call.Listed} {s i d : List ℕ} {r : Listing} → r ≡ listedListing a

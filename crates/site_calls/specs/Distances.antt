@@ -2,22 +2,10 @@
 -- Assumes nothing.
 use Prim.Native.Nat.{ℕ}
 use mathlib.Core.List.{List}
-use lib.ListN.{length, replicate}
 use Rattle.network.specs.Network.{Network}
 use Rattle.network.specs.Distance.{distancesFrom}
-use Rattle.network.specs.Answers.{answered}
 use Rattle.numbers.specs.Numbers.{distancesNumber}
-use Rattle.conditions.specs.Conditions.{byNumber}
+use Rattle.site_calls.specs.Searched.{EntriesOutcome, entriesOutcome}
 
--- the number returned, and the final contents of the lent arrays
-pub record DistancesOutcome : Type 0 where
-  pub number : ℕ
-  pub scratch : List ℕ
-  pub answers : List ℕ
-
--- 'An accepted call with scratch leaves it all zero. Answer arrays hold the answer, then their old entries.' 'A refusal [..] changes no buffer'
-unfoldable pub distancesOutcome : Network → ℕ → List ℕ → List ℕ → DistancesOutcome
-distancesOutcome g node scratch answers =
-    byNumber (distancesNumber g node scratch answers)
-    (record { number = distancesNumber g node scratch answers; scratch = scratch; answers = answers })
-    (record { number = 0; scratch = replicate (length scratch) 0; answers = answered (distancesFrom g node) answers })
+unfoldable pub distancesOutcome : Network → ℕ → List ℕ → List ℕ → EntriesOutcome
+distancesOutcome g node scratch answers = entriesOutcome (distancesNumber g node scratch answers) (distancesFrom g node) scratch answers

@@ -6,7 +6,7 @@ use Prim.Native.Nat.{ℕ}
 use mathlib.Core.List.{List}
 use lib.ListN.{length, replicate}
 use Rattle.network.specs.Network.{Network}
-use Rattle.network.specs.Points.{listed, expanded}
+use Rattle.network.specs.Points.{listed, expanded, shortK}
 use Rattle.network.specs.Visits.{visits}
 use Rattle.network.specs.Answers.{answered}
 use Rattle.conditions.specs.declared.answers.Listed.the-variants as is
@@ -46,4 +46,4 @@ eagerOutcome g P q k limit scratch answers steps =
 
 -- 'The short query: no k and no limit; eager with k = 1 and limit 65,535', without the visits
 unfoldable pub shortOutcome : Network → List ℕ → ℕ → List ℕ → List ℕ → SearchOutcome
-shortOutcome g P q scratch answers = limitedOutcome (limitedNumber g P q 1 scratch answers) g P q 1 65535 scratch answers
+shortOutcome g P q scratch answers = limitedOutcome (limitedNumber g P q shortK scratch answers) g P q shortK 65535 scratch answers

@@ -1,9 +1,9 @@
 -- What the calls without a table answer and leave. A reader must believe: for each call one outcome, what it returns and what every lent array holds
--- then (Distances, Nearest, Verify, Searched, Eager, Lazy); and overlap.h's structs of it (Exported). Records of the work: Work.
+-- then (Searched, Distances, Nearest, Verify, Eager, Lazy); and overlap.h's structs of it (Exported). Records of the work: Work.
+pub mod Searched
 pub mod Distances
 pub mod Nearest
 pub mod Verify
-pub mod Searched
 pub mod Eager
 pub mod Lazy
 pub mod Exported
