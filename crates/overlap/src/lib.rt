@@ -14,6 +14,8 @@ ghost use Rattle.table_calls.specs.TableQuery.{QueryArrays, TableQueryExported}
 ghost use Rattle.table_calls.specs.Build.{buildOutcome};
 ghost use Rattle.table_calls.specs.Updated.{Arrays, ChangeExported};
 ghost use Rattle.site_calls.specs.Exported.{NearestExported, VerifyExported, SearchExported, EagerExported};
+ghost use Rattle.household_calls.specs.Households.{householdsOutcome};
+ghost use Rattle.household_calls.specs.Sheet.{sheetOutcome};
 ghost use Rattle.nearer_row.specs.Nearer.{rowNumber, rowOutcome};
 ghost use Rattle.nearer_row.specs.Part.{PartReturned};
 pub use conditions::answers::Listing;
@@ -23,6 +25,8 @@ use conditions::answers::listing_of;
 use conditions::answers::update_of;
 use conditions::answers::verdict_of;
 use conditions::kind::Kind;
+use household_calls::entries;
+use household_calls::list;
 pub use nearer_row::RowPart;
 use site_calls::distances;
 use site_calls::eager;
@@ -399,6 +403,70 @@ pub extern "C" fn overlap_table_query(
         scratch,
         answers,
     ))
+}
+
+// The households that a site wins. Lent: the network, households and sites, both laid out as points, scratch of S entries with m = k, and an array for n
+// answers. Returned: number 0 and the length of the list, or 1 to 5, 6 of the households, 6 of the sites, 7, 9, 10. Accepted: the answers are the listed
+// nodes, ascending, then the old entries, and the whole scratch is zero. Refused: nothing is written. Document 02: 'A household is listed for q exactly if it
+// can be reached and fewer than k sites are strictly nearer to it than q (document 000, 5.1).' q is any node.
+#[no_mangle]
+pub extern "C" fn overlap_households(
+    starts: &[u32],
+    neighbours: &[u32],
+    weights: &[u32],
+    households: &[u8],
+    sites: &[u8],
+    q: u32,
+    k: u32,
+    scratch: &mut [u32],
+    answers: &mut [u32],
+) -> Listing
+    ensures { λ r.
+        let g = network (now (starts .entry)) (now (neighbours .entry)) (now (weights .entry)) in
+        let outcome = householdsOutcome g (now (households .entry)) (now (sites .entry)) q k (now (scratch .entry)) (now (answers .entry)) in
+        ⌜ SearchExported outcome r (now (scratch .exit)) (now (answers .exit)) ⌝ }
+{
+    listing_of(list::answer(
+        starts,
+        neighbours,
+        weights,
+        households,
+        sites,
+        q,
+        k,
+        scratch,
+        answers,
+    ))
+}
+
+// The sheet. Lent: the network, households and sites, both laid out as points, scratch of S entries with m = 1, and an array for n answers. Returned: 0, or 1
+// to 5, 6 of the households, 6 of the sites, 10. Accepted: the answers are the n entries, then the old ones, and the whole scratch is zero. Refused: nothing
+// is written. Document 02: 'A sheet call writes, for each node, the length of the list of a site there, 0 without a site, with the k of the short query.' 'A
+// sheet's length counts each household on a listed node.'
+#[no_mangle]
+pub extern "C" fn overlap_sheet(
+    starts: &[u32],
+    neighbours: &[u32],
+    weights: &[u32],
+    households: &[u8],
+    sites: &[u8],
+    scratch: &mut [u32],
+    answers: &mut [u32],
+) -> u32
+    ensures { λ r.
+        let g = network (now (starts .entry)) (now (neighbours .entry)) (now (weights .entry)) in
+        ⌜ record { number = r; scratch = now (scratch .exit); answers = now (answers .exit) }
+        ≡ sheetOutcome g (now (households .entry)) (now (sites .entry)) (now (scratch .entry)) (now (answers .entry)) ⌝ }
+{
+    entries::answer(
+        starts,
+        neighbours,
+        weights,
+        households,
+        sites,
+        scratch,
+        answers,
+    )
 }
 
 // The number of the nearer row. Lent: the network, the junction, one K, and both tables of any contents, and nothing is written. Returned: 0, or 1 to 5, 7,
