@@ -2,8 +2,9 @@
 // any. The first n words are the seats of these distances. A node's mark, n words behind the area, is the last site that took it in, plus 1, so nothing is
 // cleared between two lists; behind the marks stand the members of the present list, in the order in which they came.
 ghost use mathlib.Core.Path.{_≡_};
-ghost use Prim.Native.Nat.{_<_};
+ghost use Prim.Native.Nat.{_≤_};
 ghost use Rattle.network.specs.Network.{network, neighboursOf};
+ghost use Rattle.network.specs.Points.{lockers};
 ghost use Rattle.sheet.specs.Cell.{CanTakeMember, MemberTaken, CanFollowMember, MemberFollowed, CanList, ListLeft};
 ghost use lib.ListN.{length};
 use expansion::labels;
@@ -15,6 +16,13 @@ use network::points::lockers_at;
 pub struct Members {
     pub size: usize,
     pub sum: u32,
+}
+
+// The households at a node, each of which counts (Ask 8).
+fn households_at(households: &[u8], node: u32) -> u32
+    ensures { λ r. ⌜ (r ≡ lockers (now (households .entry)) node) × (r ≤ 255) ⌝ }
+{
+    lockers_at(households, node) as u32
 }
 
 // Takes a node in, unless the list has it.
@@ -37,10 +45,10 @@ fn take_in(
     }
     s[at] = q + 1;
     s[5 * n + size] = node;
-    let more = lockers_at(households, node);
+    let more = households_at(households, node);
     Members {
         size: size + 1,
-        sum: sum + (more as u32),
+        sum: sum + more,
     }
 }
 

@@ -67,18 +67,15 @@ mul-s-3 c = omega (arith, room c)
 slice-write-s-2 : tie.Need-slice-write-s-2
 slice-write-s-2 c = simp length-set (omega (arith, room c, start (c .before .before) .pre .list .room))
 
-lockers-at-requires : tie.Need-lockers-at-requires
-lockers-at-requires c κs = search needs
+households-at-requires : tie.Need-households-at-requires
+households-at-requires c κs = search needs
 
 add-t11 : tie.Need-add-t11
 add-t11 c = omega (arith, room (c .before))
 
-cast-t14 : tie.Need-cast-t14
-cast-t14 c = search needs
-
-add-t19 : tie.Need-add-t19
-add-t19 c =
-    omega (arith, room (c .before), start (c .before .before .before) .pre .list .low, c .lockers-at .ensures .1)
+add-t14 : tie.Need-add-t14
+add-t14 c =
+    omega (arith, room (c .before), start (c .before .before .before) .pre .list .low, c .households-at .ensures .1)
 
 same-length : tie.Need-same-length
 same-length c = search needs
@@ -86,7 +83,7 @@ same-length c = search needs
 returns-2 : tie.Need-returns-2
 returns-2 c =
     let s = start (c .before .before .before) in
-    let h = c .lockers-at .ensures in
+    let h = c .households-at .ensures in
     rw (c .before .before .before .wide .ensures, add-one (s .args .q), h .0) (taken-new (s .pre .list) (s .args .node) (s .pre .inside) (fresh (c .before)) (omega arith))
 
 pub take-in-spec : {M : Type 1} → statement M
@@ -107,9 +104,8 @@ take-in-spec =
     add-s-2
     mul-s-3
     slice-write-s-2
-    lockers-at-requires
+    households-at-requires
     add-t11
-    cast-t14
-    add-t19
+    add-t14
     same-length
     returns-2)
