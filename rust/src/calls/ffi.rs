@@ -82,6 +82,49 @@ pub struct Update {
     pub changed: u32,
 }
 
+/// The answer of a call that says which row is nearer: `overlap_row_part` of `overlap.h`.
+///
+/// Document 02 (Ask 1): "of an own table and a rival's, the call hands back the row whose first entry
+/// is nearer, the own one when equal. [...] It returns the row's distances, on a refusal an empty
+/// part". A reference can't be returned across the boundary, so this says which part of which array
+/// it is; [`nearer_row`](super::nearer_row()) hands back the part itself.
+///
+/// ```
+/// use overlap::calls::{nearer_row_part, Network, RowPart, TwoTables, NONE};
+///
+/// // Two nodes and one road of weight 4 between them. The own point is on node 1, the rival's on node
+/// // 0, which is nearer to node 0.
+/// let network = Network { starts: &[0, 1, 2], neighbours: &[1, 0], weights: &[4, 4] };
+/// let tables = TwoTables {
+///     places: 2,
+///     own_ids: &[1, NONE, 1, NONE],
+///     own_distances: &[4, NONE, 0, NONE],
+///     rival_ids: &[0, NONE, 0, NONE],
+///     rival_distances: &[0, NONE, 4, NONE],
+/// };
+/// let part = nearer_row_part(network, 0, tables);
+/// assert_eq!(part, RowPart { number: 0, rival: 1, start: 0, length: 2 });
+/// let part = nearer_row_part(network, 1, tables);
+/// assert_eq!(part, RowPart { number: 0, rival: 0, start: 2, length: 2 });
+///
+/// // There is no node 2.
+/// let part = nearer_row_part(network, 2, tables);
+/// assert_eq!(part, RowPart { number: 7, rival: 0, start: 0, length: 0 });
+/// ```
+#[repr(C)]
+#[must_use]
+#[derive(Clone, Copy, Debug, Default, PartialEq, Eq)]
+pub struct RowPart {
+    /// 0, or the number of the refusal.
+    pub number: u32,
+    /// 1 for the rival's row; 0 for the own one and on a refusal.
+    pub rival: u32,
+    /// Where the row starts in the distances; 0 on a refusal.
+    pub start: usize,
+    /// The places of the row; 0 on a refusal.
+    pub length: usize,
+}
+
 /// The form that lazy and lazy-EP share.
 pub(crate) type Search = unsafe extern "C" fn(
     starts: *const u32,
@@ -356,4 +399,82 @@ extern "C" {
         answers: *mut u32,
         answers_len: usize,
     ) -> Listing;
+
+    /// Writes `scratch` and `answers`.
+    pub(crate) fn overlap_households(
+        starts: *const u32,
+        starts_len: usize,
+        neighbours: *const u32,
+        neighbours_len: usize,
+        weights: *const u32,
+        weights_len: usize,
+        households: *const u8,
+        households_len: usize,
+        sites: *const u8,
+        sites_len: usize,
+        q: u32,
+        k: u32,
+        scratch: *mut u32,
+        scratch_len: usize,
+        answers: *mut u32,
+        answers_len: usize,
+    ) -> Listing;
+
+    /// Writes `scratch` and `answers`.
+    pub(crate) fn overlap_sheet(
+        starts: *const u32,
+        starts_len: usize,
+        neighbours: *const u32,
+        neighbours_len: usize,
+        weights: *const u32,
+        weights_len: usize,
+        households: *const u8,
+        households_len: usize,
+        sites: *const u8,
+        sites_len: usize,
+        scratch: *mut u32,
+        scratch_len: usize,
+        answers: *mut u32,
+        answers_len: usize,
+    ) -> u32;
+
+    /// Reads all arrays and writes nothing.
+    pub(crate) fn overlap_nearer_row_number(
+        starts: *const u32,
+        starts_len: usize,
+        neighbours: *const u32,
+        neighbours_len: usize,
+        weights: *const u32,
+        weights_len: usize,
+        junction: u32,
+        places: u32,
+        own_ids: *const u32,
+        own_ids_len: usize,
+        own_distances: *const u32,
+        own_distances_len: usize,
+        rival_ids: *const u32,
+        rival_ids_len: usize,
+        rival_distances: *const u32,
+        rival_distances_len: usize,
+    ) -> u32;
+
+    /// Reads all arrays and writes nothing.
+    pub(crate) fn overlap_nearer_row_part(
+        starts: *const u32,
+        starts_len: usize,
+        neighbours: *const u32,
+        neighbours_len: usize,
+        weights: *const u32,
+        weights_len: usize,
+        junction: u32,
+        places: u32,
+        own_ids: *const u32,
+        own_ids_len: usize,
+        own_distances: *const u32,
+        own_distances_len: usize,
+        rival_ids: *const u32,
+        rival_ids_len: usize,
+        rival_distances: *const u32,
+        rival_distances_len: usize,
+    ) -> RowPart;
 }

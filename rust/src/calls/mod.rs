@@ -6,8 +6,8 @@
 //!
 //! No call asks anything of its input: bad input is refused by a number, and [`meaning`] gives the
 //! condition that the number stands for. A call answers its number alone, a [`Listing`], a
-//! [`Verdict`] or an [`Update`], as the engine returns it; [`accepted`] and the methods of that
-//! name make a `Result` of it.
+//! [`Verdict`], an [`Update`] or a [`RowPart`], as the engine returns it; [`accepted`] and the methods
+//! of that name make a `Result` of it.
 //!
 //! The engine allocates nothing. A call that needs working space is lent it as scratch, whose
 //! length [`scratch_len`] gives, or [`eager_scratch_len`] for eager, verify and the short query; the
@@ -33,8 +33,10 @@ mod answer;
 mod distances;
 mod eager;
 mod ffi;
+mod households;
 mod lazy;
 mod lend;
+mod nearer_row;
 mod nearest;
 mod network;
 mod numbers;
@@ -49,8 +51,10 @@ use lend::lend;
 pub use crate::NONE;
 pub use distances::distances;
 pub use eager::{eager, short_query};
-pub use ffi::{Listing, Update, Verdict};
+pub use ffi::{Listing, RowPart, Update, Verdict};
+pub use households::{households, sheet};
 pub use lazy::{lazy, lazy_ep};
+pub use nearer_row::{nearer_row, nearer_row_number, nearer_row_part, TwoTables};
 pub use nearest::{nearest, Found};
 pub use network::{network_check, Network};
 pub use numbers::{accepted, meaning};
