@@ -270,3 +270,29 @@ pub struct Listed<'a> {
     /// included) with d(m, p) < d(m, q)". Each locker of a node is a point here.
     pub expanded: u32,
 }
+
+/// The answer of [`Table::nearer_row`](crate::Table::nearer_row).
+///
+/// Document 02 (Ask 1): "the call hands back the row whose first entry is nearer, the own one when
+/// equal. [...] It returns the row's distances".
+///
+/// ```
+/// use overlap::{Network, Points, Table};
+///
+/// # fn main() -> Result<(), overlap::Refusal> {
+/// let network = Network::from_roads(3, &[(0, 1, 4), (1, 2, 3)])?;
+/// let own = Table::build(&network, Points::on(&network, [0])?, 2)?;
+/// let rival = Table::build(&network, Points::on(&network, [2, 2])?, 2)?;
+/// let row = own.nearer_row(&rival, 1)?;
+/// assert!(row.is_rivals);
+/// assert_eq!(row.distances, [3, 3]);
+/// # Ok(())
+/// # }
+/// ```
+#[derive(Clone, Copy, Debug, PartialEq, Eq)]
+pub struct NearerRow<'a> {
+    /// Whether it is the rival's row; no when both are equally near.
+    pub is_rivals: bool,
+    /// The distances of the row's K places, [`NONE`] for an empty one: the part of the table itself.
+    pub distances: &'a [u32],
+}

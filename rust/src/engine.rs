@@ -333,6 +333,95 @@ impl Engine {
         Ok(self.listed(listing)?.points)
     }
 
+    /// The households that a site at q wins. Document 02 (Ask 1): "A household is listed for q exactly
+    /// if it can be reached and fewer than k sites are strictly nearer to it than q".
+    ///
+    /// "Two byte arrays are lent, households and sites, both laid out as points": [`Points`] hold them,
+    /// and each household and each site of a node counts. q is any node, with a site or without. The
+    /// list names nodes, each once, those with a household. (Ask 6): "Households on a site's node in
+    /// Ask 1 still belong to the site."
+    ///
+    /// ```
+    /// use overlap::{Engine, Network, Points};
+    ///
+    /// # fn main() -> Result<(), overlap::Refusal> {
+    /// // Network N of document 01.
+    /// let roads = [(0, 1, 4), (0, 3, 5), (1, 2, 3), (2, 4, 7), (3, 4, 3)];
+    /// let network = Network::from_roads(6, &roads)?;
+    /// let households = Points::on(&network, [0, 1, 1, 3, 5, 5, 5])?;
+    /// let sites = Points::on(&network, [2, 4, 5])?;
+    /// let mut engine = Engine::new(&network);
+    ///
+    /// // The site on node 2 is the nearest of nodes 0 and 1, the one on 5 of its own node.
+    /// assert_eq!(engine.households(&households, &sites, 2, 1)?, [0, 1]);
+    /// assert_eq!(engine.households(&households, &sites, 5, 1)?, [5]);
+    ///
+    /// // What a new site on node 0 would win, and for k = 2 those with one site nearer.
+    /// assert_eq!(engine.households(&households, &sites, 0, 1)?, [0]);
+    /// assert_eq!(engine.households(&households, &sites, 0, 2)?, [0, 1, 3]);
+    ///
+    /// // Two sites on node 2 are two that are nearer to node 1.
+    /// let sites = Points::on(&network, [2, 2, 4, 5])?;
+    /// assert_eq!(engine.households(&households, &sites, 0, 2)?, [0, 3]);
+    /// # Ok(())
+    /// # }
+    /// ```
+    ///
+    /// # Errors
+    ///
+    /// The first condition met of 6, of the households or of the sites, 7 and 9.
+    pub fn households(
+        &mut self,
+        households: &Points,
+        sites: &Points,
+        q: u32,
+        k: u32,
+    ) -> Result<&[u32], Refusal> {
+        let (scratch, answers) = self.buffers.both(&self.network, Words::S(k));
+        let (network, bytes) = (self.network.lend(), [households.marks(), sites.marks()]);
+        let listing = calls::households(network, bytes[0], bytes[1], q, k, scratch, answers);
+        Ok(self.listed(listing)?.points)
+    }
+
+    /// How many households each site wins. Document 02 (Ask 1): "A sheet call writes, for each node,
+    /// the length of the list of a site there, 0 without a site, with the k of the short query."
+    /// (Ask 8): "A sheet's length counts each household on a listed node."
+    ///
+    /// The entry of a node with a site is the number of households on the nodes that
+    /// [`households`](Self::households) lists for it with k = 1. Where two sites are equally near to a
+    /// household, both count it.
+    ///
+    /// ```
+    /// use overlap::{Engine, Network, Points};
+    ///
+    /// # fn main() -> Result<(), overlap::Refusal> {
+    /// // Network N of document 01.
+    /// let roads = [(0, 1, 4), (0, 3, 5), (1, 2, 3), (2, 4, 7), (3, 4, 3)];
+    /// let network = Network::from_roads(6, &roads)?;
+    /// let households = Points::on(&network, [0, 1, 1, 3, 5, 5, 5])?;
+    /// let sites = Points::on(&network, [2, 4, 5])?;
+    /// let mut engine = Engine::new(&network);
+    /// // The site on node 2 wins the household on node 0 and the two on node 1.
+    /// assert_eq!(engine.sheet(&households, &sites)?, [0, 0, 3, 0, 1, 3]);
+    ///
+    /// // Nodes 0 and 4 are both 7 from node 2, so sites there both count its household.
+    /// let (households, sites) = (Points::on(&network, [2])?, Points::on(&network, [0, 4])?);
+    /// assert_eq!(engine.sheet(&households, &sites)?, [1, 0, 0, 0, 1, 0]);
+    /// # Ok(())
+    /// # }
+    /// ```
+    ///
+    /// # Errors
+    ///
+    /// 6, of the households or of the sites.
+    pub fn sheet(&mut self, households: &Points, sites: &Points) -> Result<&[u32], Refusal> {
+        let (scratch, answers) = self.buffers.both(&self.network, Words::S(1));
+        let (network, bytes) = (self.network.lend(), [households.marks(), sites.marks()]);
+        let number = calls::sheet(network, bytes[0], bytes[1], scratch, answers);
+        accepted(number)?;
+        Ok(answers)
+    }
+
     /// The list that a search has put into the answers.
     fn listed(&self, listing: Listing) -> Result<Listed<'_>, Refusal> {
         let Listing { count, length, .. } = listing.accepted()?;

@@ -4,15 +4,16 @@
 //! lockers have a new site among their k nearest, by road distance. It is written in Rattle and
 //! proved: each call of it meets a contract that says what document 01, the requirements of the
 //! build, says, with what document 02 changed: several lockers at one junction (Ask 8), less scratch
-//! for eager, verify and the short query (Ask 5), eager's visits (Ask 4), and no locker on the list of
-//! a site at its own junction (Ask 6). Each item of this crate quotes the sentence that it is.
+//! for eager, verify and the short query (Ask 5), eager's visits (Ask 4), no locker on the list of a
+//! site at its own junction (Ask 6), and the households that a site wins against a rival's (Ask 1).
+//! Each item of this crate quotes the sentence that it is.
 //!
 //! | Type | What it is |
 //! |---|---|
 //! | [`Network`] | junctions and roads; only networks that the network check accepts exist |
-//! | [`Points`] | the lockers: how many stand on each node, 0 to 15 |
-//! | [`Engine`] | the calls without a table, on one network: [distances](Engine::distances), [nearest](Engine::nearest), [verify](Engine::verify), [eager](Engine::eager), [the short query](Engine::short_query), [lazy](Engine::lazy), [lazy-EP](Engine::lazy_ep) |
-//! | [`Table`] | the K nearest points of each node, with the points that it stands for: [build](Table::build), [insert](Table::insert), [remove](Table::remove), [query](Table::query), [check](Table::check) |
+//! | [`Points`] | the lockers: how many stand on each node, 0 to 15; households and sites as well |
+//! | [`Engine`] | the calls without a table, on one network: [distances](Engine::distances), [nearest](Engine::nearest), [verify](Engine::verify), [eager](Engine::eager), [the short query](Engine::short_query), [lazy](Engine::lazy), [lazy-EP](Engine::lazy_ep), [households](Engine::households), [the sheet](Engine::sheet) |
+//! | [`Table`] | the K nearest points of each node, with the points that it stands for: [build](Table::build), [insert](Table::insert), [remove](Table::remove), [query](Table::query), [check](Table::check), [the nearer row](Table::nearer_row) |
 //! | [`Refusal`] | why a call was refused: one case for each of document 01's numbers |
 //!
 //! [`road_list`] reads a network and its points from plain text, with messages that name the line,
@@ -45,6 +46,13 @@
 //! assert_eq!(table.insert(0)?, 1);
 //! assert!(table.row(0)?.iter().eq([(0, 0), (0, 0)]));
 //!
+//! // Households on 0, 1 and 3, two of them on 1, and sites on 2 and 4: which does the site on 2 win,
+//! // and how many does each site win?
+//! let households = Points::on(&network, [0, 1, 1, 3])?;
+//! let sites = Points::on(&network, [2, 4])?;
+//! assert_eq!(engine.households(&households, &sites, 2, 1)?, [0, 1]);
+//! assert_eq!(engine.sheet(&households, &sites)?, [0, 0, 3, 0, 1, 0]);
+//!
 //! // N has no node 6.
 //! assert_eq!(table.query(6, 1), Err(Refusal::Node));
 //! # Ok(())
@@ -72,7 +80,7 @@ mod refusal;
 pub mod road_list;
 mod table;
 
-pub use answers::{Distances, Expansion, Listed, Nearest};
+pub use answers::{Distances, Expansion, Listed, NearerRow, Nearest};
 pub use engine::Engine;
 pub use network::{Network, Road};
 pub use points::Points;

@@ -10,6 +10,10 @@ use crate::{Network, Refusal};
 /// A call is lent points beside its network. It refuses them by [`Refusal::Points`] where the
 /// network has another number of nodes than the one that they were made for.
 ///
+/// Document 02 (Ask 1): "Two byte arrays are lent, households and sites, both laid out as points." So
+/// a value of this type holds either for [`Engine::households`](crate::Engine::households) and
+/// [`Engine::sheet`](crate::Engine::sheet), with a household or a site for a locker.
+///
 /// ```
 /// use overlap::{Network, Points};
 ///

@@ -33,8 +33,8 @@ pub enum Refusal {
     Weights = 4,
     /// 5: "an arc lacks its return of equal weight".
     Returns = 5,
-    /// 6: points has not n entries, or a byte above 15. Document 02 (Ask 8): "6 allows bytes up to
-    /// 15".
+    /// 6: points (or households, or sites) has not n entries, or a byte above 15. Document 02 (Ask 8):
+    /// "6 allows bytes up to 15". (Ask 1): "6 covers each byte array, 8 each table, in the order lent."
     Points = 6,
     /// 7: "a node given is n or more".
     Node = 7,
@@ -106,7 +106,7 @@ impl Refusal {
     }
 
     /// The condition, in the wording of document 01, for 10 with the length of Ask 5 and the array of
-    /// Ask 4, for 6 and 11 with the bounds of Ask 8.
+    /// Ask 4, for 6 and 11 with the bounds of Ask 8, for 6 with the arrays of Ask 1.
     ///
     /// ```
     /// assert_eq!(overlap::Refusal::Node.condition(), "a node given is n or more");
@@ -124,7 +124,7 @@ impl Refusal {
             }
             Self::Weights => "a weight is 0 or above 65,535",
             Self::Returns => "an arc lacks its return of equal weight",
-            Self::Points => "points has not n entries, or a byte above 15",
+            Self::Points => "points (or households, or sites) has not n entries, or a byte above 15",
             Self::Node => "a node given is n or more",
             Self::Table => "K not 2 to 17, or a table array not n × K long",
             Self::K => "k is 0 or above 16; by table, above K - 1",

@@ -2,8 +2,9 @@
 //!
 //! A road list has one road a line: its two junctions and its weight, in base ten, with spaces or
 //! tabs between them. A list of points has one locker a line: its junction. A junction that comes
-//! again has one locker more, 15 at most. Blank lines, what follows a `#`, and a byte order mark
-//! before the first line are left out. A line ends with or without a carriage return.
+//! again has one locker more, 15 at most. Lists of households and of sites are written alike. Blank
+//! lines, what follows a `#`, and a byte order mark before the first line are left out. A line ends
+//! with or without a carriage return.
 //!
 //! The junctions of a road list are 0 to the largest that it names; those between that no road names
 //! are junctions without a road. A line `nodes n` before the first road says that they are 0 to
@@ -94,7 +95,7 @@ pub enum Fault {
         /// How many the network has.
         nodes: u32,
     },
-    /// A junction that has 15 lockers already.
+    /// A junction that has 15 lockers already, or 15 households or sites.
     FullNode(u32),
     /// The end of a road list that names no junction.
     NoJunctions,
@@ -139,7 +140,7 @@ impl fmt::Display for Fault {
             Self::FullNode(node) => {
                 write!(
                     f,
-                    "junction {node} has 15 lockers already, and a junction has at most 15"
+                    "junction {node} has 15 already, and a junction has at most 15"
                 )
             }
             Self::NoJunctions => write!(f, "the list ends without a road or a `nodes` line"),
@@ -187,7 +188,7 @@ pub fn read_network(text: &str) -> Result<Network, BadLine> {
     Ok(network.expect("each line has been tested"))
 }
 
-/// The points of a list, on this network.
+/// The points of a list, on this network. So are its households or its sites read.
 ///
 /// ```
 /// use overlap::{road_list::read_points, Network};
@@ -202,7 +203,7 @@ pub fn read_network(text: &str) -> Result<Network, BadLine> {
 /// let message = |text: &str| read_points(text, &network).unwrap_err().to_string();
 /// assert_eq!(message("0\n3\n"), "line 2: there is no junction 3: they are 0 to 2");
 /// let full = message(&"1\n".repeat(16));
-/// assert_eq!(full, "line 16: junction 1 has 15 lockers already, and a junction has at most 15");
+/// assert_eq!(full, "line 16: junction 1 has 15 already, and a junction has at most 15");
 /// # Ok(())
 /// # }
 /// ```

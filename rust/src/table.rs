@@ -1,8 +1,8 @@
 //! The table and the points that it stands for.
 
 use crate::buffers::{Buffers, Words};
-use crate::calls::{self, accepted, TableMut};
-use crate::{Nearest, Network, Points, Refusal};
+use crate::calls::{self, accepted, TableMut, TwoTables};
+use crate::{NearerRow, Nearest, Network, Points, Refusal};
 
 /// The K nearest points of each node, and the calls that use and change them.
 ///
@@ -305,6 +305,72 @@ impl Table {
             &self.ids[part.clone()],
             &self.distances[part],
         ))
+    }
+
+    /// Of this table and a rival's, the row of a node whose first entry is nearer. Document 02 (Ask 1):
+    /// "of an own table and a rival's, the call hands back the row whose first entry is nearer, the own
+    /// one when equal."
+    ///
+    /// The network and K are this table's. That the rival's stands on the same roads is not tested.
+    ///
+    /// ```
+    /// use overlap::{Network, Points, Refusal, Table, NONE};
+    ///
+    /// # fn main() -> Result<(), Refusal> {
+    /// // Network N of document 01.
+    /// let roads = [(0, 1, 4), (0, 3, 5), (1, 2, 3), (2, 4, 7), (3, 4, 3)];
+    /// let network = Network::from_roads(6, &roads)?;
+    /// let own = Table::build(&network, Points::on(&network, [2, 4, 5])?, 2)?;
+    /// let rival = Table::build(&network, Points::on(&network, [0, 2, 3])?, 2)?;
+    ///
+    /// // The rival has a point on node 0. Node 1 has a point of each 3 away: its row is the own one.
+    /// let row = own.nearer_row(&rival, 0)?;
+    /// assert_eq!((row.is_rivals, row.distances), (true, &[0, 5][..]));
+    /// let row = own.nearer_row(&rival, 1)?;
+    /// assert_eq!((row.is_rivals, row.distances), (false, &[3, 10][..]));
+    ///
+    /// // Empty places are NONE: the rival reaches node 5 with no point.
+    /// assert_eq!(own.nearer_row(&rival, 5)?.distances, [0, NONE]);
+    ///
+    /// // A rival's table of another K.
+    /// let three = Table::build(&network, Points::none(&network), 3)?;
+    /// assert_eq!(own.nearer_row(&three, 0), Err(Refusal::Table));
+    /// # Ok(())
+    /// # }
+    /// ```
+    ///
+    /// # Errors
+    ///
+    /// 7 where the node is n or more, 8 where the rival's table has another K or another n.
+    pub fn nearer_row<'a>(
+        &'a self,
+        rival: &'a Self,
+        junction: u32,
+    ) -> Result<NearerRow<'a>, Refusal> {
+        let tables = self.beside(rival);
+        let part = calls::nearer_row_part(self.network.lend(), junction, tables);
+        let distances = part.of(tables)?;
+        Ok(NearerRow {
+            is_rivals: part.rival == 1,
+            distances,
+        })
+    }
+
+    /// This table and a rival's, as a call is lent them. Arrays of another K and another n can be as
+    /// long as these; the rival's are lent as empty ones then, which 8 refuses.
+    fn beside<'a>(&'a self, rival: &'a Self) -> TwoTables<'a> {
+        let size = |table: &Self| (table.places, table.network.nodes());
+        let (rival_ids, rival_distances) = match size(self) == size(rival) {
+            true => (&rival.ids[..], &rival.distances[..]),
+            false => (&[][..], &[][..]),
+        };
+        TwoTables {
+            places: self.places,
+            own_ids: &self.ids,
+            own_distances: &self.distances,
+            rival_ids,
+            rival_distances,
+        }
     }
 
     /// The network.
