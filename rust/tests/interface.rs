@@ -107,6 +107,7 @@ mod header {
             ("overlap_listing", "Listing"),
             ("overlap_verdict", "Verdict"),
             ("overlap_update", "Update"),
+            ("overlap_row_part", "RowPart"),
         ];
         let known = names.into_iter().find(|name| name.0 == of);
         known
@@ -157,12 +158,20 @@ mod header {
     }
 }
 
+/// The engine's calls but those that return a reference, which can't cross the boundary. Such a one is
+/// called within Rattle.
+fn exported() -> BTreeMap<String, Call> {
+    let mut calls = rust::calls(ENGINE);
+    calls.retain(|_, (_, returned)| !returned.starts_with('&'));
+    calls
+}
+
 #[test]
 fn the_calls_are_the_same_in_all_three() {
     let header = header::calls();
-    assert_eq!(header.len(), 13);
+    assert_eq!(header.len(), 17);
     assert_eq!(rust::calls(WRAPPER), header);
-    assert_eq!(rust::calls(ENGINE), header);
+    assert_eq!(exported(), header);
 }
 
 #[test]
@@ -171,6 +180,7 @@ fn the_answers_are_the_same_in_all_three() {
         ("Listing", "overlap_listing", 3),
         ("Verdict", "overlap_verdict", 2),
         ("Update", "overlap_update", 2),
+        ("RowPart", "overlap_row_part", 4),
     ] {
         let header = header::fields(of_header);
         assert_eq!(header.len(), fields);

@@ -407,6 +407,74 @@ mod engine {
         }
     }
 
+    /// Ask 1: compares the list and the sheet with the plain calculation and with the thin calls.
+    #[test]
+    fn and_plain_calculation_agree_on_households() {
+        for seed in 0..2_000 {
+            let mut random = Random::new(seed);
+            let arrays = random_network(&mut random);
+            let pairs = AllPairs::of(arrays.lend());
+            let network = accepted(&arrays).unwrap();
+            let mut engine = Engine::new(&network);
+            for _ in 0..4 {
+                let bytes = [(); 2].map(|()| some_points(&arrays, &mut random));
+                let points = bytes.map(|marks| Points::from_marks(&network, marks).unwrap());
+                let (q, k) = (some_node(&arrays, &mut random), some_k(&mut random));
+                assert_households(&mut engine, &pairs, [&points[0], &points[1]], (q, k));
+            }
+        }
+    }
+
+    fn assert_households(
+        engine: &mut Engine,
+        pairs: &AllPairs,
+        [households, sites]: [&Points; 2],
+        (q, k): (u32, u32),
+    ) {
+        let network = engine.network().clone();
+        let (homes, rivals) = (households.marks(), sites.marks());
+        let list = pairs.plain_households(homes, rivals, q, k);
+        assert_eq!(engine.households(households, sites, q, k), Ok(&list[..]));
+        let by_call = thin(&network, network.scratch_len(k), |s, a| {
+            calls::households(network.lend(), homes, rivals, q, k, s, a)
+        });
+        assert_eq!(by_call, (Ok(()), list, 0));
+        let sheet = pairs.plain_sheet(homes, rivals);
+        assert_eq!(engine.sheet(households, sites), Ok(&sheet[..]));
+    }
+
+    /// "6 covers each byte array [...], in the order lent."
+    #[test]
+    fn refuses_households_that_the_thin_calls_refuse() {
+        let (network, points) = n_and_points();
+        let mut engine = Engine::new(&network);
+        let foreign = Points::none(&Network::from_roads(5, &[]).unwrap());
+        for (households, sites) in [(&foreign, &points), (&points, &foreign)] {
+            let list = engine.households(households, sites, 6, 0);
+            assert_eq!(list, Err(Refusal::Points));
+            let sheet = engine.sheet(households, sites);
+            assert_eq!(sheet, Err(Refusal::Points));
+        }
+        let mut list = |q, k| engine.households(&points, &points, q, k).err();
+        assert_eq!(list(6, 0), Some(Refusal::Node));
+        for k in [0, 17, u32::MAX] {
+            assert_eq!(list(0, k), Some(Refusal::K));
+        }
+    }
+
+    /// "the m of 10 is this k, and 1 for the sheet."
+    #[test]
+    fn has_scratch_of_s_for_households_and_the_sheet() {
+        let (network, points) = n_and_points();
+        let mut engine = Engine::new(&network);
+        assert!(engine.sheet(&points, &points).is_ok());
+        assert_buffers(&engine, network.scratch_len(1), 0);
+        for k in 1..=16 {
+            assert!(engine.households(&points, &points, 0, k).is_ok());
+            assert_buffers(&engine, network.scratch_len(k), 0);
+        }
+    }
+
     #[test]
     fn refuses_what_the_thin_calls_refuse() {
         let (network, points) = n_and_points();
@@ -678,6 +746,52 @@ mod table {
     }
 
     /// A clone of the points, or of the table, goes its own way.
+    /// Ask 1: the row is a part of one of the two tables, the own one when they are equally near.
+    #[test]
+    fn and_a_rivals_give_the_nearer_row() {
+        let mut rivals = 0;
+        for seed in 0..2_000 {
+            let mut random = Random::new(seed);
+            let arrays = random_network(&mut random);
+            let (network, places) = (accepted(&arrays).unwrap(), some_places(&mut random));
+            let [own, rival] = [(); 2].map(|()| {
+                let marks = some_points(&arrays, &mut random);
+                let points = Points::from_marks(&network, marks).unwrap();
+                Table::build(&network, points, places).unwrap()
+            });
+            for node in 0..network.nodes() {
+                let first = |table: &Table| table.lend().distances[(node * places) as usize];
+                let is_rivals = first(&rival) < first(&own);
+                let of = if is_rivals { &rival } else { &own };
+                let row = own.nearer_row(&rival, node).unwrap();
+                assert_eq!(row.is_rivals, is_rivals);
+                let part = &of.lend().distances[(node * places) as usize..];
+                assert_eq!(row.distances.as_ptr(), part.as_ptr());
+                assert_eq!(row.distances, &part[..places as usize]);
+                rivals += usize::from(is_rivals);
+            }
+            let none = no_node(&arrays, &mut random);
+            assert_eq!(own.nearer_row(&rival, none), Err(Refusal::Node));
+        }
+        assert!(rivals >= 2_000, "{rivals}");
+    }
+
+    /// A rival's table of another K or n, also where its arrays are as long.
+    #[test]
+    fn refuses_a_rivals_of_another_size() {
+        let table = |nodes, places| {
+            let network = Network::from_roads(nodes, &[]).unwrap();
+            Table::build(&network, Points::none(&network), places).unwrap()
+        };
+        let own = table(6, 2);
+        for (nodes, places) in [(6, 3), (5, 2), (7, 2), (4, 3), (3, 4), (2, 6)] {
+            let rival = table(nodes, places);
+            assert_eq!(own.nearer_row(&rival, 0), Err(Refusal::Table));
+            assert_eq!(own.nearer_row(&rival, 6), Err(Refusal::Node));
+        }
+        assert!(own.nearer_row(&table(6, 2), 5).is_ok());
+    }
+
     #[test]
     fn is_not_changed_by_clones() {
         let (network, points) = n_and_points();
@@ -712,7 +826,7 @@ mod refusals {
     }
 
     /// The column "Condition" of document 01's table of refusals, 10 with the length of Ask 5 and the
-    /// array of Ask 4, 6 and 11 with the bounds of Ask 8.
+    /// array of Ask 4, 6 and 11 with the bounds of Ask 8, 6 with the arrays of Ask 1.
     #[test]
     fn have_the_wording_of_document_01() {
         let conditions = [
@@ -721,7 +835,7 @@ mod refusals {
             "a neighbour is n or more, is its own node, or doesn't rise strictly within a node",
             "a weight is 0 or above 65,535",
             "an arc lacks its return of equal weight",
-            "points has not n entries, or a byte above 15",
+            "points (or households, or sites) has not n entries, or a byte above 15",
             "a node given is n or more",
             "K not 2 to 17, or a table array not n × K long",
             "k is 0 or above 16; by table, above K - 1",

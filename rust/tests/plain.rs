@@ -13,7 +13,7 @@ use common::rows::{relaxed_row, row_of};
 use common::shapes::random_network;
 use common::table::PlainTable;
 use overlap::calls::{accepted, eager_scratch_len, meaning, scratch_len};
-use overlap::calls::{Listing, Network, Update, Verdict, NONE};
+use overlap::calls::{Listing, Network, RowPart, Update, Verdict, NONE};
 
 /// The cases of document 01.
 mod cases {
@@ -180,6 +180,67 @@ mod lockers {
     }
 }
 
+/// Ask 1, one household and one site after another.
+mod households {
+    use super::*;
+
+    /// The nodes of all households, or of all sites, ascending.
+    fn all(bytes: &[u8]) -> Vec<u32> {
+        let of_node = |(node, &byte): (u32, &u8)| std::iter::repeat_n(node, byte.into());
+        (0..).zip(bytes).flat_map(of_node).collect()
+    }
+
+    /// The nodes of the households that are listed: "it can be reached and fewer than k sites are
+    /// strictly nearer to it than q".
+    fn listed(pairs: &AllPairs, bytes: [&[u8]; 2], q: u32, k: u32) -> Vec<u32> {
+        let [households, sites] = bytes.map(all);
+        let is_listed = |&h: &u32| {
+            let far = pairs.plain_distances(h);
+            let to_q = far[q as usize];
+            let nearer = sites.iter().filter(|&&t| far[t as usize] < to_q).count();
+            to_q != NONE && nearer < k as usize
+        };
+        households.into_iter().filter(is_listed).collect()
+    }
+
+    #[test]
+    fn give_the_lists_and_the_sheet() {
+        let (mut several, mut shared) = (0, 0);
+        for seed in 0..4_000 {
+            let mut random = Random::new(seed);
+            let network = random_network(&mut random);
+            let pairs = AllPairs::of(network.lend());
+            let bytes = [(); 2].map(|()| some_points(&network, &mut random));
+            let [households, sites] = [&bytes[0][..], &bytes[1]];
+            let (q, k) = (some_node(&network, &mut random), some_k(&mut random));
+            let mut list = listed(&pairs, [households, sites], q, k);
+            let length = list.len();
+            list.dedup();
+            several += usize::from(length > list.len());
+            assert_eq!(pairs.plain_households(households, sites, q, k), list);
+            let entry = |q: u32| match sites[q as usize] {
+                0 => 0,
+                _ => listed(&pairs, [households, sites], q, 1).len() as u32,
+            };
+            let sheet: Vec<u32> = (0..sites.len() as u32).map(entry).collect();
+            assert_eq!(pairs.plain_sheet(households, sites), sheet);
+            shared += usize::from(sheet.iter().sum::<u32>() as usize > all(households).len());
+        }
+        assert!(several >= 300 && shared >= 100, "{several}, {shared}");
+    }
+
+    /// Network N with its points as sites, by hand.
+    #[test]
+    fn of_network_n() {
+        let (pairs, sites) = (AllPairs::of(network_n().lend()), marks(N_NODES, &N_POINTS));
+        let homes = [1, 2, 0, 1, 0, 3];
+        let list = |q, k| pairs.plain_households(&homes, &sites, q, k);
+        assert_eq!([list(0, 1), list(2, 1)], [vec![0], vec![0, 1]]);
+        assert_eq!([list(0, 2), list(5, 1)], [vec![0, 1, 3], vec![5]]);
+        assert_eq!(pairs.plain_sheet(&homes, &sites), [0, 0, 3, 0, 1, 3]);
+    }
+}
+
 /// The distances of one node.
 mod rows {
     use super::*;
@@ -220,6 +281,9 @@ mod nearest_rows {
             assert_eq!(list, pairs.plain_listed(&points, q, k), "{network:?}");
             let visits = nearest.visits(pairs.row(q), k);
             assert_eq!(visits, pairs.plain_visits(&points, q, k), "{network:?}");
+            let homes = some_points(&network, &mut random);
+            let list = nearest.households(pairs.row(q), &homes, k);
+            assert_eq!(list, pairs.plain_households(&homes, &points, q, k));
         }
     }
 }
@@ -317,6 +381,15 @@ mod answers {
         for changed in [0, 4] {
             assert_eq!(Update { number: 0, changed }.accepted(), Ok(changed));
         }
+        for rival in [0, 1] {
+            let part = RowPart {
+                number: 0,
+                rival,
+                start: 4,
+                length: 2,
+            };
+            assert_eq!(part.accepted(), Ok(part));
+        }
     }
 
     #[test]
@@ -332,8 +405,14 @@ mod answers {
             assert_eq!(listing.accepted(), Err(refusal));
             assert_eq!(Verdict { number, yes: 0 }.accepted(), Err(refusal));
             assert_eq!(Update { number, changed: 0 }.accepted(), Err(refusal));
+            let part = RowPart {
+                number,
+                ..RowPart::default()
+            };
+            assert_eq!(part.accepted(), Err(refusal));
         }
     }
+
     /// No call returns such a number.
     #[test]
     fn a_number_that_document_01_has_not_is_none() {

@@ -324,7 +324,7 @@ mod messages {
             (point("6"), "line 1: there is no junction 6: they are 0 to 5"),
             (
                 point(&"5\n".repeat(17)),
-                "line 16: junction 5 has 15 lockers already, and a junction has at most 15",
+                "line 16: junction 5 has 15 already, and a junction has at most 15",
             ),
             (
                 road(""),

@@ -54,7 +54,7 @@ mod numbers {
 
     /// The numbers of all calls that are lent points but those that 11 can refuse. What the table
     /// holds is no condition.
-    fn of_others(points: &[u8]) -> [u32; 8] {
+    fn of_others(points: &[u8]) -> [u32; 12] {
         let network = network_n();
         let (lent, mut s, mut a) = (network.lend(), vec![0; network.scratch_len(2)], [0; 6]);
         let small = network.eager_scratch_len();
@@ -77,6 +77,12 @@ mod numbers {
         };
         let table_query = calls::table_query(lent, points, 0, 1, table, s, a).number;
         let table_check = calls::table_check(lent, points, table).number;
+        // Ask 1: "6 covers each byte array".
+        let good = &[1; 6];
+        let households = calls::households(lent, points, good, 0, 2, s, a).number;
+        let of_sites = calls::households(lent, good, points, 0, 2, s, a).number;
+        let sheet = calls::sheet(lent, points, good, s, a);
+        let sheet_of_sites = calls::sheet(lent, good, points, s, a);
         [
             nearest,
             eager,
@@ -86,6 +92,10 @@ mod numbers {
             build,
             table_query,
             table_check,
+            households,
+            of_sites,
+            sheet,
+            sheet_of_sites,
         ]
     }
 
@@ -122,7 +132,7 @@ mod numbers {
                 15 => (0, [0, 11, 0]),
                 _ => (6, [6; 3]),
             };
-            assert_eq!(of_others(&points), [others; 8], "byte {byte}");
+            assert_eq!(of_others(&points), [others; 12], "byte {byte}");
             assert_eq!(on_node_3(&points), verify_insert_remove, "byte {byte}");
         }
     }

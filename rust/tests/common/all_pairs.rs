@@ -1,7 +1,8 @@
 //! All distances of a small network, by a plain all-pairs calculation in 64-bit numbers, and what
 //! document 01 says by them.
 
-use super::rows::{distances_in, expanded_in, in_order, nearest_in, verify_in, Near, Row};
+use super::rows::{distances_in, expanded_in, household_in, in_order, nearest_in, verify_in};
+use super::rows::{Near, Row};
 use overlap::calls::Network;
 
 /// The row of each node.
@@ -65,9 +66,32 @@ impl AllPairs {
         in_order(self.row(q), self.nodes().filter(is_counted))
     }
 
+    /// Ask 1: the nodes whose households are listed for q and k. Ask 8: "A node is listed once".
+    pub fn plain_households(&self, households: &[u8], sites: &[u8], q: u32, k: u32) -> Vec<u32> {
+        let is_listed =
+            |&h: &u32| households[h as usize] > 0 && household_in(self.row(h), sites, q, k);
+        self.nodes().filter(is_listed).collect()
+    }
+
+    /// Ask 1: "for each node, the length of the list of a site there, 0 without a site, with the k of
+    /// the short query." Ask 8: "A sheet's length counts each household on a listed node."
+    pub fn plain_sheet(&self, households: &[u8], sites: &[u8]) -> Vec<u32> {
+        let entry = |q: u32| match sites[q as usize] {
+            0 => 0,
+            _ => counted(households, &self.plain_households(households, sites, q, 1)),
+        };
+        self.nodes().map(entry).collect()
+    }
+
     fn nodes(&self) -> std::ops::Range<u32> {
         0..self.rows.len() as u32
     }
+}
+
+/// How many households are on these nodes.
+pub fn counted(households: &[u8], list: &[u32]) -> u32 {
+    let on_node = |&h: &u32| u32::from(households[h as usize]);
+    list.iter().map(on_node).sum()
 }
 
 /// The rows by walks of at most one arc.

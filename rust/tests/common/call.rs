@@ -13,7 +13,7 @@ use super::numbers::plain_scratch_len;
 use super::random::Random;
 use super::shapes::random_network;
 use super::tally::Tally;
-use overlap::calls::{Listing, Update, Verdict};
+use overlap::calls::{Listing, RowPart, Update, Verdict};
 
 /// What a call returns: its number alone, or one of the structs of `overlap.h`.
 pub trait Answer: PartialEq + Debug {
@@ -49,6 +49,18 @@ impl Answer for Update {
     }
 }
 
+/// Ask 1: "on a refusal an empty part".
+impl Answer for RowPart {
+    fn refusal(number: u32) -> Self {
+        Self {
+            number,
+            rival: 0,
+            start: 0,
+            length: 0,
+        }
+    }
+}
+
 /// Everything that a call is lent, and what document 01 says of it.
 pub trait Call: Clone + 'static {
     /// What the call returns.
@@ -79,8 +91,13 @@ pub trait Call: Clone + 'static {
 
     fn network_mut(&mut self) -> &mut OwnedNetwork;
 
-    /// The lent bytes, if the call is lent any.
+    /// The lent bytes, if the call is lent any: its points, or its households.
     fn points(&self) -> &[u8] {
+        &[]
+    }
+
+    /// The lent bytes behind its households.
+    fn sites(&self) -> &[u8] {
         &[]
     }
 
@@ -121,7 +138,12 @@ pub trait Call: Clone + 'static {
             .map(|(name, array)| (*name, array.len()))
             .collect();
         let (points, network) = (shown_points(self.points()), shown(self.network().lend()));
-        format!("{}, lengths {lengths:?}, {points}, {network}", self.asked())
+        let sites = match self.sites() {
+            [] => String::new(),
+            sites => format!("sites {}, ", shown_points(sites)),
+        };
+        let asked = self.asked();
+        format!("{asked}, lengths {lengths:?}, {points}, {sites}{network}")
     }
 }
 
@@ -133,6 +155,7 @@ pub fn assert_outcome<C: Call>(mut call: C, (answer, left): &Outcome<C>) {
     assert_eq!(call.run(), *answer, "{}", left.story());
     assert_eq!(call.network(), left.network(), "{}", left.story());
     assert_eq!(call.points(), left.points(), "{}", left.story());
+    assert_eq!(call.sites(), left.sites(), "{}", left.story());
     for ((name, is), (_, wanted)) in call.arrays().into_iter().zip(left.arrays()) {
         assert_eq!(is.difference(wanted), None, "{name}, {}", left.story());
     }

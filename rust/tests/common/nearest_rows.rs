@@ -1,5 +1,5 @@
-//! The nearest points of each node of a network that may be too large for all pairs, and the lists
-//! of document 01 and the visits of Ask 4 by them.
+//! The nearest points of each node of a network that may be too large for all pairs, and by them the
+//! lists of document 01, the visits of Ask 4 and the households of Ask 1.
 
 use super::rows::{in_order, Row};
 use overlap::calls::Network;
@@ -92,6 +92,17 @@ impl NearestRows {
         let is_counted =
             |&m: &u32| from_q[m as usize].is_some_and(|to_q| self.nearer(m, to_q) < k as usize);
         in_order(from_q, self.nodes().filter(is_counted))
+    }
+
+    /// Ask 1: the nodes whose households are listed for q, whose row of distances is given, and k. The
+    /// points are the sites.
+    pub fn households(&self, from_q: &Row, households: &[u8], k: u32) -> Vec<u32> {
+        assert!(self.most >= k as usize);
+        let is_listed = |&h: &u32| {
+            let nearer = from_q[h as usize].map(|to_q| self.nearer(h, to_q));
+            households[h as usize] > 0 && nearer.is_some_and(|sites| sites < k as usize)
+        };
+        self.nodes().filter(is_listed).collect()
     }
 
     /// How many lockers of the node's row are nearer than the bound.

@@ -107,6 +107,72 @@ pub fn search_number(
     }
 }
 
+/// Households: the conditions 1 to 7, 9 and 10, "the m of 10 is this k". Scratch and answers are given
+/// by their lengths.
+pub fn households_number(
+    network: Network<'_>,
+    bytes: [&[u8]; 2],
+    (q, k): (u32, u32),
+    lengths: (usize, usize),
+) -> u32 {
+    let of_bytes = bytes_number(network, bytes);
+    if of_bytes != 0 {
+        of_bytes
+    } else if is_no_node(network, q) {
+        7
+    } else if is_no_k(k) {
+        9
+    } else {
+        short_number(network, k, lengths)
+    }
+}
+
+/// Sheet: the conditions 1 to 6 and 10, "the m of 10 is [...] 1 for the sheet". Scratch and answers are
+/// given by their lengths.
+pub fn sheet_number(network: Network<'_>, bytes: [&[u8]; 2], lengths: (usize, usize)) -> u32 {
+    match bytes_number(network, bytes) {
+        0 => short_number(network, 1, lengths),
+        number => number,
+    }
+}
+
+/// The first condition met of 1 to 6, or 0. Ask 1: "6 covers each byte array, [...] in the order lent."
+fn bytes_number(network: Network<'_>, [households, sites]: [&[u8]; 2]) -> u32 {
+    match points_number(network, households) {
+        0 => points_number(network, sites),
+        number => number,
+    }
+}
+
+/// 10: "scratch shorter than S, or an array for answers shorter than n", or 0.
+fn short_number(network: Network<'_>, m: u32, (scratch, answers): (usize, usize)) -> u32 {
+    if scratch < plain_scratch_len(network, m) || answers < node_count(network) {
+        10
+    } else {
+        0
+    }
+}
+
+/// The nearer row: the conditions 1 to 5, 7 and 8, "8 [covers] each table, in the order lent". One K;
+/// the lengths are those of the own ids and distances and then of the rival's.
+pub fn nearer_row_number(
+    network: Network<'_>,
+    junction: u32,
+    places: u32,
+    [own, rivals]: [[usize; 2]; 2],
+) -> u32 {
+    let of_network = plain_check(network);
+    if of_network != 0 {
+        of_network
+    } else if is_no_node(network, junction) {
+        7
+    } else if is_no_table(network, (places, own)) || is_no_table(network, (places, rivals)) {
+        8
+    } else {
+        0
+    }
+}
+
 /// What the conditions are asked of a table: its K and the lengths of ids and distances.
 pub type TableSizes = (u32, [usize; 2]);
 

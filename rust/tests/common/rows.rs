@@ -84,6 +84,16 @@ pub fn expanded_in(row: &Row, points: &[u8], q: u32, k: u32) -> bool {
     lockers_nearer(row, points, to_q) < k as usize
 }
 
+/// The row is that of a household. Ask 1: "A household is listed for q exactly if it can be reached and
+/// fewer than k sites are strictly nearer to it than q". Ask 8: lockers count, "as Ask 1 counts
+/// households and sites".
+pub fn household_in(row: &Row, sites: &[u8], q: u32, k: u32) -> bool {
+    let Some(to_q) = row[q as usize] else {
+        return false;
+    };
+    lockers_nearer(row, sites, to_q) < k as usize
+}
+
 /// The row is that of the site: these nodes "by distance from the site and then by node".
 pub fn in_order(row: &Row, nodes: impl Iterator<Item = u32>) -> Vec<u32> {
     let mut visits: Vec<_> = nodes.map(|m| (row[m as usize], m)).collect();
