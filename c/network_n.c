@@ -5,20 +5,24 @@
  *     cc -std=c11 -Wall -Wextra -Wpedantic -Werror -Iinclude c/network_n.c target/staticlib/liboverlap.a -o target/network_n
  *     target/network_n
  *
- * The gate compares the output with network_n.expected, which is worked out from document 01 and Asks 4, 6 and 8 of document 02.
+ * The gate compares the output with network_n.expected, which is worked out from document 01 and Asks 1, 4, 6 and 8 of
+ * document 02.
  *
  * What a caller lends, by the names of overlap.h. n is the number of nodes, A that of arcs; a road is two arcs, one from each end:
  *
  *     starts                n + 1 words; the arcs of node i are those from starts[i] up to, not including, starts[i + 1]
  *     neighbours, weights   A words each: the node that the arc leads to, ascending within a node, and its weight, 1 to 65,535
  *     points                n bytes: the number of points (lockers) on each node, 0 to 15
+ *     households, sites     n bytes each, laid out as points
  *     scratch               SCRATCH_LEN (below) words or more, for eager, verify and the short query EAGER_SCRATCH_LEN, of any contents; a call
  *                           that is accepted leaves them all 0
- *     answers               n words or more; the list stands in the first `length`, without the points on q itself; distances fill n
+ *     answers               n words or more; the list stands in the first `length`, without the points on q itself, though with the
+ *                           households on q; distances and the sheet fill n
  *     visits                n words or more; the nodes that eager's count counts stand in the first `count`, by distance from q and then by
  *                           node
  *     ids, distances        of nearest k words each or more; of a table n x K words each, row i from i x K on, and `places` is K; a node with
  *                           several lockers comes as often, as far as there is room
+ *     own_.., rival_..      the ids and distances of two tables of one K
  *
  * The library allocates nothing and keeps nothing between calls. A pointer is valid for its length, and not null where that is 0. An array
  * that is not const is lent to one call alone and overlaps no other array of it. What the arrays hold is tested by the call. From C++,
@@ -31,7 +35,7 @@
  *      3  a neighbour is n or more, is its own node, or doesn't rise strictly within a node
  *      4  a weight is 0 or above 65,535
  *      5  an arc lacks its return of equal weight
- *      6  points has not n entries, or a byte above 15
+ *      6  points (or households, or sites) has not n entries, or a byte above 15
  *      7  a node given is n or more
  *      8  K not 2 to 17, or a table array not n x K long
  *      9  k is 0 or above 16; by table, above K - 1
@@ -41,7 +45,7 @@
  *     12  eager: the expanded count would exceed the limit
  *
  * Insert, remove and table query don't test the table that they are lent: lend one that build has written and insert and remove have
- * changed, with the same points, or ask the table check first.
+ * changed, with the same points, or ask the table check first. Nor does the nearer row, of whose tables the first distances alone decide.
  */
 #include "overlap.h"
 
@@ -52,7 +56,8 @@
 enum { NODES = 6, ARCS = 10, MOST_PLACES = 3 };
 
 /* Document 01: "Length S = 16 x n + 8 x (A + n) x m entries; m is the k of a search, verify or nearest call (1 for the short query), K for
- * build, insert and remove, and 1 for distances." "Both checks have no scratch." */
+ * build, insert and remove, and 1 for distances." "Both checks have no scratch." Document 02 (Ask 1): "For the list, k is 1 to 16; the m of 10
+ * is this k, and 1 for the sheet." The nearer row has no scratch. */
 #define SCRATCH_LEN(n, arcs, m) (16 * (n) + 8 * ((arcs) + (n)) * (m))
 
 /* Document 02 (Ask 5): "Eager, verify and the short query shall work with 12 x n entries for every k." It is never more than S. */
@@ -299,6 +304,45 @@ static void print_table(void)
     print_check(points, ids, distances);
 }
 
+static const uint8_t households[NODES] = { 1, 2, 0, 1, 0, 3 };
+
+/* The households that each site wins. The sites are the points of N. */
+static void print_households(void)
+{
+    /* A site and a k each. */
+    static const uint32_t asked[][2] = { { 0, 1 }, { 0, 2 }, { 2, 1 }, { 4, 1 }, { 5, 1 } };
+    uint32_t answers[NODES];
+    printf("\nHouseholds 1, 2, 0, 1, 0, 3; sites on 2, 4 and 5\n");
+    for (size_t i = 0; i < 5; i++) {
+        uint32_t q = asked[i][0], k = asked[i][1];
+        printf("site %u, k %u: ", (unsigned)q, (unsigned)k);
+        print_list(overlap_households(LEND_NETWORK(n), LEND(households), LEND(n_points), q, k, LEND_SCRATCH, LEND(answers)), answers);
+        printf("\n");
+    }
+    expect_accepted(overlap_sheet(LEND_NETWORK(n), LEND(households), LEND(n_points), LEND_SCRATCH, LEND(answers)));
+    printf("sheet: ");
+    print_words(answers, NODES);
+    printf("\n");
+}
+
+/* Of the table of N and a rival's, the row of each junction whose first entry is nearer. */
+static void print_nearer_rows(void)
+{
+    static const uint8_t rival_points[NODES] = { 1, 0, 1, 1, 0, 0 };
+    uint32_t own_ids[NODES * 2], own_distances[NODES * 2], rival_ids[NODES * 2], rival_distances[NODES * 2];
+    printf("\nThe nearer row, K = 2, the rival's points on 0, 2 and 3\n");
+    expect_accepted(overlap_build(LEND_NETWORK(n), LEND(n_points), 2, LEND_SCRATCH, LEND(own_ids), LEND(own_distances)));
+    expect_accepted(overlap_build(LEND_NETWORK(n), LEND(rival_points), 2, LEND_SCRATCH, LEND(rival_ids), LEND(rival_distances)));
+    for (uint32_t junction = 0; junction < NODES; junction++) {
+        overlap_row_part part = overlap_nearer_row_part(LEND_NETWORK(n), junction, 2, LEND(own_ids), LEND(own_distances),
+                                                        LEND(rival_ids), LEND(rival_distances));
+        expect_accepted(part.number);
+        printf("of %u: %s ", (unsigned)junction, part.rival ? "the rival's" : "own");
+        print_words((part.rival ? rival_distances : own_distances) + part.start, part.length);
+        printf("\n");
+    }
+}
+
 static void print_number(uint32_t number, const char *example)
 {
     printf("%u: %s\n", (unsigned)number, example);
@@ -342,6 +386,19 @@ static void print_other_numbers(void)
                  "N, q = 0, k = 2, limit 3");
 }
 
+/* Ask 1: "6 covers each byte array, 8 each table, in the order lent." */
+static void print_numbers_of_rivals(void)
+{
+    static const uint8_t byte_16[NODES] = { 0, 0, 16, 0, 0, 0 };
+    uint32_t answers[NODES], ids[NODES * 2], distances[NODES * 2];
+    expect_accepted(overlap_build(LEND_NETWORK(n), LEND(n_points), 2, LEND_SCRATCH, LEND(ids), LEND(distances)));
+    print_number(overlap_households(LEND_NETWORK(n), LEND(byte_16), LEND(n_points), 0, 1, LEND_SCRATCH, LEND(answers)).number,
+                 "N, household byte 16");
+    print_number(overlap_sheet(LEND_NETWORK(n), LEND(households), LEND(byte_16), LEND_SCRATCH, LEND(answers)), "N, site byte 16");
+    print_number(overlap_nearer_row_number(LEND_NETWORK(n), 0, 2, LEND(ids), LEND(distances), ids, 11, LEND(distances)),
+                 "N, K = 2, 11 ids of the rival's");
+}
+
 int main(void)
 {
     print_picture();
@@ -350,8 +407,11 @@ int main(void)
     print_verdicts();
     print_cases();
     print_table();
+    print_households();
+    print_nearer_rows();
     printf("\nNumbers of refusal, by the example of each\n");
     print_network_numbers();
     print_other_numbers();
+    print_numbers_of_rivals();
     return EXIT_SUCCESS;
 }

@@ -1,6 +1,6 @@
 //! Network N of document 01 through every call. It prints what `c/network_n.c` prints, and
 //! `tests/network_n.rs` compares the output with `c/network_n.expected`, which is worked out from
-//! document 01 and Asks 4, 6 and 8 of document 02.
+//! document 01 and Asks 1, 4, 6 and 8 of document 02.
 //!
 //! Run it with `cargo run --release --example network_n`.
 
@@ -159,6 +159,33 @@ fn print_table(network: &Network, points: &Points, out: &mut impl Write) -> Done
     print_rows(&table, 0..4, out)
 }
 
+/// Sites against a rival's: the households that each site wins, and the nearer row of two tables. The
+/// sites are the points of N.
+fn print_rivals(engine: &mut Engine, sites: &Points, out: &mut impl Write) -> Done {
+    let network = engine.network().clone();
+    let households = Points::from_marks(&network, vec![1, 2, 0, 1, 0, 3])?;
+    writeln!(out, "\nHouseholds 1, 2, 0, 1, 0, 3; sites on 2, 4 and 5")?;
+    for (q, k) in [(0, 1), (0, 2), (2, 1), (4, 1), (5, 1)] {
+        let list = words(engine.households(&households, sites, q, k)?);
+        writeln!(out, "site {q}, k {k}: {{{list}}}")?;
+    }
+    let sheet = words(engine.sheet(&households, sites)?);
+    writeln!(out, "sheet: {sheet}")?;
+
+    writeln!(
+        out,
+        "\nThe nearer row, K = 2, the rival's points on 0, 2 and 3"
+    )?;
+    let own = Table::build(&network, sites.clone(), 2)?;
+    let rival = Table::build(&network, Points::on(&network, [0, 2, 3])?, 2)?;
+    for junction in 0..6 {
+        let row = own.nearer_row(&rival, junction)?;
+        let whose = if row.is_rivals { "the rival's" } else { "own" };
+        writeln!(out, "of {junction}: {whose} {}", words(row.distances))?;
+    }
+    Ok(())
+}
+
 /// The number of a call: 0, or that of its refusal.
 fn number<Answer>(answer: Result<Answer, Refusal>) -> u32 {
     answer.err().map_or(0, Refusal::number)
@@ -215,6 +242,36 @@ fn print_other_numbers(engine: &mut Engine, points: &Points, out: &mut impl Writ
     Ok(())
 }
 
+/// Ask 1: "6 covers each byte array, 8 each table, in the order lent." The types hold such arrays only,
+/// so these are thin calls.
+fn print_numbers_of_rivals(engine: &mut Engine, points: &Points, out: &mut impl Write) -> Done {
+    let network = engine.network().clone();
+    let (lent, sites) = (network.lend(), points.marks());
+    let (mut scratch, mut answers) = (vec![0; network.scratch_len(1)], [0; 6]);
+    let (s, a) = (&mut scratch[..], &mut answers[..]);
+    let byte_16 = [0, 0, 16, 0, 0, 0];
+    let by_household = calls::households(lent, &byte_16, sites, 0, 1, s, a).number;
+    let by_site = calls::sheet(lent, &[1; 6], &byte_16, s, a);
+    let own = Table::build(&network, points.clone(), 2)?;
+    let table = own.lend();
+    let short = calls::TwoTables {
+        places: 2,
+        own_ids: table.ids,
+        own_distances: table.distances,
+        rival_ids: &table.ids[..11],
+        rival_distances: table.distances,
+    };
+    let by_rival = calls::nearer_row_number(lent, 0, short);
+    for (number, example) in [
+        (by_household, "N, household byte 16"),
+        (by_site, "N, site byte 16"),
+        (by_rival, "N, K = 2, 11 ids of the rival's"),
+    ] {
+        writeln!(out, "{number}: {example}")?;
+    }
+    Ok(())
+}
+
 /// Prints all.
 pub fn print(out: &mut impl Write) -> Done {
     let network = network_with(7)?;
@@ -226,9 +283,11 @@ pub fn print(out: &mut impl Write) -> Done {
     print_verdicts(&mut engine, &points, out)?;
     print_cases(&mut engine, &points, out)?;
     print_table(&network, &points, out)?;
+    print_rivals(&mut engine, &points, out)?;
     writeln!(out, "\nNumbers of refusal, by the example of each")?;
     print_network_numbers(out)?;
-    print_other_numbers(&mut engine, &points, out)
+    print_other_numbers(&mut engine, &points, out)?;
+    print_numbers_of_rivals(&mut engine, &points, out)
 }
 
 fn main() -> Done {

@@ -70,6 +70,24 @@ mod samples {
         assert_eq!(output, (0, expected, String::new()));
     }
 
+    /// The options that name the households and sites of sample data.
+    fn of_market(name: &str) -> [String; 4] {
+        let file = |kind: &str| data(&format!("{name}.{kind}"));
+        let (households, sites) = (file("households"), file("sites"));
+        ["--households".into(), households, "--sites".into(), sites]
+    }
+
+    /// The households that each site wins come behind the table.
+    #[test]
+    fn the_town_with_households_for_k_2() {
+        let market = of_market("town");
+        let market = market.each_ref().map(String::as_str);
+        let output = run_sample("town", &[&["--k", "2", "--K", "4"], &market[..]].concat());
+        let won = include_str!("../examples/data/town.households.expected");
+        let expected = include_str!("../examples/data/town.expected").to_string() + won;
+        assert_eq!(output, (0, expected, String::new()));
+    }
+
     fn shown(nodes: &[u32]) -> String {
         let texts: Vec<String> = nodes.iter().map(u32::to_string).collect();
         match texts.is_empty() {
@@ -89,6 +107,14 @@ mod samples {
     fn visits_line(pairs: &AllPairs, points: &Points, q: u32, k: u32) -> String {
         let visits = shown(&pairs.plain_visits(points.marks(), q, k));
         format!("{q:<6} {visits}\n")
+    }
+
+    /// The line of a site's households.
+    fn market_line(pairs: &AllPairs, market: [&[u8]; 2], q: u32, k: u32) -> String {
+        let [households, sites] = market;
+        let list = shown(&pairs.plain_households(households, sites, q, k));
+        let entry = pairs.plain_sheet(households, sites)[q as usize];
+        format!("{q:<6} {entry:<7} {list}\n")
     }
 
     /// The lines of the table.
@@ -136,6 +162,29 @@ mod samples {
         }
     }
 
+    /// All sites and all k of the town, by the plain all-pairs calculation.
+    #[test]
+    fn all_lines_of_households_are_those_of_the_plain_calculation() {
+        let read = |kind: &str| fs::read_to_string(data(&format!("town.{kind}"))).unwrap();
+        let network = read_network(&read("roads")).unwrap();
+        let points = |kind| read_points(&read(kind), &network).unwrap();
+        let (households, sites) = (points("households"), points("sites"));
+        let pairs = AllPairs::of(network.lend());
+        let market = of_market("town");
+        let market = market.each_ref().map(String::as_str);
+        for k in 1..=16 {
+            let bytes = [households.marks(), sites.marks()];
+            let lines = (0..network.nodes()).map(|q| market_line(&pairs, bytes, q, k));
+            let heading = format!("\nsite   sheet   households for k = {k}\n");
+            let expected: String = std::iter::once(heading).chain(lines).collect();
+            let text = k.to_string();
+            let options = [&["--visits", "--k", &text], &market[..]].concat();
+            let (status, out, _) = run_sample("town", &options);
+            assert_eq!(status, 0);
+            assert!(out.ends_with(&expected), "k {k}: {out}");
+        }
+    }
+
     #[test]
     fn chosen_sites_only() {
         let (status, out, _) = run_sample("n", &["--site", "5", "--site", "0"]);
@@ -145,6 +194,14 @@ mod samples {
         let (status, out, _) = run_sample("n", &["--site", "4", "--visits", "--site", "2"]);
         assert_eq!(status, 0);
         assert!(out.contains("visits for k = 1\n4      4, 3\n2      2, 1, 0\n\ntable"));
+        // The points of N as sites, and a household on each of them.
+        let points = data("n.points");
+        let market = ["--site", "2", "--households", &points, "--sites", &points];
+        let (status, out, _) = run_sample("n", &market);
+        assert_eq!(status, 0);
+        let won = "households  2, 4, 5\nsites       2, 4, 5\n\n\
+            site   sheet   households for k = 1\n2      1       2\n";
+        assert!(out.ends_with(won), "{out}");
     }
 }
 
@@ -168,10 +225,15 @@ mod messages {
         let message = format!("{points}, line 3: there is no junction 6: they are 0 to 5");
         assert_message(&[&data("n.roads"), &points], 1, &message);
         let full = file("full.points", &b"2\n".repeat(16));
-        let message = format!(
-            "{full}, line 16: junction 2 has 15 lockers already, and a junction has at most 15"
-        );
+        let message =
+            format!("{full}, line 16: junction 2 has 15 already, and a junction has at most 15");
         assert_message(&[&data("n.roads"), &full], 1, &message);
+        let (roads, good) = (data("n.roads"), data("n.points"));
+        for [households, sites] in [[&full, &good], [&good, &full]] {
+            let market = ["--households", households, "--sites", sites];
+            let arguments = [&[&roads[..], &good[..]], &market[..]].concat();
+            assert_message(&arguments, 1, &message);
+        }
         let binary = file("binary.roads", b"# \xff\n0 1 \xff\n");
         let message = "line 2: `\u{fffd}` is not a whole number from 0 to 4,294,967,295";
         assert_message(&[&binary, "none"], 1, &format!("{binary}, {message}"));
@@ -220,7 +282,8 @@ mod messages {
 
     #[test]
     fn explain_the_command_line() {
-        let usage = "usage: roads ROADS POINTS [--site q].. [--k k] [--K K] [--visits]";
+        let usage = "usage: roads ROADS POINTS [--site q].. [--k k] [--K K] [--visits] \
+                     [--households FILE --sites FILE]";
         let assert_usage = |arguments: &[&str], message: &str| {
             assert_message(arguments, 2, &format!("{message}\n{usage}"));
         };
@@ -232,7 +295,12 @@ mod messages {
             assert_usage(&["a", "b", "--site", value], &message);
         }
         assert_usage(&["a", "b", "-k", "2"], "no option -k");
-        assert_usage(&["a", "b", "--sites", "2"], "no option --sites");
+        for option in ["--households", "--sites"] {
+            assert_usage(&["a", "b", option], &format!("{option} needs a file"));
+            let alone = "--households and --sites come together";
+            assert_usage(&["a", "b", option, "c"], alone);
+        }
+        assert_usage(&["a", "b", "--household", "c"], "no option --household");
         assert_usage(&["a", "b", "--visit"], "no option --visit");
         assert_usage(&["a", "b", "--visits", "2"], "two files are needed");
         for help in ["--help", "-h"] {

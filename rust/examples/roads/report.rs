@@ -1,13 +1,14 @@
 //! What the program prints. `tests/roads.rs` includes this file and compares the output.
 
 use overlap::road_list::{read_network, read_points, BadLine};
-use overlap::{Engine, Nearest, Points, Refusal, Table};
+use overlap::{Engine, Nearest, Network, Points, Refusal, Table};
 use std::ffi::OsString;
 use std::fs;
 use std::io::{self, Write};
 use std::path::{Path, PathBuf};
 
-const USAGE: &str = "usage: roads ROADS POINTS [--site q].. [--k k] [--K K] [--visits]";
+const USAGE: &str = "usage: roads ROADS POINTS [--site q].. [--k k] [--K K] [--visits] \
+                     [--households FILE --sites FILE]";
 
 const HELP: &str = "
 ROADS    a file of one road a line: a b weight
@@ -16,7 +17,11 @@ POINTS   a file of one locker a line: its junction, which comes up to 15 times
          junction is not on its list
 --k      the k of the lists, 1 to 16; 1 unless it is given
 --K      the places of a row of the table, above k and at most 17; k + 1 unless it is given
---visits also prints the junctions that eager expands for a site, by distance and then by number";
+--visits also prints the junctions that eager expands for a site, by distance and then by number
+--households, --sites
+         files of one household a line and of one site a line, as POINTS; also prints which households
+         a site wins: the sheet, 0 without a site, counts those that have no site nearer, and the list
+         names the junctions of those that have fewer than k sites nearer";
 
 /// What the command line asks for.
 struct Asked {
@@ -26,6 +31,13 @@ struct Asked {
     k: u32,
     places: u32,
     visits: bool,
+    market: Option<[PathBuf; 2]>,
+}
+
+/// The households, and the sites that compete for them.
+struct Market {
+    households: Points,
+    sites: Points,
 }
 
 /// A message for the user.
@@ -54,15 +66,17 @@ pub fn run(arguments: &[OsString], out: &mut impl Write, err: &mut impl Write) -
 fn asked(arguments: &[OsString]) -> Result<Asked, Message> {
     let (mut files, mut sites) = (Vec::new(), Vec::new());
     let (mut k, mut places, mut visits) = (1, None, false);
+    let (mut households, mut rivals) = (None, None);
     let mut words = arguments.iter();
     while let Some(word) = words.next() {
         let text = word.to_string_lossy();
-        let mut number = || number(&text, words.next());
         match &*text {
-            "--site" => sites.push(number()?),
-            "--k" => k = number()?,
-            "--K" => places = Some(number()?),
+            "--site" => sites.push(number(&text, words.next())?),
+            "--k" => k = number(&text, words.next())?,
+            "--K" => places = Some(number(&text, words.next())?),
             "--visits" => visits = true,
+            "--households" => households = Some(file(&text, words.next())?),
+            "--sites" => rivals = Some(file(&text, words.next())?),
             option if option.starts_with('-') => return Err(format!("no option {option}")),
             _ => files.push(PathBuf::from(word)),
         }
@@ -76,7 +90,26 @@ fn asked(arguments: &[OsString]) -> Result<Asked, Message> {
         // Where k is not 1 to 16, that is what the refusal shall name.
         places: places.unwrap_or(k.clamp(1, 16) + 1),
         visits,
+        market: both(households, rivals)?,
     })
+}
+
+/// Both files or neither.
+fn both(
+    households: Option<PathBuf>,
+    sites: Option<PathBuf>,
+) -> Result<Option<[PathBuf; 2]>, Message> {
+    match (households, sites) {
+        (Some(households), Some(sites)) => Ok(Some([households, sites])),
+        (None, None) => Ok(None),
+        _ => Err("--households and --sites come together".to_string()),
+    }
+}
+
+/// The file behind an option.
+fn file(option: &str, value: Option<&OsString>) -> Result<PathBuf, Message> {
+    let value = value.ok_or_else(|| format!("{option} needs a file"))?;
+    Ok(PathBuf::from(value))
 }
 
 /// The number behind an option.
@@ -90,8 +123,8 @@ fn number(option: &str, value: Option<&OsString>) -> Result<u32, Message> {
 fn report(asked: &Asked, out: &mut impl Write) -> Result<(), Message> {
     let roads = read(&asked.roads)?;
     let network = read_network(&roads).map_err(|bad| in_file(&asked.roads, bad))?;
-    let lockers = read(&asked.points)?;
-    let points = read_points(&lockers, &network).map_err(|bad| in_file(&asked.points, bad))?;
+    let points = points_of(&asked.points, &network)?;
+    let market = market_of(asked, &network)?;
     let table = Table::build(&network, points, asked.places);
     let mut table = table.map_err(|refusal| format!("K = {}: {refusal}", asked.places))?;
     print_network(&table, out).map_err(unwritten)?;
@@ -99,7 +132,27 @@ fn report(asked: &Asked, out: &mut impl Write) -> Result<(), Message> {
     if asked.visits {
         print_visits(asked, &table, out)?;
     }
-    print_table(&table, out).map_err(unwritten)
+    print_table(&table, out).map_err(unwritten)?;
+    match market {
+        Some(market) => print_market(asked, &network, &market, out),
+        None => Ok(()),
+    }
+}
+
+/// The points of a file, or the households or sites of one.
+fn points_of(file: &Path, network: &Network) -> Result<Points, Message> {
+    read_points(&read(file)?, network).map_err(|bad| in_file(file, bad))
+}
+
+/// The households and sites, if they are asked about.
+fn market_of(asked: &Asked, network: &Network) -> Result<Option<Market>, Message> {
+    let Some([households, sites]) = &asked.market else {
+        return Ok(None);
+    };
+    Ok(Some(Market {
+        households: points_of(households, network)?,
+        sites: points_of(sites, network)?,
+    }))
 }
 
 /// A text file. Bytes that are no text become a sign that no number has.
@@ -120,17 +173,17 @@ fn print_network(table: &Table, out: &mut impl Write) -> io::Result<()> {
     let network = table.network();
     writeln!(out, "junctions   {}", network.nodes())?;
     writeln!(out, "roads       {}", network.roads().count())?;
-    let points = table.points();
-    let texts = points.iter().map(|node| point_text(points, node));
-    writeln!(out, "points      {}", shown(texts))
+    let points = points_text(table.points(), "lockers");
+    writeln!(out, "points      {points}")
 }
 
-/// A point's junction, and how many lockers stand there where it is more than one.
-fn point_text(points: &Points, node: u32) -> String {
-    match points.count(node) {
+/// The junction of each point, and how many of these there are where it is more than one.
+fn points_text(points: &Points, of_these: &str) -> String {
+    let text = |node| match points.count(node) {
         1 => node.to_string(),
-        lockers => format!("{node} ({lockers} lockers)"),
-    }
+        count => format!("{node} ({count} {of_these})"),
+    };
+    shown(points.iter().map(text))
 }
 
 /// Prints for each site its list, by the table, and the count of nodes that eager expands for it.
@@ -154,6 +207,27 @@ fn print_visits(asked: &Asked, table: &Table, out: &mut impl Write) -> Result<()
         let expansion = engine.eager(table.points(), q, k, u32::MAX)?;
         let visits = shown(expansion.visits.iter().map(u32::to_string));
         Ok(format!("{q:<6} {visits}"))
+    })
+}
+
+/// Prints for each site its entry of the sheet and its list.
+fn print_market(
+    asked: &Asked,
+    network: &Network,
+    Market { households, sites }: &Market,
+    out: &mut impl Write,
+) -> Result<(), Message> {
+    let homes = points_text(households, "households");
+    let rivals = points_text(sites, "sites");
+    writeln!(out, "\nhouseholds  {homes}\nsites       {rivals}").map_err(unwritten)?;
+    let (mut engine, k) = (Engine::new(network), asked.k);
+    let sheet = engine.sheet(households, sites);
+    let sheet = sheet.map_err(|refusal| refusal.to_string())?.to_vec();
+    let heading = format!("site   sheet   households for k = {k}");
+    print_sites(asked, network.nodes(), &heading, out, |q| {
+        let list = engine.households(households, sites, q, k)?;
+        let list = shown(list.iter().map(u32::to_string));
+        Ok(format!("{q:<6} {:<7} {list}", sheet[q as usize]))
     })
 }
 
