@@ -4,12 +4,13 @@
 use super::calls::{self, Answer, Query, TABLE_CHECK, TWINS};
 use super::common::damage::damage;
 use super::common::inputs::{no_k, no_node, some_k, some_node, some_places, some_points};
+use super::common::inputs::{spoil_points, too_short};
 use super::common::network::OwnedNetwork;
 use super::common::random::Random;
 use super::common::shapes::random_network;
 use super::common::table::PlainTable;
 use super::common::table_damage;
-use super::lent::{Written, OLD};
+use super::lent::{Lent, Written, OLD};
 use super::outcome::{assert_same, built};
 
 /// How many words of scratch, and eager of visits, a call is lent beyond those that it asks for: mostly
@@ -41,6 +42,7 @@ fn try_calls(network: &OwnedNetwork, points: &[u8], random: &mut Random) -> Vec<
     let visits = points.len().saturating_add_signed(random.pick(&MORE));
     lent.written.visits.resize(visits, OLD);
     let before = lent.written.clone();
+    lend_rivals(&mut lent, random);
     let mut answers = Vec::new();
     for call in calls::ALL {
         let query = some_query(network, random);
@@ -51,6 +53,25 @@ fn try_calls(network: &OwnedNetwork, points: &[u8], random: &mut Random) -> Vec<
     let damaged = with_a_damaged_table(before, lent.places, random);
     answers.push(assert_same(&mut lent, TWINS, TABLE_CHECK, query, &damaged));
     answers
+}
+
+/// Households on any nodes, and as the rival's table the own one with its rows moved by one. At times
+/// they are refused.
+fn lend_rivals(lent: &mut Lent<'_>, random: &mut Random) {
+    for byte in &mut lent.households {
+        *byte = random.pick(&[0, 0, 1, 15]);
+    }
+    let row = lent.written.ids.len().min(lent.places as usize);
+    lent.rival_ids.clone_from(&lent.written.ids);
+    lent.rival_distances.clone_from(&lent.written.distances);
+    lent.rival_distances.rotate_left(row);
+    if random.once_in(16) {
+        spoil_points(&mut lent.households, random);
+    }
+    if random.once_in(16) {
+        let length = too_short(lent.rival_ids.len(), random);
+        lent.rival_ids.truncate(length);
+    }
 }
 
 fn with_a_damaged_table(written: Written, places: u32, random: &mut Random) -> Written {

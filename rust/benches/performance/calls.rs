@@ -5,7 +5,8 @@ use super::common::eager::EagerCall;
 use super::common::site::SearchCall;
 use super::lent::{Lent, Scratch};
 use super::plain;
-use overlap::calls::{eager_scratch_len, Found, Listing, Network, Table, TableMut, Verdict, NONE};
+use overlap::calls::{eager_scratch_len, Found, Listing, Network, NONE};
+use overlap::calls::{RowPart, Table, TableMut, TwoTables, Verdict};
 
 /// The functions of the engine, their twins in plain Rust, or those of another build.
 #[allow(clippy::type_complexity)] // each type is used once, and a field reads as its function does
@@ -27,6 +28,9 @@ pub struct Functions {
     pub remove: ChangeCall,
     pub table_query: fn(Network<'_>, &[u8], u32, u32, Table<'_>, &mut [u32], &mut [u32]) -> Listing,
     pub table_check: fn(Network<'_>, &[u8], Table<'_>) -> Verdict,
+    pub households: fn(Network<'_>, &[u8], &[u8], u32, u32, &mut [u32], &mut [u32]) -> Listing,
+    pub sheet: fn(Network<'_>, &[u8], &[u8], &mut [u32], &mut [u32]) -> u32,
+    pub nearer_row_part: fn(Network<'_>, u32, TwoTables<'_>) -> RowPart,
 }
 
 pub const ENGINE: Functions = Functions {
@@ -45,6 +49,9 @@ pub const ENGINE: Functions = Functions {
     remove: overlap::calls::remove,
     table_query: overlap::calls::table_query,
     table_check: overlap::calls::table_check,
+    households: overlap::calls::households,
+    sheet: overlap::calls::sheet,
+    nearer_row_part: overlap::calls::nearer_row_part,
 };
 
 pub const PLAIN: Functions = Functions {
@@ -63,13 +70,16 @@ pub const PLAIN: Functions = Functions {
     remove: plain::remove,
     table_query: plain::table_query,
     table_check: plain::table_check,
+    households: plain::households,
+    sheet: plain::sheet,
+    nearer_row_part: plain::nearer_row_part,
 };
 
 /// The engine and its twins.
 pub const TWINS: [&Functions; 2] = [&ENGINE, &PLAIN];
 
 /// What a call is asked: a site, a point, k, and eager's limit. Insert adds a locker to the site,
-/// remove takes one from the point.
+/// remove takes one from the point. The site is the junction of the nearer row.
 #[derive(Clone, Copy, Debug)]
 pub struct Query {
     pub site: u32,
@@ -78,7 +88,8 @@ pub struct Query {
     pub limit: u32,
 }
 
-/// The number, then the list's length, yes or the rows changed, then eager's count.
+/// The number, then the list's length, yes, the rows changed or where the nearer row ends, then eager's
+/// count or whether that row is the rival's.
 pub type Answer = (u32, usize, u32);
 
 /// A call: its name and how it is run.
@@ -203,8 +214,47 @@ pub const TABLE_CHECK: Call = call("table check", |by, lent, _| {
     of_verdict((by.table_check)(lent.network, &w.points, table))
 });
 
-/// Every call of the fixed interface.
-pub const ALL: [Call; 13] = [
+pub const HOUSEHOLDS: Call = call("households", |by, lent, Query { site, k, .. }| {
+    let (network, w) = (lent.network, &mut lent.written);
+    let scratch = lent.scratch.of(network, k);
+    of_listing((by.households)(
+        network,
+        &lent.households,
+        &w.points,
+        site,
+        k,
+        scratch,
+        &mut w.answers,
+    ))
+});
+
+pub const SHEET: Call = call("sheet", |by, lent, _| {
+    let (network, w) = (lent.network, &mut lent.written);
+    let scratch = lent.scratch.of(network, 1);
+    let number = (by.sheet)(
+        network,
+        &lent.households,
+        &w.points,
+        scratch,
+        &mut w.answers,
+    );
+    (number, 0, 0)
+});
+
+pub const NEARER_ROW: Call = call("nearer row", |by, lent, query| {
+    let tables = TwoTables {
+        places: lent.places,
+        own_ids: &lent.written.ids,
+        own_distances: &lent.written.distances,
+        rival_ids: &lent.rival_ids,
+        rival_distances: &lent.rival_distances,
+    };
+    let part = (by.nearer_row_part)(lent.network, query.site, tables);
+    (part.number, part.start + part.length, part.rival)
+});
+
+/// Every call of the interface.
+pub const ALL: [Call; 16] = [
     NETWORK_CHECK,
     DISTANCES,
     NEAREST,
@@ -218,10 +268,21 @@ pub const ALL: [Call; 13] = [
     REMOVE,
     TABLE_QUERY,
     TABLE_CHECK,
+    HOUSEHOLDS,
+    SHEET,
+    NEARER_ROW,
 ];
 
 /// The calls that take a k.
-pub const BY_K: [Call; 6] = [NEAREST, VERIFY, EAGER, LAZY, LAZY_EP, TABLE_QUERY];
+pub const BY_K: [Call; 7] = [
+    NEAREST,
+    VERIFY,
+    EAGER,
+    LAZY,
+    LAZY_EP,
+    TABLE_QUERY,
+    HOUSEHOLDS,
+];
 
 /// The words of scratch for eager, verify or the short query.
 fn eager_scratch<'a>(

@@ -1,6 +1,6 @@
-//! How far the searches go, and where eager goes too far.
+//! How far the searches go, and where eager and the sheet go too far.
 
-use super::calls::{Call, Query, EAGER, ENGINE, LAZY, LAZY_EP, TWINS};
+use super::calls::{Call, Query, EAGER, ENGINE, LAZY, LAZY_EP, SHEET, TWINS};
 use super::common::network::{marks, OwnedNetwork};
 use super::common::shapes::{chain, figure_12, star, weight_by_product, weighted};
 use super::lent::Lent;
@@ -52,16 +52,22 @@ pub fn figure_12_times(budget: Budget) -> Vec<(Call, Pairs)> {
     searches.map(&mut times).collect()
 }
 
-/// The milliseconds of one call of eager on a star with 3 points from a leaf with k = 3, and on a
-/// chain without points from an end with k = 1.
-pub fn eager_times(n: u32) -> (f64, f64) {
+/// The milliseconds of one call: of eager on a star with 3 points from a leaf with k = 3, and on a
+/// chain without points from an end with k = 1; of the sheet on a star of equal roads with a site on
+/// each leaf.
+pub fn slow_times(n: u32) -> [f64; 3] {
     let spokes = weighted(n, &star(n, 0), weight_by_product);
     let line = weighted(n, &chain(n), weight_by_product);
-    let on_star = eager_time(&spokes, &marks(n, &[1, 2, 3]), n - 1, 3);
-    (on_star, eager_time(&line, &marks(n, &[]), 0, 1))
+    let even = weighted(n, &star(n, 0), |_, _| 1);
+    let leaves: Vec<u32> = (1..n).collect();
+    [
+        time_of(EAGER, &spokes, &marks(n, &[1, 2, 3]), (n - 1, 3)),
+        time_of(EAGER, &line, &marks(n, &[]), (0, 1)),
+        time_of(SHEET, &even, &marks(n, &leaves), (0, 1)),
+    ]
 }
 
-fn eager_time(network: &OwnedNetwork, points: &[u8], site: u32, k: u32) -> f64 {
+fn time_of(call: Call, network: &OwnedNetwork, points: &[u8], (site, k): (u32, u32)) -> f64 {
     let mut lent = Lent::new(network.lend(), points, 2, k);
     let query = Query {
         site,
@@ -70,7 +76,7 @@ fn eager_time(network: &OwnedNetwork, points: &[u8], site: u32, k: u32) -> f64 {
         limit: 65_535,
     };
     let start = Instant::now();
-    let answer = (EAGER.run)(&ENGINE, &mut lent, query);
+    let answer = (call.run)(&ENGINE, &mut lent, query);
     assert_eq!(answer.0, 0);
     start.elapsed().as_secs_f64() * 1e3
 }

@@ -9,6 +9,11 @@ pub struct Lent<'a> {
     pub places: u32,
     pub written: Written,
     pub scratch: Scratch,
+    /// The sites that compete for them are the points.
+    pub households: Vec<u8>,
+    /// A rival's table, whatever it holds.
+    pub rival_ids: Vec<u32>,
+    pub rival_distances: Vec<u32>,
 }
 
 /// What a call may write beside scratch.
@@ -112,7 +117,7 @@ impl Written {
 
 impl<'a> Lent<'a> {
     /// Arrays with old entries, of the lengths that document 01 asks for a call with this K and an m
-    /// up to the one given.
+    /// up to the one given, and a household on every node.
     pub fn new(network: Network<'a>, points: &[u8], places: u32, most_m: u32) -> Self {
         let (n, entries) = (points.len(), points.len() * places as usize);
         let written = Written {
@@ -128,6 +133,9 @@ impl<'a> Lent<'a> {
             places,
             written,
             scratch: Scratch::new(scratch_len(network, most_m as usize)),
+            households: vec![1; n],
+            rival_ids: vec![OLD; entries],
+            rival_distances: vec![OLD; entries],
         }
     }
 

@@ -151,16 +151,14 @@ fn write_charts(settings: &Settings) {
     }
 }
 
-/// How far searches go, and where eager is slow.
+/// How far searches go, and where eager and the sheet are slow.
 fn extremes_text(subject: &Subject, settings: &Settings) -> String {
     let reach = |&k: &u32| (k, extremes::reach(subject, k));
     let reach: Vec<_> = settings.reach_ks.iter().map(reach).collect();
     let line = extremes::figure_12_times(settings.budget);
     let sizes = [1_000, 2_000, 4_000, 8_000];
-    let eager = sizes.map(|n| (n, extremes::eager_times(n)));
-    report::reach_text(subject.name, &reach)
-        + &report::line_text(&line)
-        + &report::eager_text(&eager)
+    let slow = sizes.map(|n| (n, extremes::slow_times(n)));
+    report::reach_text(subject.name, &reach) + &report::line_text(&line) + &report::slow_text(&slow)
 }
 
 fn main() {

@@ -1,6 +1,6 @@
 //! The measured tables as Markdown, and their place in docs/PERFORMANCE.md.
 
-use super::calls::{Call, BUILD, REMOVE};
+use super::calls::{Call, BUILD, DISTANCES, REMOVE, SHEET};
 use super::chart::number;
 use super::extremes::{Range, LINE};
 use super::measure::Pairs;
@@ -74,7 +74,8 @@ pub fn calls_tables(measured: &[Measured]) -> String {
 const TIMES_HEAD: &str =
     "| Call | Pairs | Engine, ms | Plain Rust, ms | Ratio |\n|---|---|---|---|---|\n";
 
-/// The largest ratio of all, and what part of a build a removal takes.
+/// The largest ratio of all, what part of a build a removal takes, and how many times as long as the
+/// distances from one node the sheet takes.
 pub fn notes(measured: &[Measured]) -> String {
     let rows = measured.iter().flat_map(|of_network| {
         let name = of_network.subject.name;
@@ -87,19 +88,25 @@ pub fn notes(measured: &[Measured]) -> String {
     let (ratio, call, network) = rows
         .max_by(|a, b| a.0.total_cmp(&b.0))
         .expect("calls were timed");
-    let parts: Vec<_> = measured.iter().map(removal_part).collect();
-    format!(
-        "\nThe largest median ratio is {ratio:.2}: {call}, {network}. Of the engine's build a removal takes {}.\n",
+    let parts = |part: Call, whole: Call| {
+        let of_network = |measured| part_of(measured, part, whole);
+        let parts: Vec<_> = measured.iter().map(of_network).collect();
         parts.join(", ")
+    };
+    let (removal, sheet) = (parts(REMOVE, BUILD), parts(SHEET, DISTANCES));
+    format!(
+        "\nThe largest median ratio is {ratio:.2}: {call}, {network}. Of the engine's build a removal takes {removal}. \
+         The sheet takes {sheet} times as long as the distances from one node.\n"
     )
 }
 
-fn removal_part(of_network: &Measured) -> String {
+/// A call's time by the engine on a network, divided by that of another.
+fn part_of(of_network: &Measured, part: Call, whole: Call) -> String {
     let time_of = |name| {
         let row = of_network.times.iter().find(|(call, _)| call.name == name);
         row.expect("the call was timed").1.engine().median
     };
-    let part = time_of(REMOVE.name) / time_of(BUILD.name);
+    let part = time_of(part.name) / time_of(whole.name);
     format!("{part:.3} ({})", of_network.subject.name)
 }
 
@@ -151,16 +158,18 @@ pub fn line_text(rows: &[(Call, Pairs)]) -> String {
     text
 }
 
-/// The times of eager on a star and on a chain, by the number of nodes.
-pub fn eager_text(rows: &[(u32, (f64, f64))]) -> String {
+/// The times of eager on a star and on a chain and of the sheet on a star, by the number of nodes.
+pub fn slow_text(rows: &[(u32, [f64; 3])]) -> String {
     let mut text = String::from(
-        "\n### Where eager is slow\n\nSingle calls of the engine, timed once each:\n\n\
-         | Nodes | Star, 3 points, k = 3, from a leaf | Chain without points, k = 1, from an end |\n\
-         |---|---|---|\n",
+        "\n### Where eager and the sheet are slow\n\nSingle calls of the engine, timed once each:\n\n\
+         | Nodes | Eager: star, 3 points, k = 3, from a leaf | Eager: chain without points, k = 1, from an end \
+         | Sheet: star of equal roads, a site on each leaf |\n\
+         |---|---|---|---|\n",
     );
-    for (n, (on_star, on_chain)) in rows {
+    for (n, times) in rows {
         let n = number(*n as usize);
-        let _ = writeln!(text, "| {n} | {on_star:.1} ms | {on_chain:.1} ms |");
+        let cells = times.map(|time| format!("{time:.1} ms"));
+        let _ = writeln!(text, "| {n} | {} |", cells.join(" | "));
     }
     text
 }

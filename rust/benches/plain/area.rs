@@ -14,18 +14,28 @@ pub struct Area<'a> {
 }
 
 impl<'a> Area<'a> {
-    /// The words are all zero.
+    /// From one node. The words are all zero.
     pub fn start(words: &'a mut [u32], network: Network<'_>, node: u32) -> Self {
+        let mut area = Self::empty(words, network);
+        area.begin_at(node);
+        area
+    }
+
+    /// From no node yet. The words are all zero.
+    pub fn empty(words: &'a mut [u32], network: Network<'_>) -> Self {
         let n = network.starts.len() - 1;
         let (seats, rest) = words.split_at_mut(n);
         let (settled, heap) = rest.split_at_mut(n);
-        let mut queue = NodeQueue::new(seats, &mut heap[..2 * n]);
-        queue.push(Entry::new(0, node, node));
         Self {
-            queue,
+            queue: NodeQueue::new(seats, &mut heap[..2 * n]),
             settled,
             count: 0,
         }
+    }
+
+    /// Lets a node wait at distance 0, which does not wait yet.
+    pub fn begin_at(&mut self, node: u32) {
+        self.queue.push(Entry::new(0, node, node));
     }
 
     /// The least entry.
@@ -48,6 +58,14 @@ impl<'a> Area<'a> {
         for (&to, &weight) in network.neighbours[arcs].iter().zip(weights) {
             let distance = entry.distance + weight;
             self.queue.offer(Entry::new(distance, to, own as u32));
+        }
+    }
+
+    /// Settles all nodes that can be reached.
+    pub fn settle_all(&mut self, network: Network<'_>) {
+        while let Some(entry) = self.next() {
+            self.settle(entry);
+            self.open(network, entry);
         }
     }
 

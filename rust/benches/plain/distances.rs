@@ -39,9 +39,6 @@ fn number_of(network: Network<'_>, node: u32, scratch: usize, answers: usize) ->
 /// Settles all nodes that can be reached. The words are all zero.
 fn expand<'a>(network: Network<'_>, node: u32, words: &'a mut [u32]) -> Area<'a> {
     let mut area = Area::start(words, network, node);
-    while let Some(entry) = area.next() {
-        area.settle(entry);
-        area.open(network, entry);
-    }
+    area.settle_all(network);
     area
 }

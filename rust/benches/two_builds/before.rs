@@ -10,12 +10,17 @@
 //! Ask 6 changes no form, and answers only where the site is a point. No site is one here, which
 //! `main.rs` sees to, so the answers of a build before it are compared whole.
 //!
+//! Ask 1 adds three calls. A build before it has none of them, and `main.rs` asks it for none; `run`
+//! sees whether it has.
+//!
 //! Both are lent what they ask for, 12 × n words of scratch since Ask 5. A build before Ask 5 asks for
 //! more and is not called any more.
 
 use super::calls::Functions;
 use before::calls as old;
 use overlap::calls::{Listing, Network, Table, TableMut, Update, Verdict};
+#[cfg(feature = "households")]
+use overlap::calls::{RowPart, TwoTables};
 
 pub const BEFORE: Functions = Functions {
     eager_scratch: |n| old::eager_scratch_len(network(n)),
@@ -48,7 +53,26 @@ pub const BEFORE: Functions = Functions {
         listing(old::table_query(network(n), points, q, k, table(t), s, a))
     },
     table_check: |n, points, t| verdict(old::table_check(network(n), points, table(t))),
+    #[cfg(feature = "households")]
+    households: |n, households, sites, q, k, s, a| {
+        listing(old::households(network(n), households, sites, q, k, s, a))
+    },
+    #[cfg(feature = "households")]
+    sheet: |n, households, sites, s, a| old::sheet(network(n), households, sites, s, a),
+    #[cfg(feature = "households")]
+    nearer_row_part: |n, junction, t| {
+        row_part(old::nearer_row_part(network(n), junction, two_tables(t)))
+    },
+    #[cfg(not(feature = "households"))]
+    households: |_, _, _, _, _, _, _| unreachable!("{NONE_OF_ASK_1}"),
+    #[cfg(not(feature = "households"))]
+    sheet: |_, _, _, _, _| unreachable!("{NONE_OF_ASK_1}"),
+    #[cfg(not(feature = "households"))]
+    nearer_row_part: |_, _, _| unreachable!("{NONE_OF_ASK_1}"),
 };
+
+#[cfg(not(feature = "households"))]
+const NONE_OF_ASK_1: &str = "a build before Ask 1 has no such call";
 
 fn network(lent: Network<'_>) -> old::Network<'_> {
     old::Network {
@@ -71,6 +95,27 @@ fn table_mut(lent: TableMut<'_>) -> old::TableMut<'_> {
         places: lent.places,
         ids: lent.ids,
         distances: lent.distances,
+    }
+}
+
+#[cfg(feature = "households")]
+fn two_tables(lent: TwoTables<'_>) -> old::TwoTables<'_> {
+    old::TwoTables {
+        places: lent.places,
+        own_ids: lent.own_ids,
+        own_distances: lent.own_distances,
+        rival_ids: lent.rival_ids,
+        rival_distances: lent.rival_distances,
+    }
+}
+
+#[cfg(feature = "households")]
+fn row_part(answer: old::RowPart) -> RowPart {
+    RowPart {
+        number: answer.number,
+        rival: answer.rival,
+        start: answer.start,
+        length: answer.length,
     }
 }
 

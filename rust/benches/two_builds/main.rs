@@ -24,7 +24,7 @@ mod plain;
 mod roads;
 
 use before::BEFORE;
-use calls::{Call, Query, ENGINE};
+use calls::{Call, Query, ENGINE, HOUSEHOLDS, NEARER_ROW, SHEET};
 use measure::{measure, Budget};
 use networks::{limits, roads, streets, Subject};
 use outcome::built;
@@ -53,14 +53,25 @@ fn print_times(subject: &Subject, calls: &[Call], places: u32) {
     }
 }
 
+/// The calls that a build before Ask 1 has not.
+const OF_ASK_1: [Call; 3] = [HOUSEHOLDS, SHEET, NEARER_ROW];
+
+/// The calls that both builds have.
+fn shared_calls() -> Vec<Call> {
+    let is_new = |call: &Call| OF_ASK_1.iter().any(|new| new.name == call.name);
+    let is_shared = |call: &Call| cfg!(feature = "households") || !is_new(call);
+    calls::ALL.into_iter().filter(is_shared).collect()
+}
+
 fn main() {
     let names: Vec<String> = std::env::args().skip(1).collect();
+    let shared = shared_calls();
     let of_name = |name: &String| {
-        let call = calls::ALL.into_iter().find(|call| call.name == name);
-        call.unwrap_or_else(|| panic!("no call is named {name}"))
+        let call = shared.iter().find(|call| call.name == name);
+        *call.unwrap_or_else(|| panic!("both builds have no call that is named {name}"))
     };
     let calls: Vec<Call> = match names.len() {
-        0 => calls::ALL.to_vec(),
+        0 => shared,
         _ => names.iter().map(of_name).collect(),
     };
     print_times(&streets(255), &calls, 5);
