@@ -24,6 +24,16 @@ pub struct Update {
     pub changed: u32,
 }
 
+// Of the nearer row (Ask 1): which part of which lent array its distances are: of the own ones (rival 0) or the rival's (1), from the start on. All 0 on a
+// refusal but the number.
+#[repr(C)]
+pub struct RowPart {
+    pub number: u32,
+    pub rival: u32,
+    pub start: usize,
+    pub length: usize,
+}
+
 // A search or nearest: refused, or the length of the list and the nodes expanded (0 but for eager and the short query).
 pub enum Listed {
     Refused(u32),

@@ -14,7 +14,7 @@ use Rattle.network.specs.Network.{Network, nodeCount}
 use Rattle.network.specs.Rows.{rowPart}
 use Rattle.network.proofs.Lends.{row-fits}
 use Rattle.conditions.proofs.NotMet.{first-zero, node-ready, table-ready}
-use Rattle.nearer_row.specs.declared.RowPart.{RowPart}
+use Rattle.conditions.specs.declared.answers.RowPart.{RowPart}
 use Rattle.nearer_row.specs.Nearer.{ownNearer, nearerRow, rowNumber, rowOutcome}
 use Rattle.nearer_row.specs.Part.{nearerPart, refusedPart, partOutcome, namedArray, namedPart, PartReturned, PartIsRow}
 use Rattle.nearer_row.specs.Work.{BothHaveRow}

@@ -9,7 +9,7 @@ use lib.Dec.{eqb}
 use lib.ListN.{length, take, drop}
 use Rattle.network.specs.Network.{Network}
 use Rattle.conditions.specs.Conditions.{byNumber}
-use Rattle.nearer_row.specs.declared.RowPart.{RowPart}
+use Rattle.conditions.specs.declared.answers.RowPart.{RowPart}
 use Rattle.nearer_row.specs.Nearer.{ownNearer, rowNumber, rowOutcome}
 
 -- the struct of the nearer row: K entries from i × K on, of the own distances (0) or of the rival's (1)

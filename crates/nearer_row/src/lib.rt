@@ -4,18 +4,9 @@ ghost use Rattle.network.specs.Network.{network};
 ghost use Rattle.nearer_row.specs.Nearer.{ownNearer, nearerRow, rowNumber, rowOutcome};
 ghost use Rattle.nearer_row.specs.Part.{nearerPart, PartReturned};
 ghost use Rattle.nearer_row.specs.Work.{BothHaveRow};
+use conditions::answers::RowPart;
 use network::arcs::wide;
 use rows::rows::row_of;
-
-// Which part of which lent array the row's distances are: of the own ones (rival 0) or the rival's (1), from the start on. All 0 on a refusal but the
-// number.
-#[repr(C)]
-pub struct RowPart {
-    pub number: u32,
-    pub rival: u32,
-    pub start: usize,
-    pub length: usize,
-}
 
 // Whether row i begins no farther in the own distances than in the rival's. NONE is the largest number, so that plain numbers are compared.
 fn own_nearer(own: &[u32], rival: &[u32], i: usize, places: usize) -> bool
