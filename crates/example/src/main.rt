@@ -1,10 +1,12 @@
-// Network N of document 01 through every public call, with its cases P1 to P10, the lease list and the twelve refusals.
+// Network N of document 01 through every public call, with its cases P1 to P10, the lease list, households against a rival's and the
+// twelve refusals.
 use network_n::refusals;
 use network_n::text::put;
 
 mod cases;
 mod lease;
 mod queries;
+mod rivals;
 mod updates;
 
 fn show_network() {
@@ -35,6 +37,8 @@ fn main() {
     updates::show_updates();
     updates::show_second();
     lease::show();
+    rivals::show_households();
+    rivals::show_nearer_rows();
     refusals::show_networks();
     refusals::show_arguments();
     refusals::show_short_answers();

@@ -8,12 +8,13 @@ use Rattle.network.specs.Distance.{plus, leastOver, within, dist}
 use Rattle.network.specs.Points.{isNearer, countNearer, othersNearer, verified, isListed, listed, isExpanded, expanded, exceedsLimit}
 use Rattle.network.specs.Nearest.{insert, insertTimes, byDistance, nearest}
 use Rattle.network.specs.Visits.{visits}
+use Rattle.network.specs.Households.{isWon, won, wonLength, sheetEntry, sheet}
 use Rattle.network.specs.Rows.{row, sameRow, rowsChanged}
 use Rattle.network.specs.Cases.{Cases, roads}
 use Rattle.network.proofs.NumberZero.{number-zero}
 
 pub cases : Cases
-unfolding any count total select arcsFrom arcsOf partOf badSize fallsAt badStarts badNeighbourAt badPart badNeighboursOf badNeighbours badWeightAt badWeights isArcAt hasArc lacksReturnAt lacksReturnOf lacksReturn networkNumber plus leastOver within dist isNearer countNearer othersNearer verified isListed listed isExpanded expanded exceedsLimit insert insertTimes byDistance nearest tabulate visits row sameRow rowsChanged
+unfolding any count total select arcsFrom arcsOf partOf badSize fallsAt badStarts badNeighbourAt badPart badNeighboursOf badNeighbours badWeightAt badWeights isArcAt hasArc lacksReturnAt lacksReturnOf lacksReturn networkNumber plus leastOver within dist isNearer countNearer othersNearer verified isListed listed isExpanded expanded exceedsLimit insert insertTimes byDistance nearest tabulate visits row sameRow rowsChanged isWon won wonLength sheetEntry sheet
 cases =
     record {
       accepted-N = number-zero (roads 7) .0 refl;
@@ -74,4 +75,11 @@ cases =
       fifteen-cut = refl;
       fifteen-row4 = refl;
       fifteen-row0 = refl;
+      won-0 = refl;
+      won-0-k2 = refl;
+      won-2 = refl;
+      won-5 = refl;
+      won-two = refl;
+      sheet-N = refl;
+      sheet-tie = refl;
     }

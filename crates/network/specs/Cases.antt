@@ -12,6 +12,7 @@ use Rattle.network.specs.Distance.{NONE}
 use Rattle.network.specs.Points.{listed, expanded, exceedsLimit}
 use Rattle.network.specs.Nearest.{nearest}
 use Rattle.network.specs.Visits.{visits}
+use Rattle.network.specs.Households.{won, sheet}
 use Rattle.network.specs.Rows.{row, rowsChanged}
 
 -- 'Six nodes, roads 0-1 of 4, 0-3 of 5, 1-2 of 3, 2-4 of 7, 3-4 of 3; node 5 alone': N is `roads 7`
@@ -41,6 +42,16 @@ twoAt0 = 2 ∷ 0 ∷ 1 ∷ 0 ∷ 1 ∷ 1 ∷ []
 
 abbrev pub fifteenAt4 : List ℕ
 fifteenAt4 = 0 ∷ 0 ∷ 1 ∷ 0 ∷ 15 ∷ 1 ∷ []
+
+-- Ask 1, households: one at 0, two at 1, one at 3, three at 5; one at 2 alone. And sites at 0 and 4
+abbrev pub someHouseholds : List ℕ
+someHouseholds = 1 ∷ 2 ∷ 0 ∷ 1 ∷ 0 ∷ 3 ∷ []
+
+abbrev pub oneAt2 : List ℕ
+oneAt2 = 0 ∷ 0 ∷ 1 ∷ 0 ∷ 0 ∷ 0 ∷ []
+
+abbrev pub sitesAt0And4 : List ℕ
+sitesAt0And4 = 1 ∷ 0 ∷ 0 ∷ 0 ∷ 1 ∷ 0 ∷ []
 
 pub record Cases : Type 0 where
   -- the networks of the cases are accepted
@@ -123,3 +134,14 @@ pub record Cases : Type 0 where
   pub fifteen-cut : nearest (roads 7) fifteenAt4 3 10 4 ≡ replicate 4 (4, 3)
   pub fifteen-row4 : row (roads 7) fifteenAt4 17 4 ≡ replicate 15 (4, 0) ++ (2, 7) ∷ (NONE, NONE) ∷ []
   pub fifteen-row0 : row (roads 7) fifteenAt4 3 0 ≡ (2, 7) ∷ (4, 8) ∷ (4, 8) ∷ []
+  -- Ask 1, with the points of N as sites: 0 is no site, and wins what is on its node; 1 is 3 from 2 and 4 from 0, so one site is nearer; 5 can't be reached
+  pub won-0 : won (roads 7) someHouseholds points 0 1 ≡ 0 ∷ []
+  pub won-0-k2 : won (roads 7) someHouseholds points 0 2 ≡ 0 ∷ 1 ∷ 3 ∷ []
+  pub won-2 : won (roads 7) someHouseholds points 2 1 ≡ 0 ∷ 1 ∷ []
+  pub won-5 : won (roads 7) someHouseholds points 5 1 ≡ 5 ∷ []
+  -- two sites at 2 are two that are nearer to 1, and one is nearer to 3
+  pub won-two : won (roads 7) someHouseholds twoAt2 0 2 ≡ 0 ∷ 3 ∷ []
+  -- 2 wins the household at 0 and the two at 1
+  pub sheet-N : sheet (roads 7) someHouseholds points ≡ 0 ∷ 0 ∷ 3 ∷ 0 ∷ 1 ∷ 3 ∷ []
+  -- 0 and 4 are both 7 from 2, so both win its household
+  pub sheet-tie : sheet (roads 7) oneAt2 sitesAt0And4 ≡ 1 ∷ 0 ∷ 0 ∷ 0 ∷ 1 ∷ 0 ∷ []

@@ -2,6 +2,7 @@
 // Insert, remove and the table check are lent a table with K = 2. And what the programs on N share: how they write, its rows, whether two arrays are the
 // same, and the refusals.
 use overlap::Listing;
+use overlap::RowPart;
 use overlap::Update;
 use overlap::Verdict;
 
@@ -19,6 +20,11 @@ pub const WEIGHTS: [u32; 10] = [4, 5, 4, 3, 3, 7, 5, 3, 7, 3];
 
 // Lockers at 2, 4 and 5.
 pub const POINTS: [u8; 6] = [0, 0, 1, 0, 1, 1];
+
+// Households: one at 0, two at 1, one at 3, three at 5; and a rival's lockers at 0, 2 and 3.
+pub const HOUSEHOLDS: [u8; 6] = [1, 2, 0, 1, 0, 3];
+
+pub const RIVAL: [u8; 6] = [1, 0, 1, 1, 0, 0];
 
 // 16 × n + 8 × (A + n) × m with n = 6, A = 10 and m = 3.
 pub const SCRATCH: usize = 480;
@@ -131,13 +137,46 @@ pub fn lazy_ep(q: u32, k: u32, answers: &mut [u32; 6]) -> Listing {
     )
 }
 
+// The lockers of N are the sites.
+pub fn households(q: u32, k: u32, answers: &mut [u32; 6]) -> Listing {
+    let mut scratch = [0; SCRATCH];
+    overlap::overlap_households(
+        &STARTS,
+        &NEIGHBOURS,
+        &WEIGHTS,
+        &HOUSEHOLDS,
+        &POINTS,
+        q,
+        k,
+        &mut scratch,
+        answers,
+    )
+}
+
+pub fn sheet(households: &[u8; 6], answers: &mut [u32; 6]) -> u32 {
+    let mut scratch = [0; SCRATCH];
+    overlap::overlap_sheet(
+        &STARTS,
+        &NEIGHBOURS,
+        &WEIGHTS,
+        households,
+        &POINTS,
+        &mut scratch,
+        answers,
+    )
+}
+
 pub fn build(places: u32, ids: &mut [u32], distances: &mut [u32]) -> u32 {
+    build_of(&POINTS, places, ids, distances)
+}
+
+pub fn build_of(points: &[u8; 6], places: u32, ids: &mut [u32], distances: &mut [u32]) -> u32 {
     let mut scratch = [0; SCRATCH];
     overlap::overlap_build(
         &STARTS,
         &NEIGHBOURS,
         &WEIGHTS,
-        &POINTS,
+        points,
         places,
         &mut scratch,
         ids,
@@ -210,5 +249,67 @@ pub fn table_query(
         distances,
         &mut scratch,
         answers,
+    )
+}
+
+// Of two tables with K = 2, the row whose first entry is nearer; and its number.
+pub fn nearer_row<'a>(
+    junction: u32,
+    own_ids: &[u32],
+    own_distances: &'a [u32],
+    rival_ids: &[u32],
+    rival_distances: &'a [u32],
+) -> &'a [u32] {
+    overlap::overlap_nearer_row(
+        &STARTS,
+        &NEIGHBOURS,
+        &WEIGHTS,
+        junction,
+        2,
+        own_ids,
+        own_distances,
+        rival_ids,
+        rival_distances,
+    )
+}
+
+pub fn nearer_row_number(
+    junction: u32,
+    own_ids: &[u32],
+    own_distances: &[u32],
+    rival_ids: &[u32],
+    rival_distances: &[u32],
+) -> u32 {
+    overlap::overlap_nearer_row_number(
+        &STARTS,
+        &NEIGHBOURS,
+        &WEIGHTS,
+        junction,
+        2,
+        own_ids,
+        own_distances,
+        rival_ids,
+        rival_distances,
+    )
+}
+
+// Whose row it is: overlap.h's struct.
+pub fn nearer_row_part(
+    junction: u32,
+    own_ids: &[u32],
+    own_distances: &[u32],
+    rival_ids: &[u32],
+    rival_distances: &[u32],
+) -> RowPart {
+    overlap::overlap_nearer_row_part(
+        &STARTS,
+        &NEIGHBOURS,
+        &WEIGHTS,
+        junction,
+        2,
+        own_ids,
+        own_distances,
+        rival_ids,
+        rival_distances,
     )
 }
