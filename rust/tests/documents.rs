@@ -188,14 +188,13 @@ fn edit(path: &Path) -> String {
 
 /// A type and the function of its values, and an answer of `src/` with what it answers: pairs that may
 /// differ in case only.
-const PAIRS: [[&str; 2]; 8] = [
+const PAIRS: [[&str; 2]; 7] = [
     ["BuildOutcome", "buildOutcome"],
     ["EntriesOutcome", "entriesOutcome"],
     ["EagerOutcome", "eagerOutcome"],
     ["Listed", "listed"],
     ["NearestOutcome", "nearestOutcome"],
     ["Network", "network"],
-    ["RowPart", "rowPart"],
     ["VerifyOutcome", "verifyOutcome"],
 ];
 

@@ -1,4 +1,5 @@
-// The answers of the calls: each as an enum, refused with a number or what the call found, and as overlap.h's struct of number and values.
+// The answers of the calls: each as an enum, refused with a number or what the call found, and as overlap.h's struct of number and values. The nearer
+// row's is a struct alone.
 ghost use mathlib.Core.Path.{_≡_};
 ghost use Rattle.conditions.specs.Values.{listedListing, ruleVerdict, updatedUpdate};
 

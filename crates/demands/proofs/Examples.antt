@@ -16,6 +16,7 @@ use Rattle.site_calls.specs.Distances.{distancesOutcome}
 use Rattle.site_calls.specs.Nearest.{nearestIds, nearestDistances, nearestOutcome}
 use Rattle.site_calls.specs.Verify.{verifyOutcome}
 use Rattle.site_calls.specs.Eager.{limitedOutcome, visitsOutcome, eagerOutcome, shortOutcome}
+use Rattle.site_calls.specs.Shared.{listOutcome, entriesOutcome}
 use Rattle.site_calls.specs.Lazy.{lazyOutcome}
 use Rattle.table_calls.specs.TableCheck.{tableCheckAnswer}
 use Rattle.table_calls.specs.Build.{buildOutcome}
@@ -23,7 +24,7 @@ use Rattle.demands.specs.Book.{bookNumber, bookCall, bookAnswers}
 use Rattle.demands.specs.Examples.{Examples}
 
 pub examples : Examples
-unfolding any count total select tabulate arcsFrom arcsOf partOf badSize fallsAt badStarts badNeighbourAt badPart badNeighboursOf badNeighbours badWeightAt badWeights isArcAt hasArc lacksReturnAt lacksReturnOf lacksReturn networkNumber plus leastOver within dist distancesFrom isNearer countNearer othersNearer verified isListed listed isExpanded expanded exceedsLimit insert insertTimes byDistance nearest row rowsBelow tableIds tableDistances answered sameList sameTable firstNumber badByteAt pointsNumber nodeNumber kNumber tableKNumber tableNumber shortNumber fullNumber unmarkedNumber queryNumber tableCheckNumber buildNumber tableNodeNumber networkPointsNumber siteNumber tableQueryNumber distancesNumber distancesOutcome nearestNumber nearestIds nearestDistances nearestOutcome verifyNumber verifyOutcome searchNumber limitedNumber eagerNumber limitedOutcome visitsOutcome eagerOutcome shortOutcome visits lazyOutcome changeNumber limitNumber tableCheckAnswer buildOutcome sameRow rowsChanged bookNumber bookCall bookAnswers
+unfolding any count total select tabulate arcsFrom arcsOf partOf badSize fallsAt badStarts badNeighbourAt badPart badNeighboursOf badNeighbours badWeightAt badWeights isArcAt hasArc lacksReturnAt lacksReturnOf lacksReturn networkNumber plus leastOver within dist distancesFrom isNearer countNearer othersNearer verified isListed listed isExpanded expanded exceedsLimit insert insertTimes byDistance nearest row rowsBelow tableIds tableDistances answered sameList sameTable firstNumber badByteAt pointsNumber nodeNumber kNumber tableKNumber tableNumber shortNumber fullNumber unmarkedNumber queryNumber tableCheckNumber buildNumber tableNodeNumber networkPointsNumber siteNumber tableQueryNumber distancesNumber distancesOutcome nearestNumber nearestIds nearestDistances nearestOutcome verifyNumber verifyOutcome searchNumber limitedNumber eagerNumber limitedOutcome visitsOutcome eagerOutcome shortOutcome visits listOutcome entriesOutcome lazyOutcome changeNumber limitNumber tableCheckAnswer buildOutcome sameRow rowsChanged bookNumber bookCall bookAnswers
 examples =
     record {
       no-1 = refl;

@@ -1,4 +1,4 @@
-// Network N of document 01 through every public call, with its cases P1 to P10, the lease list, households against a rival's and the
+// Network N of document 01 through every public call, with its cases P1 to P10, the lease list, sites against a rival's and the
 // twelve refusals.
 use network_n::refusals;
 use network_n::text::put;

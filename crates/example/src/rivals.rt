@@ -1,6 +1,6 @@
 // Ask 1 on network N, whose lockers are the sites: the households that a site wins, the sheet, and the nearer of its rows and a rival's.
 use network_n::HOUSEHOLDS;
-use network_n::RIVAL;
+use network_n::RIVAL_POINTS;
 use network_n::text::put;
 use network_n::text::put_answer;
 use network_n::text::put_entry;
@@ -89,7 +89,7 @@ pub fn show_nearer_rows() {
     let mut rival_ids = [0; 12];
     let mut rival = [0; 12];
     network_n::build(2, &mut own_ids, &mut own);
-    network_n::build_of(&RIVAL, 2, &mut rival_ids, &mut rival);
+    network_n::build_of(&RIVAL_POINTS, 2, &mut rival_ids, &mut rival);
     put(b"The row whose first entry is nearer, K 2; a rival's lockers at 0, 2 and 3\n");
     show_each(&own_ids, &own, &rival_ids, &rival);
     put(b"\n");

@@ -1,7 +1,7 @@
 -- Where an expansion of everything ends: each node's seat is that of its distance.
 -- Assumes nothing.
 use Prim.Native.Nat.{ℕ, zero, suc, _+_, _-_, _<_}
-use mathlib.Core.Path.{_≡_, refl, sym, ap, _∙_}
+use mathlib.Core.Path.{_≡_, sym, ap, _∙_}
 use mathlib.Core.Logic.{_≢_}
 use mathlib.Core.List.{List}
 use native.Mathlib.Nat.{zero-add}
@@ -10,17 +10,12 @@ use native.Mathlib.Omega.{arith}
 use lib.ListN.{getD, replicate, getD-replicate, length-replicate, List·getD-eq-default}
 use borrow.Author.Tests.{eq-eqb, ne-eqb, le-leb, lt-leb}
 use Rattle.network.specs.Network.{Network, nodeCount}
-use Rattle.network.specs.Accepted.{Accepted}
 use Rattle.network.specs.Distance.{NONE, dist, distancesFrom}
 use Rattle.network.specs.Count.{tabulate}
 use Rattle.network.proofs.Tabulate.{tabulate-same}
-use Rattle.network.proofs.Distances.{dist-walk}
 use Rattle.expansion.specs.Area.{LabelAt, Kept, Blank, Wiped}
 use Rattle.expansion.specs.Expand.{labelWord, wordDistance, labelIn, SettledAll}
-use Rattle.expansion.proofs.Origins.{one}
 use Rattle.expansion.proofs.AreaLaws.{kept-trans}
-use Rattle.expansion.proofs.AreaSearch.{word-label, search-finished}
-use Rattle.expansion.proofs.Progress.{All, all-leads, Progress}
 
 pub label-none : (n d : ℕ) → d ≡ NONE → labelWord n d ≡ 0
 unfolding labelWord

@@ -18,7 +18,7 @@ use Rattle.network.proofs.Counts.{selected, select-passed}
 use Rattle.expansion.specs.Queue.{keyOf, keyAt}
 use Rattle.expansion.specs.Tags.{tagOf, nodeOf}
 use Rattle.expansion.specs.NodeQueue.{PushedNode}
-use Rattle.expansion.specs.Area.{queueBase, queueOf, LabelAt, HeldAt, Area, Kept}
+use Rattle.expansion.specs.Area.{queueBase, queueOf, HeldAt, Area, Kept}
 use Rattle.expansion.specs.Expand.{labelWord, isWaiting, nodesWaiting, distFrom, CanExpand, CanSettleFrom, SettledAll, SettledFrom}
 use Rattle.expansion.proofs.Origins.{Origin}
 use Rattle.expansion.proofs.Several.{several, several-lawful, from-one}

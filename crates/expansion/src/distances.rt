@@ -18,14 +18,14 @@ pub fn settle_waiting(
     weights: &[u32],
     s: &mut [u32],
     b: usize,
-    first: usize,
+    waiting: usize,
 ) -> usize
-    requires { ⌜ CanSettleFrom (network (now starts) (now neighbours) (now weights)) (now s) b first ⌝ }
+    requires { ⌜ CanSettleFrom (network (now starts) (now neighbours) (now weights)) (now s) b waiting ⌝ }
     ensures { λ r. ⌜ SettledFrom (network (now (starts .entry)) (now (neighbours .entry)) (now (weights .entry))) (now (s .entry)) (now (s .exit)) b r ⌝ }
 {
     let n = starts.len() - 1;
     let mut settled = 0;
-    let mut len = first;
+    let mut len = waiting;
     loop {
         let taken = step::next(s, b, n, len);
         let Taken::Node {

@@ -4,7 +4,7 @@ use Prim.Native.Nat.{ℕ}
 use mathlib.Core.List.{List}
 use Rattle.network.specs.Network.{Network}
 use Rattle.network.specs.Households.{won}
-use Rattle.site_calls.specs.Searched.{SearchOutcome, listOutcome}
+use Rattle.site_calls.specs.Shared.{SearchOutcome, listOutcome}
 use Rattle.household_calls.specs.Numbers.{householdsNumber}
 
 unfoldable pub householdsOutcome : Network → List ℕ → List ℕ → ℕ → ℕ → List ℕ → List ℕ → SearchOutcome

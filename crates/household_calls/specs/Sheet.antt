@@ -5,7 +5,7 @@ use Prim.Native.Nat.{ℕ}
 use mathlib.Core.List.{List}
 use Rattle.network.specs.Network.{Network}
 use Rattle.network.specs.Households.{sheet}
-use Rattle.site_calls.specs.Searched.{EntriesOutcome, entriesOutcome}
+use Rattle.site_calls.specs.Shared.{EntriesOutcome, entriesOutcome}
 use Rattle.household_calls.specs.Numbers.{sheetNumber}
 
 unfoldable pub sheetOutcome : Network → List ℕ → List ℕ → List ℕ → List ℕ → EntriesOutcome

@@ -1,4 +1,4 @@
--- Records of the work: what a number 0 leaves, and what the sheet's work leaves of the whole scratch. No public contract rests on them.
+-- Records of the work: what a number 0 leaves. No public contract rests on them.
 -- Assumes nothing.
 use Prim.Native.Nat.{ℕ, _≤_, _<_}
 use mathlib.Core.Path.{_≡_}
@@ -7,9 +7,6 @@ use lib.ListN.{length}
 use Rattle.network.specs.Network.{Network, nodeCount}
 use Rattle.network.specs.Accepted.{Accepted}
 use Rattle.network.specs.Scratch.{scratchWords}
-use Rattle.network.specs.Households.{sheet}
-use Rattle.network.specs.Answers.{answered}
-use Rattle.expansion.specs.Area.{Wiped}
 
 pub record HouseholdsReady (g : Network) (T : List ℕ) (q k : ℕ) (scratch answers : List ℕ) : Type 0 where
   pub accepted : Accepted g
@@ -23,7 +20,3 @@ pub record SheetReady (g : Network) (scratch answers : List ℕ) : Type 0 where
   pub accepted : Accepted g
   pub room : scratchWords g 1 ≤ length scratch
   pub places : nodeCount g ≤ length answers
-
-pub record SheetDone (g : Network) (H T xs ys old new : List ℕ) : Type 0 where
-  pub area : Wiped xs ys 0
-  pub answers : new ≡ answered (sheet g H T) old

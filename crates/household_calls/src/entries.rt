@@ -2,7 +2,8 @@
 ghost use mathlib.Core.Path.{_≡_};
 ghost use Rattle.network.specs.Network.{network};
 ghost use Rattle.household_calls.specs.Sheet.{sheetOutcome};
-ghost use Rattle.household_calls.specs.Work.{SheetReady, SheetDone};
+ghost use Rattle.household_calls.specs.Work.{SheetReady};
+ghost use Rattle.sheet.specs.Sheet.{SheetLeft};
 use crate::number;
 use expansion::words;
 
@@ -17,7 +18,7 @@ fn run(
     answers: &mut [u32],
 )
     requires { ⌜ SheetReady (network (now starts) (now neighbours) (now weights)) (now scratch) (now answers) ⌝ }
-    ensures { λ _. ⌜ SheetDone (network (now (starts .entry)) (now (neighbours .entry)) (now (weights .entry))) (now (households .entry)) (now (sites .entry)) (now (scratch .entry)) (now (scratch .exit)) (now (answers .entry)) (now (answers .exit)) ⌝ }
+    ensures { λ _. ⌜ SheetLeft (network (now (starts .entry)) (now (neighbours .entry)) (now (weights .entry))) (now (households .entry)) (now (sites .entry)) (now (scratch .entry)) (now (scratch .exit)) (now (answers .entry)) (now (answers .exit)) ⌝ }
 {
     let used = 6 * (starts.len() - 1);
     words::zero(scratch);

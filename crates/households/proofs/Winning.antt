@@ -1,8 +1,8 @@
 -- The search for the households that a site wins, under way. It follows the arcs of the unbeaten nodes, and answers for them. A flag is that of a listed
 -- household, and each settled node that is listed has its flag.
 -- Assumes nothing.
-use Prim.Native.Nat.{ℕ, _+_, _*_, _≤_, _<_}
-use mathlib.Core.Path.{_≡_, refl, sym, ap, _∙_}
+use Prim.Native.Nat.{ℕ, _+_, _≤_, _<_}
+use mathlib.Core.Path.{_≡_, sym, ap, _∙_}
 use mathlib.Core.Bool.{true}
 use mathlib.Core.Logic.{_≢_, ⊎-elim}
 use mathlib.Core.List.{List, _++_}
@@ -13,9 +13,9 @@ use lib.Seq.{ext-getD, getD-take, length-take-le, getD-set-same, getD-set-other}
 use borrow.Author.Tests.{ltb-true, lt-ltb}
 use Rattle.network.specs.Network.{Network, nodeCount, neighboursOf}
 use Rattle.network.specs.Accepted.{Accepted}
-use Rattle.network.specs.Distance.{NONE, dist}
+use Rattle.network.specs.Distance.{dist}
 use Rattle.network.specs.Count.{select}
-use Rattle.network.specs.Points.{lockers, marked, isExpanded}
+use Rattle.network.specs.Points.{lockers, isExpanded}
 use Rattle.network.specs.Households.{isWon, won}
 use Rattle.network.specs.Nearest.{nearest}
 use Rattle.network.proofs.Households.{won-parts, parts-won}
@@ -24,7 +24,7 @@ use Rattle.network.proofs.Distances.{dist-symmetric}
 use Rattle.network.proofs.Counts.{select-same}
 use Rattle.expansion.specs.Queue.{keyOf}
 use Rattle.expansion.specs.Tags.{tagOf}
-use Rattle.expansion.specs.Area.{queueBase, LabelAt, Moved, Took, Followed, Wiped, Area}
+use Rattle.expansion.specs.Area.{queueBase, LabelAt, Moved, Took, Followed}
 use Rattle.expansion.specs.NodeQueue.{PushedNode}
 use Rattle.expansion.specs.Expand.{CanExpand}
 use Rattle.expansion.specs.Found.{CanFind, NodesLeft}
@@ -41,7 +41,7 @@ use Rattle.searches.specs.Eager.{isFound}
 use Rattle.searches.proofs.Beaten.{Beaten, Unbeaten, unbeaten-closed, expanded-unbeaten}
 use Rattle.searches.proofs.Tells.{tells-expanded, tells-beaten, front-kept, labels-then}
 use Rattle.searches.proofs.FlagLaws.{flag-right}
-use Rattle.households.specs.Winning.{flagsBase, outerBase, CanCountSites, CanWin, Explored, WonLeft}
+use Rattle.households.specs.Winning.{flagsBase, outerBase, CanCountSites, CanWin, Explored}
 
 -- ---- A look: the words that it is lent are all 0 when the found nodes are cleared.
 module _ {g : Network} {T : List ℕ} {v : ℕ} {xs : List ℕ} (c : CanCountSites g T xs v) where

@@ -4,7 +4,7 @@
 use Prim.Native.Nat.{ℕ, _*_, _≤_, _<_}
 use mathlib.Core.Path.{_≡_}
 use mathlib.Core.List.{List}
-use lib.ListN.{length, getD}
+use lib.ListN.{length}
 use Rattle.network.specs.Network.{Network, nodeCount}
 use Rattle.network.specs.Accepted.{Accepted}
 use Rattle.network.specs.Households.{isWon, won}
@@ -19,7 +19,7 @@ flagsBase g = 5 * nodeCount g
 abbrev pub outerBase : Network → ℕ
 outerBase g = 6 * nodeCount g
 
--- a node, a byte for each node, and words that are all 0, with room for the found nodes and for the inner expansions
+-- a node, a byte of sites for each node, and words that are all 0, with room for the found nodes and for the inner expansions
 pub record CanCountSites (g : Network) (T xs : List ℕ) (v : ℕ) : Type 0 where
   pub accepted : Accepted g
   pub sites : length T ≡ nodeCount g
@@ -27,7 +27,7 @@ pub record CanCountSites (g : Network) (T xs : List ℕ) (v : ℕ) : Type 0 wher
   pub blank : Blank xs 0
   pub size : flagsBase g ≤ length xs
 
--- an accepted network with a byte for each node, a node q, at least one nearest, and words that are all 0 with room for the areas
+-- an accepted network with a byte of sites for each node, a node q, k at least 1, and words that are all 0 with room for the areas
 pub record CanWin (g : Network) (T xs : List ℕ) (q k : ℕ) : Type 0 where
   pub accepted : Accepted g
   pub sites : length T ≡ nodeCount g

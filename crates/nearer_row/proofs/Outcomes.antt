@@ -11,7 +11,7 @@ use lib.Dec.{leb}
 use lib.ListN.{length, getD}
 use borrow.Author.Tests.{eq-eqb, ne-eqb}
 use Rattle.network.specs.Network.{Network, nodeCount}
-use Rattle.network.specs.Rows.{rowPart}
+use Rattle.network.specs.Rows.{rowEntries}
 use Rattle.network.proofs.Lends.{row-fits}
 use Rattle.conditions.proofs.NotMet.{first-zero, node-ready, table-ready}
 use Rattle.conditions.specs.declared.answers.RowPart.{RowPart}
@@ -21,17 +21,17 @@ use Rattle.nearer_row.specs.Work.{BothHaveRow}
 
 module _ (K i : ℕ) (own rival : List ℕ) where
   -- the comparison of the first entries of both rows
-  pub own-nearer-is : {mine theirs : List ℕ} → mine ≡ rowPart K i own → theirs ≡ rowPart K i rival
+  pub own-nearer-is : {mine theirs : List ℕ} → mine ≡ rowEntries K i own → theirs ≡ rowEntries K i rival
       → leb (getD mine 0 0) (getD theirs 0 0) ≡ ownNearer K i own rival
   unfolding ownNearer
   own-nearer-is e f = rw (e, f)
 
   -- the clauses of `nearerRow` and of `nearerPart`: the own row is nearer or as near; the rival's is nearer
-  pub row-own : ownNearer K i own rival ≡ true → nearerRow K i own rival ≡ rowPart K i own
+  pub row-own : ownNearer K i own rival ≡ true → nearerRow K i own rival ≡ rowEntries K i own
   unfolding nearerRow
   row-own e = rw e
 
-  pub row-rival : ownNearer K i own rival ≡ false → nearerRow K i own rival ≡ rowPart K i rival
+  pub row-rival : ownNearer K i own rival ≡ false → nearerRow K i own rival ≡ rowEntries K i rival
   unfolding nearerRow
   row-rival e = rw e
 
@@ -45,12 +45,12 @@ module _ (K i : ℕ) (own rival : List ℕ) where
 
 -- the part that a struct names: of the own distances, of the rival's, and nothing on a refusal
 module _ (K i number : ℕ) (own rival : List ℕ) where
-  named-own : namedPart (record { number = number; rival = 0; start = i * K; length = K }) own rival ≡ rowPart K i own
-  unfolding namedPart namedArray rowPart
+  named-own : namedPart (record { number = number; rival = 0; start = i * K; length = K }) own rival ≡ rowEntries K i own
+  unfolding namedPart namedArray rowEntries
   named-own = refl
 
-  named-rival : namedPart (record { number = number; rival = 1; start = i * K; length = K }) own rival ≡ rowPart K i rival
-  unfolding namedPart namedArray rowPart
+  named-rival : namedPart (record { number = number; rival = 1; start = i * K; length = K }) own rival ≡ rowEntries K i rival
+  unfolding namedPart namedArray rowEntries
   named-rival = refl
 
   named-none : namedPart (refusedPart number) own rival ≡ []

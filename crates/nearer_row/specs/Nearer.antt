@@ -9,17 +9,17 @@ use lib.Dec.{leb}
 use lib.ListN.{length, getD}
 use Rattle.network.specs.Network.{Network, nodeCount}
 use Rattle.network.specs.Check.{networkNumber}
-use Rattle.network.specs.Rows.{rowPart}
+use Rattle.network.specs.Rows.{rowEntries}
 use Rattle.conditions.specs.Conditions.{firstNumber, byNumber, nodeNumber, tableNumber}
 
 -- the first entry of row i is no farther in the own distances than in the rival's: 'the own one when equal'. NONE is the largest number, so that a row
 -- without an entry is nearer than no other.
 unfoldable pub ownNearer : ℕ → ℕ → List ℕ → List ℕ → Bool
-ownNearer K i own rival = leb (getD (rowPart K i own) 0 0) (getD (rowPart K i rival) 0 0)
+ownNearer K i own rival = leb (getD (rowEntries K i own) 0 0) (getD (rowEntries K i rival) 0 0)
 
 -- 'the row whose first entry is nearer', its distances
 unfoldable pub nearerRow : ℕ → ℕ → List ℕ → List ℕ → List ℕ
-nearerRow K i own rival = cond (ownNearer K i own rival) (rowPart K i own) (rowPart K i rival)
+nearerRow K i own rival = cond (ownNearer K i own rival) (rowEntries K i own) (rowEntries K i rival)
 
 -- 'Conditions are tried from 1 upward, those whose subject the call has' (document 01): 1 to 5, 7, and '8 each table, in the order lent'. No table's
 -- contents are tested.

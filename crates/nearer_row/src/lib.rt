@@ -13,9 +13,9 @@ fn own_nearer(own: &[u32], rival: &[u32], i: usize, places: usize) -> bool
     requires { ⌜ BothHaveRow places i (now own) (now rival) ⌝ }
     ensures { λ r. ⌜ r ≡ ownNearer places i (now (own .entry)) (now (rival .entry)) ⌝ }
 {
-    let mine = row_of(own, i, places);
-    let theirs = row_of(rival, i, places);
-    mine[0] <= theirs[0]
+    let own_row = row_of(own, i, places);
+    let rival_row = row_of(rival, i, places);
+    own_row[0] <= rival_row[0]
 }
 
 // The nearer of both rows i. Nothing is copied.

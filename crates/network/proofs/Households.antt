@@ -6,7 +6,7 @@ use mathlib.Core.Bool.{Bool, true, false, not, _&&_, false≢true}
 use mathlib.Core.List.{List}
 use native.Mathlib.Omega.{arith}
 use lib.Dec.{eqb, ltb}
-use borrow.Author.Tests.{ne-eqb, lt-ltb, ltb-true, ltb-false, le-ltb}
+use borrow.Author.Tests.{ne-eqb, lt-ltb, ltb-false, le-ltb}
 use Rattle.network.specs.Network.{Network, nodeCount}
 use Rattle.network.specs.Accepted.{Accepted}
 use Rattle.network.specs.Distance.{NONE, dist}

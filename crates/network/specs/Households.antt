@@ -1,7 +1,7 @@
 -- Document 02, Ask 1: 'which households a site wins', and the sheet of all sites. 'Two byte arrays are lent, households and sites, both laid out as
 -- points': a byte is how many stand at a node, 0 to 15, and each counts (Ask 8).
 -- Assumes nothing.
-use Prim.Native.Nat.{ℕ, _≤_, _<_}
+use Prim.Native.Nat.{ℕ, _≤_}
 use mathlib.Core.Path.{_≡_}
 use mathlib.Core.Bool.{Bool, true, cond, _&&_}
 use mathlib.Core.List.{List}
@@ -10,8 +10,9 @@ use Rattle.network.specs.Accepted.{Accepted}
 use Rattle.network.specs.Count.{sumOver, select, tabulate}
 use Rattle.network.specs.Points.{lockers, marked, isExpanded, shortK}
 
--- 'A household is listed for q exactly if it can be reached and fewer than k sites are strictly nearer to it than q': its node is one that eager expands
--- with the sites as points. A site on the household's own node is such a site, where q is another node; q need not be a site.
+-- 'A household is listed for q exactly if it can be reached and fewer than k sites are strictly nearer to it than q': of node h with a household that is
+-- `isExpanded` with the sites as points: d(h, q) is not NONE, which is to be reached from q, as roads run both ways (`dist-symmetric`), and fewer than k sites
+-- t, each counted, have d(h, t) < d(h, q). A site on h itself is such a site, where q is another node; q need not be a site.
 unfoldable pub isWon : Network → List ℕ → List ℕ → ℕ → ℕ → ℕ → Bool
 isWon g H T q k h = marked H h && isExpanded g T q k h
 

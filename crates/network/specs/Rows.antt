@@ -31,8 +31,8 @@ unfoldable pub tableDistances : Network → List ℕ → ℕ → List ℕ
 tableDistances g P K = map (λ x. x .1) (rowsBelow g P K (nodeCount g))
 
 -- row i of the ids or of the distances: 'Row i starts in the middle of each array, at i × K, and is passed to its reader or writer as that part.'
-unfoldable pub rowPart : ℕ → ℕ → List ℕ → List ℕ
-rowPart K i xs = take K (drop (i * K) xs)
+unfoldable pub rowEntries : ℕ → ℕ → List ℕ → List ℕ
+rowEntries K i xs = take K (drop (i * K) xs)
 
 -- 'Two arrays of n × K entries'
 pub record Sized (g : Network) (K : ℕ) (ids dists : List ℕ) : Type 0 where

@@ -24,7 +24,7 @@ pub const POINTS: [u8; 6] = [0, 0, 1, 0, 1, 1];
 // Households: one at 0, two at 1, one at 3, three at 5; and a rival's lockers at 0, 2 and 3.
 pub const HOUSEHOLDS: [u8; 6] = [1, 2, 0, 1, 0, 3];
 
-pub const RIVAL: [u8; 6] = [1, 0, 1, 1, 0, 0];
+pub const RIVAL_POINTS: [u8; 6] = [1, 0, 1, 1, 0, 0];
 
 // 16 × n + 8 × (A + n) × m with n = 6, A = 10 and m = 3.
 pub const SCRATCH: usize = 480;

@@ -1,4 +1,5 @@
-// The public calls of the overlap engine, as include/overlap.h declares them. None has a requires: bad input is refused by its number.
+// The public calls of the overlap engine, as include/overlap.h declares them, and `overlap_nearer_row`, which returns a reference and is for Rattle alone. None
+// has a requires: bad input is refused by its number.
 ghost use mathlib.Core.Path.{_≡_};
 ghost use Rattle.network.specs.Network.{network};
 ghost use Rattle.network.specs.Check.{networkNumber};

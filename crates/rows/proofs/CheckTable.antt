@@ -16,7 +16,7 @@ use Rattle.network.specs.Accepted.{Accepted}
 use Rattle.network.specs.Distance.{NONE}
 use Rattle.network.specs.Count.{any}
 use Rattle.network.specs.Points.{lockers, marked}
-use Rattle.network.specs.Rows.{rowPart, tableIds, tableDistances, IsTable, sameList, sameTable}
+use Rattle.network.specs.Rows.{rowEntries, tableIds, tableDistances, IsTable, sameList, sameTable}
 use Rattle.network.proofs.Tests.{and-parts, and-intro, and-left, and-right, or-parts, or-intro, or-cases, or-left, or-right, any-none, none-any, one-any, any-passes}
 use Rattle.network.proofs.Rank.{marked-inside}
 use Rattle.network.proofs.NodeArcs.{arc-source}
@@ -63,37 +63,37 @@ module _ {g : Network} {P : List ℕ} {K : ℕ} {ids dists : List ℕ} (c : CanC
   abbrev T : ℕ → List (ℕ × ℕ)
   T i = unpadded (rowAt ids dists K i)
 
-  part-length : (i : ℕ) → i < nodeCount g → length (rowPart K i ids) ≡ K
+  part-length : (i : ℕ) → i < nodeCount g → length (rowEntries K i ids) ≡ K
   part-length i h = row-part-length K i ids (rows-lie (c .readable) i h .in-ids)
 
-  row-is : (i : ℕ) → i < nodeCount g → rowOf (rowPart K i ids) (rowPart K i dists) ≡ rowAt ids dists K i
-  unfolding rowPart
+  row-is : (i : ℕ) → i < nodeCount g → rowOf (rowEntries K i ids) (rowEntries K i dists) ≡ rowAt ids dists K i
+  unfolding rowEntries
   row-is i h =
-      ap (places (rowPart K i ids) (rowPart K i dists) 0) (part-length i h) ∙ part-places ids dists (i * K) K
+      ap (places (rowEntries K i ids) (rowEntries K i dists) 0) (part-length i h) ∙ part-places ids dists (i * K) K
 
-  entries-are : (i : ℕ) → i < nodeCount g → entries (rowPart K i ids) (rowPart K i dists) ≡ T i
+  entries-are : (i : ℕ) → i < nodeCount g → entries (rowEntries K i ids) (rowEntries K i dists) ≡ T i
   entries-are i h = ap unpadded (row-is i h)
 
-  some : (i : ℕ) → i < nodeCount g → 1 ≤ length (rowPart K i ids)
+  some : (i : ℕ) → i < nodeCount g → 1 ≤ length (rowEntries K i ids)
   some i h = omega (arith, part-length i h, c .readable .some)
 
   -- nothing is wrong
   module _ (e : any (badNode g P K ids dists) (nodeCount g) ≡ false) where
     node : (i : ℕ) → i < nodeCount g
-        → (badRow P (rowPart K i ids) (rowPart K i dists) ≡ false) × (lacksOwn P (rowPart K i ids) (rowPart K i dists) i ≡ false)
+        → (badRow P (rowEntries K i ids) (rowEntries K i dists) ≡ false) × (lacksOwn P (rowEntries K i ids) (rowEntries K i dists) i ≡ false)
         × (unsupported g P K ids dists i ≡ false) × (unclosed g K ids dists i ≡ false)
     unfolding badNode
     node i h =
         let r = any-none (badNode g P K ids dists) (nodeCount g) i e h in
-        let row = badRow P (rowPart K i ids) (rowPart K i dists) in
-        let own = lacksOwn P (rowPart K i ids) (rowPart K i dists) i in
+        let row = badRow P (rowEntries K i ids) (rowEntries K i dists) in
+        let own = lacksOwn P (rowEntries K i ids) (rowEntries K i dists) i in
         let s = or-parts (row || own || unsupported g P K ids dists i) _ r in
         let t = or-parts (row || own) _ (s .0) in
         let u = or-parts row _ (t .0) in
         (u .0, u .1, t .1, s .1)
 
-    good : (i : ℕ) → i < nodeCount g → Good P (rowPart K i ids) (rowPart K i dists)
-    good i h = row-good P (rowPart K i ids) (rowPart K i dists) (node i h .0)
+    good : (i : ℕ) → i < nodeCount g → Good P (rowEntries K i ids) (rowEntries K i dists)
+    good i h = row-good P (rowEntries K i ids) (rowEntries K i dists) (node i h .0)
 
     arrives : (i p d : ℕ) → i < nodeCount g → p ≢ NONE → comesOver g K ids dists i p d ≡ true → Support g P T i p d
     unfolding comesOver comesAt comesFrom
@@ -121,10 +121,10 @@ module _ {g : Network} {P : List ℕ} {K : ℕ} {ids dists : List ℕ} (c : CanC
         (λ o. arrives i p d h n o)
         (or-cases (eqb p NONE || isOwn P i p d) _ f)
 
-    supported-at : (i j : ℕ) → i < nodeCount g → j < length (rowPart K i ids)
-        → isSupported g P K ids dists i (getD (rowPart K i ids) j 0) (getD (rowPart K i dists) j 0) ≡ true
+    supported-at : (i j : ℕ) → i < nodeCount g → j < length (rowEntries K i ids)
+        → isSupported g P K ids dists i (getD (rowEntries K i ids) j 0) (getD (rowEntries K i dists) j 0) ≡ true
     unfolding unsupported unsupportedAt
-    supported-at i j h l = not-false _ (any-none (unsupportedAt g P K ids dists i) (length (rowPart K i ids)) j (node i h .2) l)
+    supported-at i j h l = not-false _ (any-none (unsupportedAt g P K ids dists i) (length (rowEntries K i ids)) j (node i h .2) l)
 
     supported : (i p d : ℕ) → i < nodeCount g → List·Memᴰ (p, d) (T i) → Support g P T i p d
     supported i p d h m =
@@ -145,14 +145,14 @@ module _ {g : Network} {P : List ℕ} {K : ℕ} {ids dists : List ℕ} (c : CanC
     unfolding asksFor
     asked xs ys p d n f = not-false _ (rw (ne-eqb p NONE n) at f)
 
-    asked-at : {i a w : ℕ} → Arc g i a w → (m : ℕ) → m < length (rowPart K a ids)
-        → asksFor (rowPart K i ids) (rowPart K i dists) (getD (rowPart K a ids) m 0) (getD (rowPart K a dists) m 0 + w) ≡ false
+    asked-at : {i a w : ℕ} → Arc g i a w → (m : ℕ) → m < length (rowEntries K a ids)
+        → asksFor (rowEntries K i ids) (rowEntries K i dists) (getD (rowEntries K a ids) m 0) (getD (rowEntries K a dists) m 0 + w) ≡ false
     unfolding unclosed asksOver asksFrom asks asksAt
     asked-at {i} {a} {w} arc m l =
         let h = arc-source arc in
         let x = arc-place (accepted-ranges ok) arc in
         let f = any-none (asksOver g K ids dists i) (length (neighboursOf g i)) (x .at) (node i h .3) (x .low) in
-        any-none (asksAt (rowPart K i ids) (rowPart K i dists) (rowPart K a ids) (rowPart K a dists) w) (length (rowPart K a ids)) m (rw (x .leads, x .weighs) at f) l
+        any-none (asksAt (rowEntries K i ids) (rowEntries K i dists) (rowEntries K a ids) (rowEntries K a dists) w) (length (rowEntries K a ids)) m (rw (x .leads, x .weighs) at f) l
 
     closed : {i a w : ℕ} → Arc g i a w → (p d : ℕ) → List·Memᴰ (p, d) (T a) → Placed K (T i) p (d + w)
     closed {i} {a} {w} arc p d m =
@@ -162,10 +162,10 @@ module _ {g : Network} {P : List ℕ} {K : ℕ} {ids dists : List ℕ} (c : CanC
         let x = in-shape s (p, d) (rw (entries-are a l) m) in
         let u = ap (λ (y : ℕ × ℕ). y .0) (x .is) in
         let n : p ≢ NONE = λ z. s .some (x .index) (x .low) (sym u ∙ z) in
-        let f : asksFor (rowPart K i ids) (rowPart K i dists) p (d + w) ≡ false =
-        ap (λ (y : ℕ × ℕ). asksFor (rowPart K i ids) (rowPart K i dists) (y .0) (y .1 + w)) (x .is)
+        let f : asksFor (rowEntries K i ids) (rowEntries K i dists) p (d + w) ≡ false =
+        ap (λ (y : ℕ × ℕ). asksFor (rowEntries K i ids) (rowEntries K i dists) (y .0) (y .1 + w)) (x .is)
         ∙ asked-at arc (x .index) (omega (arith, x .low, s .low)) in
-        rw (entries-are i h, part-length i h) at (placed-in (good i h) (some i h) p (d + w) n (asked (rowPart K i ids) (rowPart K i dists) p (d + w) n f))
+        rw (entries-are i h, part-length i h) at (placed-in (good i h) (some i h) p (d + w) n (asked (rowEntries K i ids) (rowEntries K i dists) p (d + w) n f))
 
     passes-flat : Flat g P K ids dists
     passes-flat =
@@ -181,27 +181,27 @@ module _ {g : Network} {P : List ℕ} {K : ℕ} {ids dists : List ℕ} (c : CanC
 
   -- the rows are those of the table
   module _ (f : Flat g P K ids dists) where
-    good-of : (i : ℕ) → i < nodeCount g → Good P (rowPart K i ids) (rowPart K i dists)
+    good-of : (i : ℕ) → i < nodeCount g → Good P (rowEntries K i ids) (rowEntries K i dists)
     good-of i h =
-        sorted-good P (rowPart K i ids) (rowPart K i dists)
+        sorted-good P (rowEntries K i ids) (rowEntries K i dists)
         (rw (row-is i h, part-length i h) (f .rows .sorted i h))
         (rw (row-is i h, part-length i h) (f .padded i h))
 
     -- an entry has a locker, so it is a node
-    small-of : (i : ℕ) (h : i < nodeCount g) (j : ℕ) → j < good-of i h .shape .size → getD (rowPart K i ids) j 0 < 4294967296
+    small-of : (i : ℕ) (h : i < nodeCount g) (j : ℕ) → j < good-of i h .shape .size → getD (rowEntries K i ids) j 0 < 4294967296
     small-of i h j l =
-        let p = getD (rowPart K i ids) j 0 in
-        let m = among-has (rowPart K i ids) p (good-of i h .shape .size) j l refl in
+        let p = getD (rowEntries K i ids) j 0 in
+        let m = among-has (rowEntries K i ids) p (good-of i h .shape .size) j l refl in
         let n = marked-inside P p (lt-ltb 0 (lockers P p) (omega (arith, m, good-of i h .most p))) in
         omega (arith, n, c .points, ok .few)
 
     no-lockers : lockers P NONE ≡ 0
     no-lockers = List·getD-eq-default P 0 {n = NONE} (omega (arith, c .points, ok .few))
 
-    held-of : (i p d : ℕ) → i < nodeCount g → List·Memᴰ (p, d) (T i) → rowHolds (rowPart K i ids) (rowPart K i dists) p d ≡ true
+    held-of : (i p d : ℕ) → i < nodeCount g → List·Memᴰ (p, d) (T i) → rowHolds (rowEntries K i ids) (rowEntries K i dists) p d ≡ true
     held-of i p d h m = in-held (good-of i h .shape) p d (rw (entries-are i h) m)
 
-    has-own : (i : ℕ) → i < nodeCount g → lacksOwn P (rowPart K i ids) (rowPart K i dists) i ≡ false
+    has-own : (i : ℕ) → i < nodeCount g → lacksOwn P (rowEntries K i ids) (rowEntries K i dists) i ≡ false
     unfolding lacksOwn
     has-own i h =
         elim (decLt 0 (getD P i 0)) [
@@ -225,41 +225,41 @@ module _ {g : Network} {P : List ℕ} {K : ℕ} {ids dists : List ℕ} (c : CanC
         (or-right (eqb p NONE) _ (and-intro (eqb p i && eqb d 0) _ (and-intro (eqb p i) _ (eq-eqb p i q) (eq-eqb d 0 z)) (rw q at e)))
     support-passes i p d (via arc m q) = or-right (eqb p NONE || isOwn P i p d) _ (arrived i p d arc m q)
 
-    entry-of : (i j : ℕ) (h : i < nodeCount g) → j < length (rowPart K i ids) → getD (rowPart K i ids) j 0 ≢ NONE
-        → List·Memᴰ (getD (rowPart K i ids) j 0, getD (rowPart K i dists) j 0) (T i)
+    entry-of : (i j : ℕ) (h : i < nodeCount g) → j < length (rowEntries K i ids) → getD (rowEntries K i ids) j 0 ≢ NONE
+        → List·Memᴰ (getD (rowEntries K i ids) j 0, getD (rowEntries K i dists) j 0) (T i)
     entry-of i j h l n = rw (entries-are i h) at (shape-in (good-of i h .shape) j (entry-low (good-of i h .shape) j l n))
 
     all-supported : (i : ℕ) → i < nodeCount g → unsupported g P K ids dists i ≡ false
     unfolding unsupported unsupportedAt
     all-supported i h =
-        none-any (unsupportedAt g P K ids dists i) (length (rowPart K i ids)) (λ j l. ap not (one j l))
+        none-any (unsupportedAt g P K ids dists i) (length (rowEntries K i ids)) (λ j l. ap not (one j l))
       where
-        one : (j : ℕ) → j < length (rowPart K i ids) → isSupported g P K ids dists i (getD (rowPart K i ids) j 0) (getD (rowPart K i dists) j 0) ≡ true
+        one : (j : ℕ) → j < length (rowEntries K i ids) → isSupported g P K ids dists i (getD (rowEntries K i ids) j 0) (getD (rowEntries K i dists) j 0) ≡ true
         one j l =
-            elim (ℕ-discrete (getD (rowPart K i ids) j 0) NONE) [
-              | yes e ↦ sym (supported-padding g P K ids dists i (getD (rowPart K i ids) j 0) (getD (rowPart K i dists) j 0) e)
-              | no n ↦ support-passes i (getD (rowPart K i ids) j 0) (getD (rowPart K i dists) j 0) (f .rows .supported i _ _ h (entry-of i j h l n))
+            elim (ℕ-discrete (getD (rowEntries K i ids) j 0) NONE) [
+              | yes e ↦ sym (supported-padding g P K ids dists i (getD (rowEntries K i ids) j 0) (getD (rowEntries K i dists) j 0) e)
+              | no n ↦ support-passes i (getD (rowEntries K i ids) j 0) (getD (rowEntries K i dists) j 0) (f .rows .supported i _ _ h (entry-of i j h l n))
             ]
 
     none-asks : {i a w : ℕ} → Arc g i a w → asksFrom K ids dists i a w ≡ false
     unfolding asksFrom asks asksAt
     none-asks {i} {a} {w} arc =
-        none-any (asksAt (rowPart K i ids) (rowPart K i dists) (rowPart K a ids) (rowPart K a dists) w) (length (rowPart K a ids)) one
+        none-any (asksAt (rowEntries K i ids) (rowEntries K i dists) (rowEntries K a ids) (rowEntries K a dists) w) (length (rowEntries K a ids)) one
       where
-        placed : (p d : ℕ) → List·Memᴰ (p, d) (T a) → isPlaced (rowPart K i ids) (rowPart K i dists) p (d + w) ≡ true
+        placed : (p d : ℕ) → List·Memᴰ (p, d) (T a) → isPlaced (rowEntries K i ids) (rowEntries K i dists) p (d + w) ≡ true
         placed p d m =
             let h = arc-source arc in
             in-placed (good-of i h) (some i h) p (d + w) (rw (entries-are i h, part-length i h) (f .rows .closed arc p d m))
 
-        one : (m : ℕ) → m < length (rowPart K a ids)
-            → asksFor (rowPart K i ids) (rowPart K i dists) (getD (rowPart K a ids) m 0) (getD (rowPart K a dists) m 0 + w) ≡ false
+        one : (m : ℕ) → m < length (rowEntries K a ids)
+            → asksFor (rowEntries K i ids) (rowEntries K i dists) (getD (rowEntries K a ids) m 0) (getD (rowEntries K a dists) m 0 + w) ≡ false
         one m l =
-            elim (ℕ-discrete (getD (rowPart K a ids) m 0) NONE) [
-              | yes e ↦ sym (asks-padding (rowPart K i ids) (rowPart K i dists) (getD (rowPart K a ids) m 0) (getD (rowPart K a dists) m 0 + w) e)
+            elim (ℕ-discrete (getD (rowEntries K a ids) m 0) NONE) [
+              | yes e ↦ sym (asks-padding (rowEntries K i ids) (rowEntries K i dists) (getD (rowEntries K a ids) m 0) (getD (rowEntries K a dists) m 0 + w) e)
               | no n ↦
                   sym
-                  (asks-entry (rowPart K i ids) (rowPart K i dists) (getD (rowPart K a ids) m 0) (getD (rowPart K a dists) m 0 + w) true n
-                  (sym (placed (getD (rowPart K a ids) m 0) (getD (rowPart K a dists) m 0) (entry-of a m (ok .leads-in arc) l n))))
+                  (asks-entry (rowEntries K i ids) (rowEntries K i dists) (getD (rowEntries K a ids) m 0) (getD (rowEntries K a dists) m 0 + w) true n
+                  (sym (placed (getD (rowEntries K a ids) m 0) (getD (rowEntries K a dists) m 0) (entry-of a m (ok .leads-in arc) l n))))
             ]
 
     all-closed : (i : ℕ) → i < nodeCount g → unclosed g K ids dists i ≡ false
@@ -273,9 +273,9 @@ module _ {g : Network} {P : List ℕ} {K : ℕ} {ids dists : List ℕ} (c : CanC
         none-any (badNode g P K ids dists) (nodeCount g)
         (λ i h.
         or-intro
-        (badRow P (rowPart K i ids) (rowPart K i dists) || lacksOwn P (rowPart K i ids) (rowPart K i dists) i || unsupported g P K ids dists i) _
-        (or-intro (badRow P (rowPart K i ids) (rowPart K i dists) || lacksOwn P (rowPart K i ids) (rowPart K i dists) i) _
-        (or-intro (badRow P (rowPart K i ids) (rowPart K i dists)) _ (good-row (good-of i h) (small-of i h) no-lockers) (has-own i h)) (all-supported i h))
+        (badRow P (rowEntries K i ids) (rowEntries K i dists) || lacksOwn P (rowEntries K i ids) (rowEntries K i dists) i || unsupported g P K ids dists i) _
+        (or-intro (badRow P (rowEntries K i ids) (rowEntries K i dists) || lacksOwn P (rowEntries K i ids) (rowEntries K i dists) i) _
+        (or-intro (badRow P (rowEntries K i ids) (rowEntries K i dists)) _ (good-row (good-of i h) (small-of i h) no-lockers) (has-own i h)) (all-supported i h))
         (all-closed i h))
 
   -- so the check tells whether both arrays are the table

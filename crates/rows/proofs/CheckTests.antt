@@ -15,7 +15,7 @@ use Rattle.network.specs.Distance.{NONE}
 use Rattle.network.specs.Count.{count, bit}
 use Rattle.network.specs.Points.{lockers, marked}
 use Rattle.network.specs.Nearest.{key}
-use Rattle.network.specs.Rows.{rowPart}
+use Rattle.network.specs.Rows.{rowEntries}
 use Rattle.network.proofs.Tests.{and-intro, and-left, and-right}
 use Rattle.network.proofs.Ranges.{arc-at}
 use Rattle.network.proofs.NumberZero.{accepted-ranges}
@@ -190,8 +190,8 @@ pub among-end : (xs : List ℕ) (p j k c : ℕ) → j ≤ k → k ≤ j → c �
 among-end xs p j k c h l e = let q : j ≡ k = omega arith in e ∙ ap (among xs p) q
 
 -- the row of a neighbour
-pub row-part-length : (K i : ℕ) (xs : List ℕ) → i * K + K ≤ length xs → length (rowPart K i xs) ≡ K
-unfolding rowPart
+pub row-part-length : (K i : ℕ) (xs : List ℕ) → i * K + K ≤ length xs → length (rowEntries K i xs) ≡ K
+unfolding rowEntries
 row-part-length K i xs = mid-length (i * K) K xs
 
 module _ (K : ℕ) (ids dists : List ℕ) (c w p d : ℕ) where
@@ -199,7 +199,7 @@ module _ (K : ℕ) (ids dists : List ℕ) (c w p d : ℕ) where
   unfolding comesFrom
   comes-short h = rw (lt-leb w d h)
 
-  pub comes-held : (b : Bool) → w ≤ d → b ≡ rowHolds (rowPart K c ids) (rowPart K c dists) p (d - w) → b ≡ comesFrom K ids dists c w p d
+  pub comes-held : (b : Bool) → w ≤ d → b ≡ rowHolds (rowEntries K c ids) (rowEntries K c dists) p (d - w) → b ≡ comesFrom K ids dists c w p d
   unfolding comesFrom
   comes-held b h e = e ∙ sym (rw (le-leb w d h))
 
@@ -246,21 +246,21 @@ rows-lie {g} {K} r i h =
     let f = row-fits i (nodeCount g) K h in
     record { in-ids = omega (arith, r .sized .all-ids); in-dists = omega (arith, r .sized .all-dists) }
 
-pub row-parts-even : (K i : ℕ) (ids dists : List ℕ) → HasRows K ids dists i → length (rowPart K i dists) ≡ length (rowPart K i ids)
+pub row-parts-even : (K i : ℕ) (ids dists : List ℕ) → HasRows K ids dists i → length (rowEntries K i dists) ≡ length (rowEntries K i ids)
 row-parts-even K i ids dists h = row-part-length K i dists (h .in-dists) ∙ sym (row-part-length K i ids (h .in-ids))
 
 -- a node
 module _ (g : Network) (P : List ℕ) (K : ℕ) (ids dists : List ℕ) (i : ℕ) where
-  pub node-row : badRow P (rowPart K i ids) (rowPart K i dists) ≡ true → true ≡ badNode g P K ids dists i
+  pub node-row : badRow P (rowEntries K i ids) (rowEntries K i dists) ≡ true → true ≡ badNode g P K ids dists i
   unfolding badNode
   node-row e = rw e
 
-  module _ (row : badRow P (rowPart K i ids) (rowPart K i dists) ≡ false) where
-    pub node-own : lacksOwn P (rowPart K i ids) (rowPart K i dists) i ≡ true → true ≡ badNode g P K ids dists i
+  module _ (row : badRow P (rowEntries K i ids) (rowEntries K i dists) ≡ false) where
+    pub node-own : lacksOwn P (rowEntries K i ids) (rowEntries K i dists) i ≡ true → true ≡ badNode g P K ids dists i
     unfolding badNode
     node-own e = rw (row, e)
 
-    module _ (own : lacksOwn P (rowPart K i ids) (rowPart K i dists) i ≡ false) where
+    module _ (own : lacksOwn P (rowEntries K i ids) (rowEntries K i dists) i ≡ false) where
       pub node-unsupported : unsupported g P K ids dists i ≡ true → true ≡ badNode g P K ids dists i
       unfolding badNode
       node-unsupported e = rw (row, own, e)

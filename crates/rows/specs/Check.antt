@@ -14,7 +14,7 @@ use Rattle.network.specs.Distance.{NONE}
 use Rattle.network.specs.Count.{any, count}
 use Rattle.network.specs.Points.{lockers, marked}
 use Rattle.network.specs.Nearest.{key}
-use Rattle.network.specs.Rows.{rowPart, Sized}
+use Rattle.network.specs.Rows.{rowEntries, Sized}
 use Rattle.rows.specs.Flat.{place}
 
 -- place j of a row is p at distance d; a place of it is
@@ -77,7 +77,7 @@ badRow P xs ys = any (badPlace P xs ys) (length xs)
 
 -- p at distance d comes from the row of c over an arc of weight w; over the arc of i at place j; over some arc of i
 unfoldable pub comesFrom : ℕ → List ℕ → List ℕ → ℕ → ℕ → ℕ → ℕ → Bool
-comesFrom K ids dists c w p d = leb w d && rowHolds (rowPart K c ids) (rowPart K c dists) p (d - w)
+comesFrom K ids dists c w p d = leb w d && rowHolds (rowEntries K c ids) (rowEntries K c dists) p (d - w)
 
 unfoldable pub comesAt : Network → ℕ → List ℕ → List ℕ → ℕ → ℕ → ℕ → ℕ → Bool
 comesAt g K ids dists i p d j = comesFrom K ids dists (getD (neighboursOf g i) j 0) (getD (weightsOf g i) j 0) p d
@@ -93,10 +93,10 @@ unfoldable pub isSupported : Network → List ℕ → ℕ → List ℕ → List 
 isSupported g P K ids dists i p d = eqb p NONE || isOwn P i p d || comesOver g K ids dists i p d
 
 unfoldable pub unsupportedAt : Network → List ℕ → ℕ → List ℕ → List ℕ → ℕ → ℕ → Bool
-unsupportedAt g P K ids dists i j = not (isSupported g P K ids dists i (getD (rowPart K i ids) j 0) (getD (rowPart K i dists) j 0))
+unsupportedAt g P K ids dists i j = not (isSupported g P K ids dists i (getD (rowEntries K i ids) j 0) (getD (rowEntries K i dists) j 0))
 
 unfoldable pub unsupported : Network → List ℕ → ℕ → List ℕ → List ℕ → ℕ → Bool
-unsupported g P K ids dists i = any (unsupportedAt g P K ids dists i) (length (rowPart K i ids))
+unsupported g P K ids dists i = any (unsupportedAt g P K ids dists i) (length (rowEntries K i ids))
 
 -- a marked i lacks its own point
 unfoldable pub lacksOwn : List ℕ → List ℕ → List ℕ → ℕ → Bool
@@ -114,7 +114,7 @@ unfoldable pub asks : List ℕ → List ℕ → List ℕ → List ℕ → ℕ �
 asks xs ys us vs w = any (asksAt xs ys us vs w) (length us)
 
 unfoldable pub asksFrom : ℕ → List ℕ → List ℕ → ℕ → ℕ → ℕ → Bool
-asksFrom K ids dists i c w = asks (rowPart K i ids) (rowPart K i dists) (rowPart K c ids) (rowPart K c dists) w
+asksFrom K ids dists i c w = asks (rowEntries K i ids) (rowEntries K i dists) (rowEntries K c ids) (rowEntries K c dists) w
 
 unfoldable pub asksOver : Network → ℕ → List ℕ → List ℕ → ℕ → ℕ → Bool
 asksOver g K ids dists i j = asksFrom K ids dists i (getD (neighboursOf g i) j 0) (getD (weightsOf g i) j 0)
@@ -125,8 +125,8 @@ unclosed g K ids dists i = any (asksOver g K ids dists i) (length (neighboursOf 
 -- something is wrong with row i; with some row
 unfoldable pub badNode : Network → List ℕ → ℕ → List ℕ → List ℕ → ℕ → Bool
 badNode g P K ids dists i =
-    badRow P (rowPart K i ids) (rowPart K i dists)
-    || lacksOwn P (rowPart K i ids) (rowPart K i dists) i
+    badRow P (rowEntries K i ids) (rowEntries K i dists)
+    || lacksOwn P (rowEntries K i ids) (rowEntries K i dists) i
     || unsupported g P K ids dists i
     || unclosed g K ids dists i
 

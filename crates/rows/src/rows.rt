@@ -4,13 +4,13 @@ ghost use Prim.Native.Nat.{_+_, _*_, _≤_};
 ghost use lib.Dec.{eqb};
 ghost use lib.ListN.{length};
 ghost use Rattle.network.specs.Count.{bit};
-ghost use Rattle.network.specs.Rows.{rowPart};
+ghost use Rattle.network.specs.Rows.{rowEntries};
 ghost use Rattle.rows.specs.Check.{among};
 
 // Row i of the ids or of the distances, with some places to a row. Nothing is copied.
 pub fn row_of<'a>(entries: &'a [u32], i: usize, places: usize) -> &'a [u32]
     requires { ⌜ i * places + places ≤ length (now entries) ⌝ }
-    ensures { λ r. ⌜ now r ≡ rowPart places i (now (entries .entry)) ⌝ }
+    ensures { λ r. ⌜ now r ≡ rowEntries places i (now (entries .entry)) ⌝ }
 {
     let from = i * places;
     let end = from + places;

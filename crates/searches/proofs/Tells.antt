@@ -1,7 +1,7 @@
 -- A turn of a search from q that stops behind the beaten nodes: a node is taken at a label and looked at. How many of its nearest points are found tells
 -- whether it is expanded or beaten; and what the turn leaves of the words before the area, and of the labels.
 -- Assumes nothing.
-use Prim.Native.Nat.{ℕ, _+_, _≤_, _<_}
+use Prim.Native.Nat.{ℕ, _≤_, _<_}
 use mathlib.Core.Path.{_≡_, _∙_}
 use mathlib.Core.Bool.{true}
 use mathlib.Core.Logic.{_⊎_, inl, inr, ⊎-elim}

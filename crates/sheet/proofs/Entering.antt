@@ -14,7 +14,7 @@ use Rattle.expansion.specs.Expand.{wordDistance, distFrom, nodesWaiting, CanSet
 use Rattle.expansion.proofs.AreaLaws.{kept-trans}
 use Rattle.expansion.proofs.Settled.{word-distance, zero-blank}
 use Rattle.sheet.specs.Sources.{Started}
-use Rattle.sheet.specs.Sheet.{siteNodes, CanEnter, EntryLeft, CanWriteAll, EntriesLeft, CanSheet, SheetLeft}
+use Rattle.sheet.specs.Sheet.{CanEnter, EntryLeft, CanWriteAll, EntriesLeft, CanSheet, SheetLeft}
 use Rattle.sheet.proofs.Growing.{label-kept}
 use Rattle.sheet.proofs.Starting.{started-sites}
 

@@ -22,7 +22,7 @@ use Rattle.network.proofs.NumberZero.{accepted-ranges}
 use Rattle.expansion.specs.Area.{Kept}
 use Rattle.expansion.specs.Expand.{labelIn, wordDistance}
 use Rattle.expansion.proofs.AreaLaws.{kept-same, kept-trans}
-use Rattle.sheet.specs.Cell.{isMember, AmongMembers, ListOf, ListGrown, MemberTaken, Keeps, BehindMember, MemberFollowed}
+use Rattle.sheet.specs.List.{isMember, AmongMembers, ListOf, ListGrown, MemberTaken, Keeps, BehindMember, MemberFollowed}
 use Rattle.sheet.specs.declared.list.Members.{Members}
 
 -- the labels stand before the marks
@@ -52,7 +52,7 @@ grown-trans a b =
 
 -- ---- A node is taken in.
 module _ {n : ℕ} {H xs : List ℕ} {q size sum : ℕ} (p : ListOf n H xs q size sum) (v : ℕ) where
-  pub taken-before : getD xs (4 * n + v) 0 ≡ suc q → MemberTaken n xs xs H q v size sum (record { size = size; sum = sum })
+  pub taken-before : getD xs (4 * n + v) 0 ≡ suc q → MemberTaken n xs xs H q v size (record { size = size; sum = sum })
   taken-before e =
       record { grows = grown-none p; here = eq-eqb (getD xs (4 * n + v) 0) (suc q) e; only = λ u h m. inl m }
 
@@ -151,7 +151,7 @@ module _ {n : ℕ} {H xs : List ℕ} {q size sum : ℕ} (p : ListOf n H xs q siz
         (λ e. record { place = size; low = omega arith; is = place ∙ sym e })
         (only u h m)
 
-    pub taken-new : lockers H v ≤ 255 → MemberTaken n xs (set (set xs (4 * n + v) (suc q)) (5 * n + size) v) H q v size sum (record { size = size + 1; sum = sum + lockers H v })
+    pub taken-new : lockers H v ≤ 255 → MemberTaken n xs (set (set xs (4 * n + v) (suc q)) (5 * n + size) v) H q v size (record { size = size + 1; sum = sum + lockers H v })
     taken-new byte =
         record {
           grows = record {
@@ -210,7 +210,7 @@ module _ {g : Network} {xs ys H : List ℕ} {q v size : ℕ} {r : Members} {j : 
       }
 
   pub followed-more : {zs : List ℕ} {t : Members} → Accepted g → v < nodeCount g → j < length (neighboursOf g v) → Keeps g xs v j
-      → MemberTaken (nodeCount g) ys zs H q (getD (neighboursOf g v) j 0) (r .size) (r .sum) t → MemberFollowed g xs zs H q v size t (j + 1)
+      → MemberTaken (nodeCount g) ys zs H q (getD (neighboursOf g v) j 0) (r .size) t → MemberFollowed g xs zs H q v size t (j + 1)
   followed-more ok inside low k t =
       record {
         grows = grown-trans (f .grows) (t .grows);

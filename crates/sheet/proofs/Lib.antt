@@ -2,5 +2,5 @@
 pub mod Starting
 pub mod Growing
 pub mod Listing
-pub mod Cells
+pub mod Lists
 pub mod Entering

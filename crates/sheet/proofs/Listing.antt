@@ -25,21 +25,21 @@ use Rattle.network.proofs.Walks.{join, arc-walk}
 use Rattle.network.proofs.Least.{distance}
 use Rattle.network.proofs.Distances.{dist-self, dist-walk, dist-previous}
 use Rattle.expansion.specs.Expand.{labelIn}
-use Rattle.sheet.specs.Cell.{isMember, ListOf, ListGrown, CanTakeMember, MemberTaken, Keeps, BehindMember, CanFollowMember, MemberFollowed, CanList, isNearest, ListLeft}
+use Rattle.sheet.specs.List.{isMember, ListOf, ListGrown, CanTakeMember, MemberTaken, Keeps, BehindMember, CanFollowMember, MemberFollowed, CanList, isNearest, ListLeft}
 use Rattle.sheet.specs.declared.list.Members.{Members}
 use Rattle.sheet.proofs.Growing.{label-kept, list-few, grown-trans, neighbour-inside}
 
 -- q is as near to v as v's label says
-pub record InCell (g : Network) (xs : List ℕ) (q v : ℕ) : Type 0 where
+pub record OnList (g : Network) (xs : List ℕ) (q v : ℕ) : Type 0 where
   pub reach : dist g q v ≢ NONE
   pub is : labelIn (nodeCount g) xs 0 v ≡ dist g q v
 
-near-passes : {g : Network} {xs : List ℕ} {q v : ℕ} → InCell g xs q v → isNearest g xs q v ≡ true
+near-passes : {g : Network} {xs : List ℕ} {q v : ℕ} → OnList g xs q v → isNearest g xs q v ≡ true
 near-passes {g} {xs} {q} {v} d =
     and-intro (not (eqb (dist g q v) NONE)) (eqb (labelIn (nodeCount g) xs 0 v) (dist g q v)) (ap not (ne-eqb (dist g q v) NONE (d .reach)))
     (eq-eqb (labelIn (nodeCount g) xs 0 v) (dist g q v) (d .is))
 
-passes-near : {g : Network} {xs : List ℕ} {q v : ℕ} → isNearest g xs q v ≡ true → InCell g xs q v
+passes-near : {g : Network} {xs : List ℕ} {q v : ℕ} → isNearest g xs q v ≡ true → OnList g xs q v
 passes-near {g} {xs} {q} {v} e =
     let p = and-parts (not (eqb (dist g q v) NONE)) (eqb (labelIn (nodeCount g) xs 0 v) (dist g q v)) e in
     record {
@@ -52,11 +52,11 @@ pub record Collecting (g : Network) (xs ys H : List ℕ) (q size sum i : ℕ) : 
   pub grows : ListGrown (nodeCount g) H xs ys q 0 (record { size = size; sum = sum })
   pub low : i ≤ size
   pub begins : isMember (nodeCount g) ys q q ≡ true
-  pub sound : (v : ℕ) → v < nodeCount g → isMember (nodeCount g) ys q v ≡ true → InCell g xs q v
+  pub sound : (v : ℕ) → v < nodeCount g → isMember (nodeCount g) ys q v ≡ true → OnList g xs q v
   pub there : (k : ℕ) → k < i → (j : ℕ) → j < length (neighboursOf g (getD ys (5 * nodeCount g + k) 0)) → Keeps g xs (getD ys (5 * nodeCount g + k) 0) j
       → isMember (nodeCount g) ys q (getD (neighboursOf g (getD ys (5 * nodeCount g + k) 0)) j 0) ≡ true
 
-module _ {g : Network} {xs H : List ℕ} {q : ℕ} (can : CanList g xs H q) where
+module _ {g : Network} {xs : List ℕ} {q : ℕ} (can : CanList g xs q) where
   abbrev n : ℕ
   n = nodeCount g
 
@@ -88,15 +88,15 @@ module _ {g : Network} {xs H : List ℕ} {q : ℕ} (can : CanList g xs H q) wher
       (b .0, omega (arith, b .1, can .labels .own))
 
   -- ---- Near nodes along the arcs that keep to the labels.
-  near-own : InCell g xs q q
+  near-own : OnList g xs q q
   near-own = let s = dist-self ok q in record { reach = λ e. omega arith; is = can .labels .own ∙ sym s }
 
-  near-next : {u v w : ℕ} → Arc g u v w → InCell g xs q u → label v ≡ label u + w → InCell g xs q v
+  near-next : {u v w : ℕ} → Arc g u v w → OnList g xs q u → label v ≡ label u + w → OnList g xs q v
   near-next {u} {v} r d e =
       let s = dist-walk ok (join (distance ok q u .walk (d .reach)) (arc-walk r)) in
       record { reach = s .some; is = omega (arith, e, d .is, s .most, label-least v (s .some) .1) }
 
-  near-previous : {u v w : ℕ} → Arc g u v w → dist g q u ≢ NONE → dist g q v ≡ dist g q u + w → InCell g xs q v → InCell g xs q u × (label v ≡ label u + w)
+  near-previous : {u v w : ℕ} → Arc g u v w → dist g q u ≢ NONE → dist g q v ≡ dist g q u + w → OnList g xs q v → OnList g xs q u × (label v ≡ label u + w)
   near-previous {u} {v} r m e d =
       let a = label-least u m in
       let s : label u ≡ dist g q u = omega (arith, a .1, along r (a .0) .1, d .is, e) in
@@ -106,8 +106,8 @@ module _ {g : Network} {xs H : List ℕ} {q : ℕ} (can : CanList g xs H q) wher
   marked-not : (v : ℕ) → v < n → isMember n xs q v ≡ true → ⊥
   marked-not v h m = omega (arith, can .marks v h, eqb-true (getD xs (4 * n + v) 0) (suc q) m)
 
-  empty : ListOf n H xs q 0 0
-  empty =
+  empty : {H : List ℕ} → ListOf n H xs q 0 0
+  empty {H} =
       record {
         few = ok .few;
         room = can .room;
@@ -119,10 +119,10 @@ module _ {g : Network} {xs H : List ℕ} {q : ℕ} (can : CanList g xs H q) wher
         placed = λ v h m. absurd (marked-not v h m);
       }
 
-  pub can-begin : CanTakeMember n xs H q q 0 0
+  pub can-begin : {H : List ℕ} → CanTakeMember n xs H q q 0 0
   can-begin = record { list = empty; inside = can .site }
 
-  pub listing-start : {ys : List ℕ} {r : Members} → MemberTaken n xs ys H q q 0 0 r → Collecting g xs ys H q (r .size) (r .sum) 0
+  pub listing-start : {H ys : List ℕ} {r : Members} → MemberTaken n xs ys H q q 0 r → Collecting g xs ys H q (r .size) (r .sum) 0
   listing-start t =
       record {
         grows = t .grows;
@@ -133,7 +133,7 @@ module _ {g : Network} {xs H : List ℕ} {q : ℕ} (can : CanList g xs H q) wher
       }
 
   -- ---- The next member is followed.
-  module _ {ys : List ℕ} {size sum i : ℕ} (l : Collecting g xs ys H q size sum i) where
+  module _ {H ys : List ℕ} {size sum i : ℕ} (l : Collecting g xs ys H q size sum i) where
     pub listing-few : size ≤ n
     listing-few = list-few (l .grows .list)
 
@@ -144,7 +144,7 @@ module _ {g : Network} {xs H : List ℕ} {q : ℕ} (can : CanList g xs H q) wher
       inside : v < n
       inside = l .grows .list .member i h .0
 
-      near : InCell g xs q v
+      near : OnList g xs q v
       near = l .sound v inside (l .grows .list .member i h .1)
 
       pub can-follow : CanFollowMember g ys H q v size sum
@@ -165,7 +165,7 @@ module _ {g : Network} {xs H : List ℕ} {q : ℕ} (can : CanList g xs H q) wher
       keeps-now : (j : ℕ) → j < length (neighboursOf g v) → Keeps g xs v j → Keeps g ys v j
       keeps-now j a k = omega (arith, k, arc-labels j a)
 
-      behind-near : {u : ℕ} → BehindMember g ys v (length (neighboursOf g v)) u → InCell g xs q u
+      behind-near : {u : ℕ} → BehindMember g ys v (length (neighboursOf g v)) u → OnList g xs q u
       behind-near b =
           rw (b .leads) at
           (near-next (arc-at (accepted-ranges ok) v inside (b .arc) (b .low)) near (omega (arith, b .keeps, arc-labels (b .arc) (b .low))))
@@ -190,7 +190,7 @@ module _ {g : Network} {xs H : List ℕ} {q : ℕ} (can : CanList g xs H q) wher
 
     -- ---- Each member is followed: no node is missing.
     module _ (all : size ≤ i) where
-      complete : (bound v : ℕ) → v < n → dist g q v < bound → InCell g xs q v → isMember n ys q v ≡ true
+      complete : (bound v : ℕ) → v < n → dist g q v < bound → OnList g xs q v → isMember n ys q v ≡ true
       complete zero v h b d = absurd (omega arith)
       complete (suc bound) v h b d =
           elim (ℕ-discrete v q) [

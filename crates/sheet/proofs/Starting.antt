@@ -2,14 +2,14 @@
 -- Assumes nothing.
 use Prim.Native.Nat.{ℕ, zero, suc, _+_, _≤_, _<_}
 use mathlib.Core.Path.{_≡_, refl, sym, ap, _∙_}
-use mathlib.Core.Bool.{Bool, true, false, not, _&&_, false≢true}
+use mathlib.Core.Bool.{true, false, not, _&&_}
 use mathlib.Core.Logic.{_≢_, inl, inr}
 use mathlib.Core.List.{List}
 use native.Mathlib.Decide.{ℕ-discrete, decLt}
 use native.Mathlib.Omega.{arith}
 use lib.Dec.{eqb, ltb}
 use lib.ListN.{getD}
-use borrow.Author.Tests.{eq-eqb, ne-eqb, eqb-true, eqb-false, not-true, not-false, lt-ltb, le-ltb}
+use borrow.Author.Tests.{eq-eqb, ne-eqb, eqb-true, not-false, lt-ltb, le-ltb}
 use Rattle.network.specs.Network.{Network, nodeCount}
 use Rattle.network.specs.Points.{marked}
 use Rattle.network.proofs.Tests.{and-right}
@@ -17,7 +17,7 @@ use Rattle.network.proofs.Counts.{select-same}
 use Rattle.expansion.specs.Queue.{keyOf, keyAt, Holds}
 use Rattle.expansion.specs.Tags.{tagOf, nodeOf}
 use Rattle.expansion.specs.NodeQueue.{Free, PushedNode}
-use Rattle.expansion.specs.Area.{queueBase, queueOf, Area}
+use Rattle.expansion.specs.Area.{queueBase, queueOf}
 use Rattle.expansion.specs.Expand.{isWaiting, nodesWaiting}
 use Rattle.expansion.proofs.AreaLaws.{area-blank, area-pushed, key-own}
 use Rattle.sheet.specs.Sources.{CanStart, Started}

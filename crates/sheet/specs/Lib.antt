@@ -1,4 +1,4 @@
 -- Records of the work: what the functions of this crate require and leave. The sheet itself is a definition of network (Households).
 pub mod Sources
-pub mod Cell
+pub mod List
 pub mod Sheet

@@ -5,7 +5,7 @@ use mathlib.Core.Path.{_≡_}
 use mathlib.Core.Bool.{_&&_}
 use mathlib.Core.List.{List}
 use lib.Dec.{ltb}
-use lib.ListN.{length, getD}
+use lib.ListN.{length}
 use Rattle.network.specs.Points.{marked}
 use Rattle.expansion.specs.Area.{Blank, Area}
 use Rattle.expansion.specs.Expand.{isWaiting}
@@ -15,7 +15,7 @@ pub record CanStart (n : ℕ) (xs : List ℕ) : Type 0 where
   pub blank : Blank xs 0
   pub room : 4 * n ≤ length xs
 
--- the nodes below `end` with a site wait, and no others; the words behind the area are as they were
+-- the nodes below `end` with a site wait, and no others
 pub record Started (n : ℕ) (T xs ys : List ℕ) (end len : ℕ) : Type 0 where
   pub size : length ys ≡ length xs
   pub area : Area n ys 0 0 len

@@ -5,7 +5,7 @@ ghost use mathlib.Core.Path.{_≡_};
 ghost use Prim.Native.Nat.{_≤_};
 ghost use Rattle.network.specs.Network.{network, neighboursOf};
 ghost use Rattle.network.specs.Points.{lockers};
-ghost use Rattle.sheet.specs.Cell.{CanTakeMember, MemberTaken, CanFollowMember, MemberFollowed, CanList, ListLeft};
+ghost use Rattle.sheet.specs.List.{CanTakeMember, MemberTaken, CanFollowMember, MemberFollowed, CanList, ListLeft};
 ghost use lib.ListN.{length};
 use expansion::labels;
 use network::arcs;
@@ -36,7 +36,7 @@ fn take_in(
     sum: u32,
 ) -> Members
     requires { ⌜ CanTakeMember n (now s) (now households) q node size sum ⌝ }
-    ensures { λ r. ⌜ MemberTaken n (now (s .entry)) (now (s .exit)) (now (households .entry)) q node size sum r ⌝ }
+    ensures { λ r. ⌜ MemberTaken n (now (s .entry)) (now (s .exit)) (now (households .entry)) q node size r ⌝ }
 {
     let at = 4 * n + wide(node);
     let mark = s[at];
@@ -97,7 +97,7 @@ pub fn list_length(
     s: &mut [u32],
     q: u32,
 ) -> u32
-    requires { ⌜ CanList (network (now starts) (now neighbours) (now weights)) (now s) (now households) q ⌝ }
+    requires { ⌜ CanList (network (now starts) (now neighbours) (now weights)) (now s) q ⌝ }
     ensures { λ r. ⌜ ListLeft (network (now (starts .entry)) (now (neighbours .entry)) (now (weights .entry))) (now (s .entry)) (now (s .exit)) (now (households .entry)) q r ⌝ }
 {
     let n = starts.len() - 1;

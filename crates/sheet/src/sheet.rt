@@ -65,8 +65,8 @@ pub fn sheet(
     ensures { λ _. ⌜ SheetLeft (network (now (starts .entry)) (now (neighbours .entry)) (now (weights .entry))) (now (households .entry)) (now (sites .entry)) (now (s .entry)) (now (s .exit)) (now (answers .entry)) (now (answers .exit)) ⌝ }
 {
     let n = starts.len() - 1;
-    let first = sources::start_all(sites, s, n);
-    distances::settle_waiting(starts, neighbours, weights, s, 0, first);
+    let waiting = sources::start_all(sites, s, n);
+    distances::settle_waiting(starts, neighbours, weights, s, 0, waiting);
     write_entries(starts, neighbours, weights, households, sites, s, answers);
     words::zero(s);
 }

@@ -27,7 +27,7 @@ use Rattle.site_calls.specs.Nearest.{NearestOutcome, nearestOutcome}
 use Rattle.site_calls.specs.Work.{NearestDone, limitedListed}
 use Rattle.site_calls.specs.Verify.{VerifyOutcome, verifyOutcome}
 use Rattle.conditions.specs.Conditions.{limitNumber}
-use Rattle.site_calls.specs.Searched.{SearchOutcome, listOutcome, EntriesOutcome, entriesOutcome}
+use Rattle.site_calls.specs.Shared.{SearchOutcome, listOutcome, EntriesOutcome, entriesOutcome}
 use Rattle.conditions.specs.Values.{listedListing}
 use Rattle.site_calls.specs.Eager.{EagerOutcome, limitedOutcome, visitsOutcome, eagerOutcome, shortOutcome}
 use Rattle.site_calls.specs.Lazy.{lazyOutcome}

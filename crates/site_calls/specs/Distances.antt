@@ -5,7 +5,7 @@ use mathlib.Core.List.{List}
 use Rattle.network.specs.Network.{Network}
 use Rattle.network.specs.Distance.{distancesFrom}
 use Rattle.numbers.specs.Numbers.{distancesNumber}
-use Rattle.site_calls.specs.Searched.{EntriesOutcome, entriesOutcome}
+use Rattle.site_calls.specs.Shared.{EntriesOutcome, entriesOutcome}
 
 unfoldable pub distancesOutcome : Network → ℕ → List ℕ → List ℕ → EntriesOutcome
 distancesOutcome g node scratch answers = entriesOutcome (distancesNumber g node scratch answers) (distancesFrom g node) scratch answers

@@ -12,7 +12,7 @@ use Rattle.network.specs.Answers.{answered}
 use Rattle.conditions.specs.declared.answers.Listed.the-variants as is
 use Rattle.conditions.specs.Conditions.{byNumber, limitNumber}
 use Rattle.numbers.specs.Numbers.{limitedNumber, eagerNumber}
-use Rattle.site_calls.specs.Searched.{SearchOutcome}
+use Rattle.site_calls.specs.Shared.{SearchOutcome}
 
 -- what a search with a limit leaves, by its number: 'A refusal .. changes no buffer; 12 alone leaves the scratch all zero.'
 unfoldable pub limitedOutcome : ℕ → Network → List ℕ → ℕ → ℕ → ℕ → List ℕ → List ℕ → SearchOutcome

@@ -8,7 +8,7 @@ use Rattle.conditions.specs.declared.answers.Verdict.{Verdict}
 use Rattle.site_calls.specs.Nearest.{NearestOutcome}
 use Rattle.site_calls.specs.Verify.{VerifyOutcome}
 use Rattle.conditions.specs.Values.{listedListing, ruleVerdict}
-use Rattle.site_calls.specs.Searched.{SearchOutcome}
+use Rattle.site_calls.specs.Shared.{SearchOutcome}
 use Rattle.site_calls.specs.Eager.{EagerOutcome}
 
 pub record NearestExported (outcome : NearestOutcome) (r : Listing) (scratch ids distances : List ℕ) : Type 0 where

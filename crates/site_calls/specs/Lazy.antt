@@ -5,7 +5,7 @@ use mathlib.Core.List.{List}
 use Rattle.network.specs.Network.{Network}
 use Rattle.network.specs.Points.{listed}
 use Rattle.numbers.specs.Numbers.{searchNumber}
-use Rattle.site_calls.specs.Searched.{SearchOutcome, listOutcome}
+use Rattle.site_calls.specs.Shared.{SearchOutcome, listOutcome}
 
 unfoldable pub lazyOutcome : Network → List ℕ → ℕ → ℕ → List ℕ → List ℕ → SearchOutcome
 lazyOutcome g P q k scratch answers = listOutcome (searchNumber g P q k scratch answers) (listed g P q k) scratch answers

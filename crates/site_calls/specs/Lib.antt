@@ -1,6 +1,6 @@
 -- What the calls without a table answer and leave. A reader must believe: for each call one outcome, what it returns and what every lent array holds
--- then (Searched, Distances, Nearest, Verify, Eager, Lazy); and overlap.h's structs of it (Exported). Records of the work: Work.
-pub mod Searched
+-- then (Shared, Distances, Nearest, Verify, Eager, Lazy); and overlap.h's structs of it (Exported). Records of the work: Work.
+pub mod Shared
 pub mod Distances
 pub mod Nearest
 pub mod Verify

@@ -10,7 +10,7 @@ use native.Mathlib.Omega.{arith}
 use lib.ListN.{length, getD, set}
 use borrow.Rule.Slice.PartMut.{midOf, putMid, mid-len, put-same}
 use Rattle.network.proofs.Lends.{mid-length, mid-at}
-use Rattle.network.specs.Rows.{rowPart}
+use Rattle.network.specs.Rows.{rowEntries}
 use Rattle.table.specs.Build.{Stands, HasPlace, NoPlace, HasPlaceIs, HasPlaceAtIs, AppendTakes, AppendRefuses, CanReadRow, HasPlaceAt, NoPlaceAt, CanAppend, AppendTakesAt, AppendRefusesAt, withRun, often}
 use Rattle.table.proofs.Runs.{put-run}
 
@@ -43,13 +43,13 @@ module _ {xs ids : List ℕ} {K i : ℕ} (look : CanReadRow xs ids K i) (a e w s
   none-at h = record { why = rw (sym from, sym size-is) (none-part a e ids size p end (omega (arith, look .ids-room)) (omega (arith, look .size, size-is)) h) }
 
 -- the row of node w as `row_of` hands it out: its length, and whether it has a place for p
-pub part-size : {xs ids l : List ℕ} {K i : ℕ} → CanReadRow xs ids K i → (w : ℕ) → w ≡ i → l ≡ rowPart K w ids → length l ≡ K
-unfolding rowPart
+pub part-size : {xs ids l : List ℕ} {K i : ℕ} → CanReadRow xs ids K i → (w : ℕ) → w ≡ i → l ≡ rowEntries K w ids → length l ≡ K
+unfolding rowEntries
 part-size {ids} {K} look w word part = ap length part ∙ mid-length (w * K) K ids (omega (arith, ap (λ (x : ℕ). x * K) word, look .ids-room))
 
-pub place-look : {xs ids : List ℕ} {K i : ℕ} → CanReadRow xs ids K i → (w size p : ℕ) (l : List ℕ) → w ≡ i → size ≡ getD xs w 0 → l ≡ rowPart K w ids → {r : Bool}
+pub place-look : {xs ids : List ℕ} {K i : ℕ} → CanReadRow xs ids K i → (w size p : ℕ) (l : List ℕ) → w ≡ i → size ≡ getD xs w 0 → l ≡ rowEntries K w ids → {r : Bool}
     → HasPlaceIs l size p r → HasPlaceAtIs xs ids K i p r
-unfolding rowPart
+unfolding rowEntries
 place-look {xs} {ids} {K} {i} look w size p l word is part h =
     let e : w * K + K - w * K ≡ K = omega arith in
     let from = ap (λ (x : ℕ). x * K) word in

@@ -1,7 +1,6 @@
 -- `households::look` meets its contract: the found nodes are cleared, so the words are all 0 again.
 -- Assumes nothing.
 use mathlib.Core.Path.{sym}
-use native.Mathlib.Omega.{arith}
 use lib.Seq.{length-take-le}
 use Rattle.households.proofs.Winning.{can-find, found-fits, look-clears}
 use borrow.Author.Needs.{needs}

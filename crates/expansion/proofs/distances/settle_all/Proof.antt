@@ -1,6 +1,5 @@
 -- `expansion::distances::settle_all` meets its contract: the source waits alone, and what it reaches is settled.
 -- Assumes nothing.
-use mathlib.Core.Path.{_∙_}
 use Rattle.expansion.proofs.Waiting.{can-settle, settled-all}
 use borrow.Author.Needs.{needs}
 use Rattle.expansion.proofs.distances.settle_all.Statement.{statement}

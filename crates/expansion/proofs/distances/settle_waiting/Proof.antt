@@ -17,11 +17,11 @@ use Rattle.expansion.proofs.distances.settle_waiting.Statement.{stateme
 use Rattle.expansion.proofs.distances.settle_waiting.Tie as tie
 
 abbrev Inv-loop : tie.InvT-loop
-Inv-loop starts neighbours weights s₀ b first n settled₀ len₀ s settled len =
+Inv-loop starts neighbours weights s₀ b waiting n settled₀ len₀ s settled len =
     Kept s₀ s b × Progress (network starts neighbours weights) (several (network starts neighbours weights) (nodesWaiting (nodeCount (network starts neighbours weights)) s₀ b)) All All s b settled len
 
 abbrev μ-loop : tie.MeasureT-loop
-μ-loop starts neighbours weights s₀ b first n settled₀ len₀ s settled len = nodeCount (network starts neighbours weights) - settled
+μ-loop starts neighbours weights s₀ b waiting n settled₀ len₀ s settled len = nodeCount (network starts neighbours weights) - settled
 
 abbrev G : tie.Start Inv-loop μ-loop → Network
 G s = network (s .args .starts .now) (s .args .neighbours .now) (s .args .weights .now)

@@ -1,7 +1,6 @@
 -- `household_calls::list::answer` meets its contract: refused with its number, or searched over the cleared scratch where no condition is met.
 -- Assumes nothing.
 use mathlib.Core.Path.{sym, ap, _∙_}
-use native.Mathlib.Nat.{mul-le-mul-left}
 use native.Mathlib.Omega.{arith}
 use lib.ListN.{length}
 use Rattle.network.specs.Network.{Network, network}

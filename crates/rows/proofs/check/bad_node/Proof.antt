@@ -2,7 +2,7 @@
 -- Assumes nothing.
 use mathlib.Core.Path.{_≡_, sym, _∙_}
 use native.Mathlib.Omega.{arith}
-use Rattle.network.specs.Rows.{rowPart}
+use Rattle.network.specs.Rows.{rowEntries}
 use Rattle.rows.specs.Check.{badRow, lacksOwn}
 use Rattle.rows.proofs.CheckTests.{rows-lie, row-parts-even, node-row, node-own, node-unsupported, node-unclosed}
 use Rattle.rows.proofs.check.bad_node.Statement.{statement}
@@ -11,12 +11,12 @@ use Rattle.rows.proofs.check.bad_node.Tie as tie
 -- the code tests row i, which is lent as the parts that it is
 row-tested : (c : tie.After-bad-row)
     → let a = c .before .before .before .before .before .before .before .before .before .args in
-    badRow (a .points .now) (rowPart (a .places) (a .i) (a .ids .now)) (rowPart (a .places) (a .i) (a .distances .now)) ≡ c .bad-row .result
+    badRow (a .points .now) (rowEntries (a .places) (a .i) (a .ids .now)) (rowEntries (a .places) (a .i) (a .distances .now)) ≡ c .bad-row .result
 row-tested c = rw (← (c .before .before .row-of .ensures), ← (c .before .row-of2 .ensures)) (sym (c .bad-row .ensures))
 
 own-tested : (c : tie.After-lacks-own)
     → let a = c .before .before .before .before .before .before .before .before .before .before .before .args in
-    lacksOwn (a .points .now) (rowPart (a .places) (a .i) (a .ids .now)) (rowPart (a .places) (a .i) (a .distances .now)) (a .i) ≡ c .lacks-own .result
+    lacksOwn (a .points .now) (rowEntries (a .places) (a .i) (a .ids .now)) (rowEntries (a .places) (a .i) (a .distances .now)) (a .i) ≡ c .lacks-own .result
 own-tested c = let r = c .before .before .before in rw (← (r .before .row-of .ensures), ← (r .row-of2 .ensures)) (sym (c .lacks-own .ensures))
 
 row-of-requires : tie.Need-row-of-requires

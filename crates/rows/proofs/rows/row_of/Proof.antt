@@ -3,7 +3,7 @@
 use Prim.Native.Nat.{_+_, _-_, _*_}
 use mathlib.Core.Path.{_≡_}
 use native.Mathlib.Omega.{arith}
-use Rattle.network.specs.Rows.{rowPart}
+use Rattle.network.specs.Rows.{rowEntries}
 use borrow.Author.Needs.{needs}
 use Rattle.rows.proofs.rows.row_of.Statement.{statement}
 use Rattle.rows.proofs.rows.row_of.Tie as tie
@@ -27,7 +27,7 @@ part-result-end : tie.Need-part-result-end
 part-result-end c = search needs
 
 returns : tie.Need-returns
-unfolding rowPart
+unfolding rowEntries
 returns c = let a = c .before .args in let q : a .i * a .places + a .places - a .i * a .places ≡ a .places = omega arith in rw q
 
 pub row-of-spec : {M : Type 1} → statement M

@@ -9,7 +9,7 @@ use Rattle.network.specs.Network.{Network, nodeCount, neighboursOf, weightsOf, 
 use Rattle.network.proofs.NumberZero.{accepted-searchable}
 use Rattle.network.proofs.ArcAt.{ArcAt, arc-handed}
 use Rattle.expansion.specs.Expand.{labelIn}
-use Rattle.sheet.specs.Cell.{MemberFollowed}
+use Rattle.sheet.specs.List.{MemberFollowed}
 use Rattle.sheet.proofs.Growing.{label-kept, followed-none, followed-past, followed-more}
 use borrow.Author.Needs.{needs}
 use Rattle.sheet.proofs.list.follow.Statement.{statement}

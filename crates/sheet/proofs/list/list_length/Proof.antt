@@ -5,7 +5,7 @@ use Prim.Native.Nat.{ℕ, _-_, _≤_, _<_}
 use mathlib.Core.List.{List}
 use native.Mathlib.Omega.{arith}
 use Rattle.network.specs.Network.{Network, nodeCount, network}
-use Rattle.sheet.specs.Cell.{CanList, MemberTaken}
+use Rattle.sheet.specs.List.{CanList, MemberTaken}
 use Rattle.sheet.proofs.Listing.{Collecting, can-begin, listing-start, listing-few, can-follow, listing-more, listing-done}
 use borrow.Author.Needs.{needs}
 use Rattle.sheet.proofs.list.list_length.Statement.{statement}
@@ -14,7 +14,7 @@ use Rattle.sheet.proofs.list.list_length.Tie as tie
 abbrev Inv-loop : tie.InvT-loop
 Inv-loop starts neighbours weights households s₀ q n size₀ sum₀ i₀ s size sum i =
     let g = network starts neighbours weights in
-    (xs : List ℕ) → CanList g xs households q → MemberTaken (nodeCount g) xs s₀ households q q 0 0 (record { size = size₀; sum = sum₀ }) → Collecting g xs s households q size sum i
+    (xs : List ℕ) → CanList g xs q → MemberTaken (nodeCount g) xs s₀ households q q 0 (record { size = size₀; sum = sum₀ }) → Collecting g xs s households q size sum i
 
 abbrev μ-loop : tie.MeasureT-loop
 μ-loop starts neighbours weights households s₀ q n size₀ sum₀ i₀ s size sum i = n - i

@@ -6,7 +6,7 @@ use mathlib.Core.Logic.{_≢_}
 use native.Mathlib.Omega.{arith}
 use borrow.Author.Tests.{lt-ltb, le-ltb}
 use Rattle.network.specs.Points.{lockers, marked}
-use Rattle.sheet.proofs.Cells.{can-list, entry-there, entry-none}
+use Rattle.sheet.proofs.Lists.{can-list, entry-there, entry-none}
 use borrow.Author.Needs.{needs}
 use Rattle.sheet.proofs.sheet.entry_of.Statement.{statement}
 use Rattle.sheet.proofs.sheet.entry_of.Tie as tie

@@ -1,22 +1,21 @@
--- For one nearest, the nodes that a site's list covers are its cell: those to which it is as near as any site. So the labels of one expansion from all
--- sites tell which they are.
+-- For one nearest, the nodes that a site's list covers are those to which it is as near as any site. So the labels of one expansion from all sites tell
+-- which they are.
 -- Assumes nothing.
-use Prim.Native.Nat.{ℕ, _+_, _≤_, _<_}
+use Prim.Native.Nat.{ℕ, _≤_, _<_}
 use mathlib.Core.Path.{_≡_, refl, sym, ap, _∙_}
-use mathlib.Core.Bool.{Bool, true, false, not, _&&_}
-use mathlib.Core.Logic.{_≢_, _↔_, ⊎-elim}
+use mathlib.Core.Bool.{true, false, not, _&&_}
+use mathlib.Core.Logic.{_≢_}
 use mathlib.Core.List.{List}
-use native.Mathlib.Decide.{ℕ-discrete, decLe}
+use native.Mathlib.Decide.{ℕ-discrete}
 use native.Mathlib.Omega.{arith}
 use lib.Dec.{eqb, ltb}
 use borrow.Author.Tests.{eq-eqb, ne-eqb, lt-ltb, le-ltb, ltb-true}
-use Rattle.network.specs.Network.{Network, Arc, nodeCount}
+use Rattle.network.specs.Network.{Network, nodeCount}
 use Rattle.network.specs.Accepted.{Accepted}
-use Rattle.network.specs.Distance.{NONE, LONGEST, dist}
-use Rattle.network.specs.Count.{weighed, sumOver}
+use Rattle.network.specs.Distance.{NONE, dist}
+use Rattle.network.specs.Count.{weighed}
 use Rattle.network.specs.Points.{lockers, marked, isNearer, countNearer, isExpanded, shortK}
-use Rattle.network.specs.Households.{wonLength, sheetEntry}
-use Rattle.network.proofs.Tests.{and-right}
+use Rattle.network.specs.Households.{sheetEntry}
 use Rattle.network.proofs.NodeArcs.{arc-source}
 use Rattle.network.proofs.Counts.{selected, select-passed}
 use Rattle.network.proofs.Totals.{total-same, total-more, sum-none}
@@ -24,10 +23,10 @@ use Rattle.network.proofs.Rank.{nearer-passes, passes-nearer}
 use Rattle.network.proofs.Least.{distance}
 use Rattle.network.proofs.Distances.{dist-at-most, dist-symmetric}
 use Rattle.network.proofs.Households.{won-length}
-use Rattle.expansion.specs.Expand.{labelIn, distFrom}
-use Rattle.expansion.proofs.Several.{several, several-lawful, from-most, from-any, from-nearest}
-use Rattle.sheet.specs.Cell.{isNearest, LabelsAlong, CanList, ListLeft}
-use Rattle.sheet.specs.Sheet.{siteNodes, SiteLabels, CanEnter, EntryLeft}
+use Rattle.expansion.specs.Expand.{distFrom}
+use Rattle.expansion.proofs.Several.{several-lawful, from-any, from-nearest}
+use Rattle.sheet.specs.List.{isNearest, LabelsAlong, CanList, ListLeft}
+use Rattle.sheet.specs.Sheet.{siteNodes, CanEnter, EntryLeft}
 
 module _ {g : Network} (ok : Accepted g) (T : List ℕ) where
   abbrev near : ℕ → ℕ
@@ -70,9 +69,9 @@ module _ {g : Network} (ok : Accepted g) (T : List ℕ) where
 
   module _ (q : ℕ) (inside : q < nodeCount g) (mark : marked T q ≡ true) where
     -- v is on q's list exactly if q is reached and as near as any site
-    cell : (v : ℕ) → isExpanded g T q shortK v ≡ (not (eqb (dist g q v) NONE) && eqb (near v) (dist g q v))
+    on-list : (v : ℕ) → isExpanded g T q shortK v ≡ (not (eqb (dist g q v) NONE) && eqb (near v) (dist g q v))
     unfolding isExpanded
-    cell v = ap (λ (d : ℕ). not (eqb d NONE) && ltb (countNearer g T v d) shortK) (dist-symmetric ok v q) ∙ ap (λ b. not (eqb (dist g q v) NONE) && b) same
+    on-list v = ap (λ (d : ℕ). not (eqb d NONE) && ltb (countNearer g T v d) shortK) (dist-symmetric ok v q) ∙ ap (λ b. not (eqb (dist g q v) NONE) && b) same
       where
         same : ltb (countNearer g T v (dist g q v)) 1 ≡ eqb (near v) (dist g q v)
         same =
@@ -106,12 +105,12 @@ module _ {g : Network} {T xs : List ℕ} {q : ℕ} (c : CanEnter g T xs q) (mark
             omega (arith, a, r .is, distance (c .accepted) (r .source) v .limit (λ z. n (a ∙ r .is ∙ z)));
       }
 
-  pub can-list : {H : List ℕ} → CanList g xs H q
+  pub can-list : CanList g xs q
   can-list = record { accepted = c .accepted; room = c .room; site = c .inside; labels = labels-along; marks = c .marks }
 
   there : (v : ℕ) → v < nodeCount g → isNearest g xs q v ≡ isExpanded g T q shortK v
   there v h =
-      ap (λ (l : ℕ). not (eqb (dist g q v) NONE) && eqb l (dist g q v)) (c .labels v h) ∙ sym (cell (c .accepted) T q (c .inside) mark v)
+      ap (λ (l : ℕ). not (eqb (dist g q v) NONE) && eqb l (dist g q v)) (c .labels v h) ∙ sym (on-list (c .accepted) T q (c .inside) mark v)
 
   pub entry-there : {H ys : List ℕ} {r : ℕ} → ListLeft g xs ys H q r → EntryLeft g H T xs ys q r
   unfolding sheetEntry

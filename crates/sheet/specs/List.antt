@@ -52,7 +52,7 @@ pub record CanTakeMember (n : ℕ) (xs H : List ℕ) (q v size sum : ℕ) : Type
   pub list : ListOf n H xs q size sum
   pub inside : v < n
 
-pub record MemberTaken (n : ℕ) (xs ys H : List ℕ) (q v size sum : ℕ) (r : Members) : Type 0 where
+pub record MemberTaken (n : ℕ) (xs ys H : List ℕ) (q v size : ℕ) (r : Members) : Type 0 where
   pub grows : ListGrown n H xs ys q size r
   pub here : isMember n ys q v ≡ true
   pub only : (u : ℕ) → u < n → isMember n ys q u ≡ true → (isMember n xs q u ≡ true) ⊎ (u ≡ v)
@@ -88,7 +88,7 @@ pub record LabelsAlong (g : Network) (xs : List ℕ) (q : ℕ) : Type 0 where
   pub fits : (v : ℕ) → v < nodeCount g → labelIn (nodeCount g) xs 0 v ≢ NONE → labelIn (nodeCount g) xs 0 v ≤ LONGEST
 
 -- the marks are those of sites before q
-pub record CanList (g : Network) (xs H : List ℕ) (q : ℕ) : Type 0 where
+pub record CanList (g : Network) (xs : List ℕ) (q : ℕ) : Type 0 where
   pub accepted : Accepted g
   pub room : 6 * nodeCount g ≤ length xs
   pub site : q < nodeCount g
