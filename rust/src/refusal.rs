@@ -34,11 +34,12 @@ pub enum Refusal {
     /// 5: "an arc lacks its return of equal weight".
     Returns = 5,
     /// 6: points (or households, or sites) has not n entries, or a byte above 15. Document 02 (Ask 8):
-    /// "6 allows bytes up to 15". (Ask 1): "6 covers each byte array, 8 each table, in the order lent."
+    /// "6 allows bytes up to 15". (Ask 1): "6 covers each byte array".
     Points = 6,
     /// 7: "a node given is n or more".
     Node = 7,
-    /// 8: "K not 2 to 17, or a table array not n × K long".
+    /// 8: "K not 2 to 17, or a table array not n × K long". Document 02 (Ask 1): "8 each table, in the
+    /// order lent."
     Table = 8,
     /// 9: "k is 0 or above 16; by table, above K - 1".
     K = 9,

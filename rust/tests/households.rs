@@ -7,8 +7,8 @@ use common::call::{assert_lower_numbers_first, assert_outcome, assert_random_cal
 use common::call::{assert_refused, assert_scratch_lengths, Call, LEAST_OF_EACH};
 use common::households::Households;
 use common::inputs::some_points;
-use common::largest::{each, largest_grid, largest_star, longest_chain, several_on_each};
-use common::largest::{LAST, MOST_NODES};
+use common::largest::{densest, each, largest_grid, largest_star, longest_chain};
+use common::largest::{most_roads, several_on_each, DENSEST_NODES, LAST, MOST_NODES};
 use common::lent::Lent;
 use common::nearest_rows::NearestRows;
 use common::network::{marks, network_n, OwnedNetwork, N_NODES, N_POINTS};
@@ -17,7 +17,7 @@ use common::rows::relaxed_row;
 use common::shapes::{try_all_small_points, weight_by_product};
 
 /// A household, two, none, one, none and three.
-const HOMES: [u8; 6] = [1, 2, 0, 1, 0, 3];
+const HOUSEHOLDS: [u8; 6] = [1, 2, 0, 1, 0, 3];
 
 /// Sees that this is the list.
 fn assert_list(call: Households, list: &[u32]) {
@@ -37,7 +37,7 @@ mod network_n {
         let seed = u64::from(q) + u64::from(k);
         Households::exact(
             &network_n(),
-            [&HOMES, sites],
+            [&HOUSEHOLDS, sites],
             (q, k),
             &mut Random::new(seed),
         )
@@ -61,12 +61,12 @@ mod network_n {
     /// nearer than one on 4.
     #[test]
     fn equal_distances_are_not_nearer() {
-        let homes = marks(N_NODES, &[2]);
+        let households = marks(N_NODES, &[2]);
         for (q, other) in [(0, 4), (4, 0)] {
             let sites = marks(N_NODES, &[other]);
             for k in [1, 2] {
                 let mut call = call_against(&sites, q, k);
-                call.market.households.clone_from(&homes);
+                call.lent.households.clone_from(&households);
                 assert_list(call, &[2]);
             }
         }
@@ -99,7 +99,7 @@ mod network_n {
     fn without_households_the_list_is_empty() {
         for q in 0..N_NODES {
             let mut call = call(q, 1);
-            call.market.households = vec![0; 6];
+            call.lent.households = vec![0; 6];
             assert_list(call, &[]);
         }
     }
@@ -119,22 +119,20 @@ mod network_n {
             change(&mut call);
             assert_refused(call, number);
         };
-        assert_number(6, |c| c.market.households[3] = 16);
-        assert_number(6, |c| c.market.households.truncate(5));
-        assert_number(6, |c| c.market.households.push(0));
-        assert_number(6, |c| c.market.households.clear());
-        assert_number(6, |c| c.market.sites[5] = 255);
-        assert_number(6, |c| c.market.sites.truncate(5));
-        assert_number(6, |c| c.market.sites.push(0));
-        assert_number(6, |c| c.market.sites.clear());
+        assert_number(6, |c| c.lent.households[3] = 16);
+        assert_number(6, |c| c.lent.households.truncate(5));
+        assert_number(6, |c| c.lent.households.push(0));
+        assert_number(6, |c| c.lent.households.clear());
+        assert_number(6, |c| c.lent.sites[5] = 255);
+        assert_number(6, |c| c.lent.sites.truncate(5));
+        assert_number(6, |c| c.lent.sites.push(0));
+        assert_number(6, |c| c.lent.sites.clear());
         assert_number(7, |c| c.q = 6);
         assert_number(7, |c| c.q = u32::MAX);
         assert_number(9, |c| c.k = 0);
         assert_number(9, |c| c.k = 17);
         assert_number(9, |c| c.k = u32::MAX);
-        assert_number(10, |c| {
-            c.market.answers = Lent::junk(5, &mut Random::new(0))
-        });
+        assert_number(10, |c| c.lent.answers = Lent::junk(5, &mut Random::new(0)));
     }
 
     /// "the m of 10 is this k".
@@ -178,9 +176,9 @@ mod exhaustive {
     /// Tries every q and k from 1 to 3, with a household on each node and with any.
     fn try_sites(network: &OwnedNetwork, sites: &[u8], random: &mut Random) {
         let (n, pairs) = (sites.len() as u32, AllPairs::of(network.lend()));
-        for homes in [vec![1; sites.len()], some_points(network, random)] {
+        for households in [vec![1; sites.len()], some_points(network, random)] {
             for asked in (0..n).flat_map(|q| [(q, 1), (q, 2), (q, 3)]) {
-                let call = Households::exact(network, [&homes, sites], asked, random);
+                let call = Households::exact(network, [&households, sites], asked, random);
                 let outcome = call.accepted_by(&pairs);
                 assert_outcome(call, &outcome);
             }
@@ -210,7 +208,7 @@ mod limits {
     /// where they are as near to the next site. The last q has no site.
     #[test]
     fn the_longest_chain() {
-        let (network, homes, sites) = (longest_chain(), everywhere(), each(1_000));
+        let (network, households, sites) = (longest_chain(), everywhere(), each(1_000));
         let parts = [
             (32_000, 31_500..=32_500),
             (0, 0..=500),
@@ -219,11 +217,11 @@ mod limits {
         ];
         for (q, part) in parts {
             let list: Vec<u32> = part.collect();
-            assert_list(call(&network, [&homes, &sites], (q, 1)), &list);
+            assert_list(call(&network, [&households, &sites], (q, 1)), &list);
         }
         // With k = 2 the site beside it counts no more, the one behind that does.
         let list: Vec<u32> = (31_000..=33_000).collect();
-        assert_list(call(&network, [&homes, &sites], (32_000, 2)), &list);
+        assert_list(call(&network, [&households, &sites], (32_000, 2)), &list);
     }
 
     /// From a leaf only its own household is nearer to it than to the centre; the centre wins all
@@ -231,13 +229,13 @@ mod limits {
     #[test]
     fn a_star_of_the_most_nodes() {
         let centre = 7;
-        let (network, homes) = (largest_star(centre), everywhere());
+        let (network, households) = (largest_star(centre), everywhere());
         let sites = marks(MOST_NODES, &[0, centre, LAST]);
-        assert_list(call(&network, [&homes, &sites], (LAST, 1)), &[LAST]);
+        assert_list(call(&network, [&households, &sites], (LAST, 1)), &[LAST]);
         let list: Vec<u32> = (1..LAST).collect();
-        assert_list(call(&network, [&homes, &sites], (centre, 1)), &list);
+        assert_list(call(&network, [&households, &sites], (centre, 1)), &list);
         let list: Vec<u32> = (0..=LAST).collect();
-        assert_list(call(&network, [&homes, &sites], (centre, 2)), &list);
+        assert_list(call(&network, [&households, &sites], (centre, 2)), &list);
     }
 
     #[test]
@@ -253,14 +251,56 @@ mod limits {
 
     #[test]
     fn a_grid_of_255_by_257_nodes() {
-        let homes = several_on_each(3);
+        let households = several_on_each(3);
         let network = largest_grid(weight_by_product);
         let middle = MOST_NODES / 2;
-        assert_lists(&network, [&homes, &each(100)], &[(middle, 1), (100, 4)]);
+        assert_lists(
+            &network,
+            [&households, &each(100)],
+            &[(middle, 1), (100, 4)],
+        );
         let sites = several_on_each(100);
-        assert_lists(&network, [&homes, &sites], &[(middle, 16), (12_300, 16)]);
+        assert_lists(
+            &network,
+            [&households, &sites],
+            &[(middle, 16), (12_300, 16)],
+        );
         let even = largest_grid(|_, _| 1);
-        assert_lists(&even, [&homes, &each(100)], &[(middle, 1), (100, 4)]);
+        assert_lists(&even, [&households, &each(100)], &[(middle, 1), (100, 4)]);
+    }
+
+    #[test]
+    fn the_most_arcs() {
+        let households = several_on_each(3);
+        for network in [most_roads(weight_by_product), most_roads(|_, _| 1)] {
+            assert_eq!(network.neighbours.len(), 524_288);
+            let asked = [(30_100, 1), (30_000, 2)];
+            assert_lists(&network, [&households, &each(1_000)], &asked);
+            let sites = several_on_each(1_000);
+            assert_lists(&network, [&households, &sites], &[(12_345, 4)]);
+        }
+    }
+
+    /// Where all roads are of weight 1, each node is 1 from q, which is 7, but q itself and node 6,
+    /// which has no road to it and is 2 away. Of the 15 sites a node with one has that nearer, node 6
+    /// has all.
+    #[test]
+    fn the_most_arcs_on_the_fewest_nodes() {
+        let n = DENSEST_NODES as usize;
+        let (households, sites) = (&everywhere()[..n], &each(50)[..n]);
+        let (network, q) = (densest(|_, _| 1), 7);
+        assert_eq!(network.neighbours.len(), 524_288);
+        let but_6 = || (0..DENSEST_NODES).filter(|&h| h != 6);
+        let list: Vec<u32> = but_6().filter(|h| h % 50 > 0).collect();
+        assert_list(call(&network, [households, sites], (q, 1)), &list);
+        let list: Vec<u32> = but_6().collect();
+        assert_list(call(&network, [households, sites], (q, 2)), &list);
+        assert_list(call(&network, [households, sites], (q, 15)), &list);
+        let list: Vec<u32> = (0..DENSEST_NODES).collect();
+        assert_list(call(&network, [households, sites], (q, 16)), &list);
+        let (households, sites) = (&several_on_each(3)[..n], &several_on_each(50)[..n]);
+        let asked = [(0, 1), (300, 4), (724, 4)];
+        assert_lists(&densest(weight_by_product), [households, sites], &asked);
     }
 
     /// Sees that the list is what the nearest sites of each node say, for each q and k.

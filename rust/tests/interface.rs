@@ -28,10 +28,11 @@ fn part<'a>(text: &'a str, start: &str, end: &str) -> Option<(&'a str, &'a str)>
 mod rust {
     use super::*;
 
-    /// The text without its comments.
+    /// The text without its comments, and without the name of a lifetime, which nothing passes.
     fn code(text: &str) -> String {
         let lines = text.lines().map(|line| line.split("//").next().unwrap());
-        lines.collect::<Vec<_>>().join("\n")
+        let code = lines.collect::<Vec<_>>().join("\n");
+        code.replace("<'a>", "").replace("&'a ", "&")
     }
 
     /// Each `name: type`, with or without `pub`.
@@ -158,12 +159,19 @@ mod header {
     }
 }
 
-/// The engine's calls but those that return a reference, which can't cross the boundary. Such a one is
-/// called within Rattle.
-fn exported() -> BTreeMap<String, Call> {
-    let mut calls = rust::calls(ENGINE);
-    calls.retain(|_, (_, returned)| !returned.starts_with('&'));
-    calls
+/// The engine's calls, those that return a reference apart. A reference can't cross the boundary: such
+/// a one is called within Rattle.
+struct EngineCalls {
+    exported: BTreeMap<String, Call>,
+    within: BTreeMap<String, Call>,
+}
+
+impl EngineCalls {
+    fn read() -> Self {
+        let calls = rust::calls(ENGINE).into_iter();
+        let (within, exported) = calls.partition(|(_, (_, returned))| returned.starts_with('&'));
+        Self { exported, within }
+    }
 }
 
 #[test]
@@ -171,7 +179,17 @@ fn the_calls_are_the_same_in_all_three() {
     let header = header::calls();
     assert_eq!(header.len(), 17);
     assert_eq!(rust::calls(WRAPPER), header);
-    assert_eq!(exported(), header);
+    assert_eq!(EngineCalls::read().exported, header);
+}
+
+/// `overlap_nearer_row` alone returns a reference, a part of what `overlap_nearer_row_part` is lent.
+#[test]
+fn one_call_stays_within_rattle() {
+    let EngineCalls { exported, within } = EngineCalls::read();
+    assert!(within.keys().eq(["nearer_row"]));
+    let (parameters, returned) = &within["nearer_row"];
+    assert_eq!(parameters, &exported["nearer_row_part"].0);
+    assert_eq!(returned, "&[u32]");
 }
 
 #[test]

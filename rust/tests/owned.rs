@@ -428,19 +428,25 @@ mod engine {
     fn assert_households(
         engine: &mut Engine,
         pairs: &AllPairs,
-        [households, sites]: [&Points; 2],
+        points: [&Points; 2],
         (q, k): (u32, u32),
     ) {
         let network = engine.network().clone();
-        let (homes, rivals) = (households.marks(), sites.marks());
-        let list = pairs.plain_households(homes, rivals, q, k);
-        assert_eq!(engine.households(households, sites, q, k), Ok(&list[..]));
+        let [households, sites] = points.map(Points::marks);
+        let list = pairs.plain_households(households, sites, q, k);
+        let listed = engine.households(points[0], points[1], q, k);
+        assert_eq!(listed, Ok(&list[..]));
         let by_call = thin(&network, network.scratch_len(k), |s, a| {
-            calls::households(network.lend(), homes, rivals, q, k, s, a)
+            calls::households(network.lend(), households, sites, q, k, s, a)
         });
         assert_eq!(by_call, (Ok(()), list, 0));
-        let sheet = pairs.plain_sheet(homes, rivals);
-        assert_eq!(engine.sheet(households, sites), Ok(&sheet[..]));
+        let sheet = pairs.plain_sheet(households, sites);
+        assert_eq!(engine.sheet(points[0], points[1]), Ok(&sheet[..]));
+        let mut scratch = vec![7; network.scratch_len(1)];
+        let mut answers = vec![7; network.nodes() as usize];
+        let (s, a) = (&mut scratch[..], &mut answers[..]);
+        let number = calls::sheet(network.lend(), households, sites, s, a);
+        assert_eq!((number, answers), (0, sheet));
     }
 
     /// "6 covers each byte array [...], in the order lent."
@@ -745,7 +751,6 @@ mod table {
         );
     }
 
-    /// A clone of the points, or of the table, goes its own way.
     /// Ask 1: the row is a part of one of the two tables, the own one when they are equally near.
     #[test]
     fn and_a_rivals_give_the_nearer_row() {
@@ -792,6 +797,7 @@ mod table {
         assert!(own.nearer_row(&table(6, 2), 5).is_ok());
     }
 
+    /// A clone of the points, or of the table, goes its own way.
     #[test]
     fn is_not_changed_by_clones() {
         let (network, points) = n_and_points();

@@ -233,11 +233,11 @@ mod households {
     #[test]
     fn of_network_n() {
         let (pairs, sites) = (AllPairs::of(network_n().lend()), marks(N_NODES, &N_POINTS));
-        let homes = [1, 2, 0, 1, 0, 3];
-        let list = |q, k| pairs.plain_households(&homes, &sites, q, k);
+        let households = [1, 2, 0, 1, 0, 3];
+        let list = |q, k| pairs.plain_households(&households, &sites, q, k);
         assert_eq!([list(0, 1), list(2, 1)], [vec![0], vec![0, 1]]);
         assert_eq!([list(0, 2), list(5, 1)], [vec![0, 1, 3], vec![5]]);
-        assert_eq!(pairs.plain_sheet(&homes, &sites), [0, 0, 3, 0, 1, 3]);
+        assert_eq!(pairs.plain_sheet(&households, &sites), [0, 0, 3, 0, 1, 3]);
     }
 }
 
@@ -281,9 +281,9 @@ mod nearest_rows {
             assert_eq!(list, pairs.plain_listed(&points, q, k), "{network:?}");
             let visits = nearest.visits(pairs.row(q), k);
             assert_eq!(visits, pairs.plain_visits(&points, q, k), "{network:?}");
-            let homes = some_points(&network, &mut random);
-            let list = nearest.households(pairs.row(q), &homes, k);
-            assert_eq!(list, pairs.plain_households(&homes, &points, q, k));
+            let households = some_points(&network, &mut random);
+            let list = nearest.households(pairs.row(q), &households, k);
+            assert_eq!(list, pairs.plain_households(&households, &points, q, k));
         }
     }
 }

@@ -7,8 +7,8 @@ use common::call::{assert_lower_numbers_first, assert_outcome, assert_random_cal
 use common::call::{assert_refused, assert_scratch_lengths, Call};
 use common::households::Sheet;
 use common::inputs::some_points;
-use common::largest::{each, largest_grid, largest_star, longest_chain, several_on_each};
-use common::largest::{LAST, MOST_NODES};
+use common::largest::{densest, each, largest_grid, largest_star, longest_chain};
+use common::largest::{most_roads, several_on_each, DENSEST_NODES, LAST, MOST_NODES};
 use common::lent::Lent;
 use common::nearest_rows::NearestRows;
 use common::network::{marks, network_n, OwnedNetwork, N_NODES, N_POINTS};
@@ -17,7 +17,7 @@ use common::rows::{relaxed_row, Row};
 use common::shapes::{random_network, try_all_small_points, weight_by_product};
 
 /// A household, two, none, one, none and three.
-const HOMES: [u8; 6] = [1, 2, 0, 1, 0, 3];
+const HOUSEHOLDS: [u8; 6] = [1, 2, 0, 1, 0, 3];
 
 /// Sees that these are the entries.
 fn assert_entries(call: Sheet, entries: &[u32]) {
@@ -28,19 +28,19 @@ fn assert_entries(call: Sheet, entries: &[u32]) {
 /// The entries that the engine writes.
 fn entries_of(mut call: Sheet) -> Vec<u32> {
     assert_eq!(call.run(), 0);
-    call.market.answers.part().to_vec()
+    call.lent.answers.part().to_vec()
 }
 
 /// Network N of document 01, by hand. The sites are its points, 2, 4 and 5.
 mod network_n {
     use super::*;
 
-    fn call(homes: &[u8], sites: &[u8]) -> Sheet {
-        Sheet::exact(&network_n(), [homes, sites], &mut Random::new(0))
+    fn call(households: &[u8], sites: &[u8]) -> Sheet {
+        Sheet::exact(&network_n(), [households, sites], &mut Random::new(0))
     }
 
     fn call_of_n() -> Sheet {
-        call(&HOMES, &marks(N_NODES, &N_POINTS))
+        call(&HOUSEHOLDS, &marks(N_NODES, &N_POINTS))
     }
 
     /// 2 wins the household on node 0 and the two on node 1, 4 that on node 3, 5 its own three.
@@ -63,20 +63,20 @@ mod network_n {
     fn several_sites_on_a_node_have_one_entry() {
         for sites in 1..=15 {
             let bytes = [0, 0, sites, 0, 16 - sites, 1];
-            assert_entries(call(&HOMES, &bytes), &[0, 0, 3, 0, 1, 3]);
+            assert_entries(call(&HOUSEHOLDS, &bytes), &[0, 0, 3, 0, 1, 3]);
         }
     }
 
     #[test]
     fn without_sites_or_households_it_is_all_0() {
-        assert_entries(call(&HOMES, &[0; 6]), &[0; 6]);
+        assert_entries(call(&HOUSEHOLDS, &[0; 6]), &[0; 6]);
         assert_entries(call(&[0; 6], &[1; 6]), &[0; 6]);
     }
 
     /// A site on each node keeps its own households.
     #[test]
     fn with_a_site_on_each_node_it_is_the_households() {
-        assert_entries(call(&HOMES, &[1; 6]), &HOMES.map(u32::from));
+        assert_entries(call(&HOUSEHOLDS, &[1; 6]), &HOUSEHOLDS.map(u32::from));
     }
 
     #[test]
@@ -86,17 +86,15 @@ mod network_n {
             change(&mut call);
             assert_refused(call, number);
         };
-        assert_number(6, |c| c.market.households[3] = 16);
-        assert_number(6, |c| c.market.households.truncate(5));
-        assert_number(6, |c| c.market.households.push(0));
-        assert_number(6, |c| c.market.households.clear());
-        assert_number(6, |c| c.market.sites[5] = 255);
-        assert_number(6, |c| c.market.sites.truncate(5));
-        assert_number(6, |c| c.market.sites.push(0));
-        assert_number(6, |c| c.market.sites.clear());
-        assert_number(10, |c| {
-            c.market.answers = Lent::junk(5, &mut Random::new(0))
-        });
+        assert_number(6, |c| c.lent.households[3] = 16);
+        assert_number(6, |c| c.lent.households.truncate(5));
+        assert_number(6, |c| c.lent.households.push(0));
+        assert_number(6, |c| c.lent.households.clear());
+        assert_number(6, |c| c.lent.sites[5] = 255);
+        assert_number(6, |c| c.lent.sites.truncate(5));
+        assert_number(6, |c| c.lent.sites.push(0));
+        assert_number(6, |c| c.lent.sites.clear());
+        assert_number(10, |c| c.lent.answers = Lent::junk(5, &mut Random::new(0)));
     }
 
     /// "the m of 10 is [...] 1 for the sheet."
@@ -140,7 +138,7 @@ mod random {
             let pairs = AllPairs::of(network.lend());
             let call = Sheet::random(&network, &pairs, &mut random);
             let entries = entries_of(call.clone());
-            for (q, &sites) in (0..).zip(&call.market.sites) {
+            for (q, &sites) in (0..).zip(&call.lent.sites) {
                 let length = match sites {
                     0 => 0,
                     _ => length_of_list(&call, q, &mut random),
@@ -154,8 +152,8 @@ mod random {
         let mut list = call.list_of(q, random);
         let listing = list.run();
         assert_eq!(listing.number, 0);
-        let list = &list.market.answers.part()[..listing.length];
-        counted(&call.market.households, list)
+        let list = &list.lent.answers.part()[..listing.length];
+        counted(&call.lent.households, list)
     }
 }
 
@@ -168,8 +166,8 @@ mod exhaustive {
         let mut random = Random::new(5);
         try_all_small_points(|network, sites| {
             let pairs = AllPairs::of(network.lend());
-            for homes in [vec![1; sites.len()], some_points(network, &mut random)] {
-                let call = Sheet::exact(network, [&homes, sites], &mut random);
+            for households in [vec![1; sites.len()], some_points(network, &mut random)] {
+                let call = Sheet::exact(network, [&households, sites], &mut random);
                 let outcome = call.accepted_by(&pairs);
                 assert_outcome(call, &outcome);
             }
@@ -181,8 +179,8 @@ mod exhaustive {
 mod limits {
     use super::*;
 
-    fn call(network: &OwnedNetwork, homes: &[u8], sites: &[u8]) -> Sheet {
-        Sheet::exact(network, [homes, sites], &mut Random::new(6))
+    fn call(network: &OwnedNetwork, households: &[u8], sites: &[u8]) -> Sheet {
+        Sheet::exact(network, [households, sites], &mut Random::new(6))
     }
 
     /// The entries of these sites, and 0 everywhere else.
@@ -209,26 +207,26 @@ mod limits {
     #[test]
     fn the_largest_distances() {
         let network = longest_chain();
-        let (homes, n) = (each(1), MOST_NODES);
+        let (households, n) = (each(1), MOST_NODES);
         let sites = marks(n, &[0]);
-        assert_entries(call(&network, &homes, &sites), &entries(&[(0, n)]));
+        assert_entries(call(&network, &households, &sites), &entries(&[(0, n)]));
         let (sites, half) = (marks(n, &[0, LAST]), n / 2 + 1);
         let shared = entries(&[(0, half), (LAST, half)]);
-        assert_entries(call(&network, &homes, &sites), &shared);
+        assert_entries(call(&network, &households, &sites), &shared);
     }
 
     /// Two leaves share all but their own households; with a site the centre takes them from both.
     #[test]
     fn a_star_of_the_most_nodes() {
         let centre = 7;
-        let (network, homes) = (largest_star(centre), vec![15; MOST_NODES as usize]);
+        let (network, households) = (largest_star(centre), vec![15; MOST_NODES as usize]);
         let sites = marks(MOST_NODES, &[0, LAST]);
         let most = 15 * (MOST_NODES - 1);
         let shared = entries(&[(0, most), (LAST, most)]);
-        assert_entries(call(&network, &homes, &sites), &shared);
+        assert_entries(call(&network, &households, &sites), &shared);
         let sites = marks(MOST_NODES, &[0, centre, LAST]);
         let of_centre = entries(&[(0, 15), (LAST, 15), (centre, most - 15)]);
-        assert_entries(call(&network, &homes, &sites), &of_centre);
+        assert_entries(call(&network, &households, &sites), &of_centre);
     }
 
     /// A site on each node, and a household.
@@ -243,10 +241,13 @@ mod limits {
     #[test]
     fn one_node_without_a_road() {
         let network = OwnedNetwork::from_roads(1, &[]);
-        for homes in 0..=15 {
-            assert_entries(call(&network, &[homes], &[0]), &[0]);
+        for households in 0..=15 {
+            assert_entries(call(&network, &[households], &[0]), &[0]);
             for sites in 1..=15 {
-                assert_entries(call(&network, &[homes], &[sites]), &[homes.into()]);
+                assert_entries(
+                    call(&network, &[households], &[sites]),
+                    &[households.into()],
+                );
             }
         }
     }
@@ -254,43 +255,79 @@ mod limits {
     /// Roads of any weights, and all of weight 1, where many households have several nearest sites.
     #[test]
     fn a_grid_of_255_by_257_nodes() {
-        let homes = several_on_each(3);
+        let households = several_on_each(3);
         for network in [largest_grid(weight_by_product), largest_grid(|_, _| 1)] {
             let sites = several_on_each(2_000);
-            let entries = entries_by_rows(&network, &homes, &sites);
-            assert_entries(call(&network, &homes, &sites), &entries);
-            assert_some_entries(&network, &homes, &each(100));
+            let entries = entries_by_rows(&network, &households, &sites);
+            assert_entries(call(&network, &households, &sites), &entries);
+            assert_some_entries(&network, &households, &each(100));
         }
     }
 
+    #[test]
+    fn the_most_arcs() {
+        let households = several_on_each(3);
+        for network in [most_roads(weight_by_product), most_roads(|_, _| 1)] {
+            assert_eq!(network.neighbours.len(), 524_288);
+            let sites = several_on_each(10_000);
+            let entries = entries_by_rows(&network, &households, &sites);
+            assert_entries(call(&network, &households, &sites), &entries);
+            assert_some_entries(&network, &households, &each(100));
+        }
+    }
+
+    /// Where all roads are of weight 1, each of the 15 sites has its own household and those of the
+    /// 710 nodes without a site, which are 1 from it, but for the node to which it has no road. The
+    /// last two sites have a road to all.
+    #[test]
+    fn the_most_arcs_on_the_fewest_nodes() {
+        let n = DENSEST_NODES as usize;
+        let network = densest(|_, _| 1);
+        assert_eq!(network.neighbours.len(), 524_288);
+        let entry = |q| match q {
+            650 | 700 => 711,
+            _ if q % 50 == 0 => 710,
+            _ => 0,
+        };
+        let entries: Vec<u32> = (0..DENSEST_NODES).map(entry).collect();
+        assert_entries(call(&network, &each(1)[..n], &each(50)[..n]), &entries);
+        let network = densest(weight_by_product);
+        let (households, sites) = (&several_on_each(3)[..n], &several_on_each(7)[..n]);
+        let entries = entries_by_rows(&network, households, sites);
+        assert_entries(call(&network, households, sites), &entries);
+    }
+
     /// The households of each site whose distance to it is the least of all sites'.
-    fn entries_by_rows(network: &OwnedNetwork, homes: &[u8], sites: &[u8]) -> Vec<u32> {
-        let with_a_site = || (0..MOST_NODES).filter(|&q| sites[q as usize] > 0);
+    fn entries_by_rows(network: &OwnedNetwork, households: &[u8], sites: &[u8]) -> Vec<u32> {
+        let with_a_site = || (0..sites.len() as u32).filter(|&q| sites[q as usize] > 0);
         let rows: Vec<Row> = with_a_site()
             .map(|q| relaxed_row(network.lend(), q))
             .collect();
-        let least: Vec<_> = (0..homes.len())
+        let least: Vec<_> = (0..households.len())
             .map(|h| rows.iter().filter_map(|row| row[h]).min())
             .collect();
         let entry = |row: &Row| {
             let is_nearest = |h: &usize| row[*h].is_some() && row[*h] == least[*h];
-            let won = (0..homes.len()).filter(is_nearest);
-            won.map(|h| u32::from(homes[h])).sum()
+            let won = (0..households.len()).filter(is_nearest);
+            won.map(|h| u32::from(households[h])).sum()
         };
-        let of_sites: Vec<_> = with_a_site().zip(rows.iter().map(entry)).collect();
-        entries(&of_sites)
+        let mut entries = vec![0; sites.len()];
+        for (q, row) in with_a_site().zip(&rows) {
+            entries[q as usize] = entry(row);
+        }
+        entries
     }
 
     /// Sees that the entries of some sites of many are what the nearest site of each node says, and
     /// that a node without a site has 0.
-    fn assert_some_entries(network: &OwnedNetwork, homes: &[u8], sites: &[u8]) {
+    fn assert_some_entries(network: &OwnedNetwork, households: &[u8], sites: &[u8]) {
         let nearest = NearestRows::of(network.lend(), sites, 1);
-        let entries = entries_of(call(network, homes, sites));
+        let entries = entries_of(call(network, households, sites));
         for q in [0, 100, 32_700, 65_500] {
             let from_q = relaxed_row(network.lend(), q);
-            let list = nearest.households(&from_q, homes, 1);
+            let list = nearest.households(&from_q, households, 1);
             assert!(list.len() > 1);
-            assert_eq!(entries[q as usize], counted(homes, &list), "q {q}");
+            assert_eq!(entries[q as usize], counted(households, &list), "q {q}");
         }
         let without = (0..).zip(sites).filter(|of| *of.1 == 0);
         assert!(without

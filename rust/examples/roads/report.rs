@@ -217,9 +217,13 @@ fn print_market(
     Market { households, sites }: &Market,
     out: &mut impl Write,
 ) -> Result<(), Message> {
-    let homes = points_text(households, "households");
-    let rivals = points_text(sites, "sites");
-    writeln!(out, "\nhouseholds  {homes}\nsites       {rivals}").map_err(unwritten)?;
+    writeln!(
+        out,
+        "\nhouseholds  {}\nsites       {}",
+        points_text(households, "households"),
+        points_text(sites, "sites")
+    )
+    .map_err(unwritten)?;
     let (mut engine, k) = (Engine::new(network), asked.k);
     let sheet = engine.sheet(households, sites);
     let sheet = sheet.map_err(|refusal| refusal.to_string())?.to_vec();

@@ -4,7 +4,7 @@
 //! so a call asks only that each pointer is valid for its length, and that an array which the call
 //! writes is lent to nobody else.
 
-/// The answer of a call that lists points: `overlap_listing` of `overlap.h`.
+/// The answer of a call that lists points, or nodes of households: `overlap_listing` of `overlap.h`.
 ///
 /// Document 01: "An accepted call returns number 0; a listing or nearest call also the length of
 /// its list. A refusal returns its number, count 0 and no".

@@ -7,8 +7,10 @@ use super::{ffi, lend, Listing, Network};
 /// reached and fewer than k sites are strictly nearer to it than q".
 ///
 /// q is any node, with a site or without. (Ask 6): "Households on a site's node in Ask 1 still belong
-/// to the site." (Ask 8): "Each counts [...], as Ask 1 counts households and sites": the sites of a
-/// node count each, and a node with several households is listed once.
+/// to the site." (Ask 8): "Each counts, so a locker has its companions on the node as others at
+/// distance 0." "The fresh-build equality, the searches' agreement and the expanded count now count
+/// lockers, as Ask 1 counts households and sites." So the sites of a node count each, and a node with
+/// several households is listed once.
 ///
 /// The answer is number 0 and the length of the list, with count 0, or the first condition met of 1
 /// to 7, 9 and 10. (Ask 1): "6 covers each byte array [...], in the order lent." Scratch has at least
@@ -19,7 +21,7 @@ use super::{ffi, lend, Listing, Network};
 /// no, and changes no buffer".
 ///
 /// ```
-/// use overlap::calls::{households, scratch_len, Network};
+/// use overlap::calls::{self, scratch_len, Network};
 ///
 /// # fn main() -> Result<(), overlap::Refusal> {
 /// // Network N of document 01.
@@ -28,27 +30,28 @@ use super::{ffi, lend, Listing, Network};
 ///     neighbours: &[1, 3, 0, 2, 1, 4, 0, 4, 2, 3],
 ///     weights: &[4, 5, 4, 3, 3, 7, 5, 3, 7, 3],
 /// };
-/// let (homes, sites) = ([1, 2, 0, 1, 0, 3], [0, 0, 1, 0, 1, 1]);
+/// let (households, sites) = ([1, 2, 0, 1, 0, 3], [0, 0, 1, 0, 1, 1]);
 /// let mut scratch = vec![0; scratch_len(network, 2)];
 /// let mut answers = [0; 6];
 /// let (s, a) = (&mut scratch[..], &mut answers[..]);
 ///
 /// // The site on node 2 is 7 from node 0, and no site is nearer to that. Node 3 has that on 4 nearer.
-/// let listing = households(network, &homes, &sites, 2, 1, s, a).accepted()?;
+/// let listing = calls::households(network, &households, &sites, 2, 1, s, a).accepted()?;
 /// assert_eq!(a[..listing.length], [0, 1]);
 ///
 /// // What a new site on node 0 would win: its own household, and for k = 2 those with one site nearer.
-/// let listing = households(network, &homes, &sites, 0, 1, s, a).accepted()?;
+/// let listing = calls::households(network, &households, &sites, 0, 1, s, a).accepted()?;
 /// assert_eq!(a[..listing.length], [0]);
-/// let listing = households(network, &homes, &sites, 0, 2, s, a).accepted()?;
+/// let listing = calls::households(network, &households, &sites, 0, 2, s, a).accepted()?;
 /// assert_eq!(a[..listing.length], [0, 1, 3]);
 ///
 /// // Two sites on node 2 are two that are nearer to node 1.
-/// let listing = households(network, &homes, &[0, 0, 2, 0, 1, 1], 0, 2, s, a).accepted()?;
+/// let sites = [0, 0, 2, 0, 1, 1];
+/// let listing = calls::households(network, &households, &sites, 0, 2, s, a).accepted()?;
 /// assert_eq!(a[..listing.length], [0, 3]);
 ///
 /// // Five bytes of households are fewer than n.
-/// assert_eq!(households(network, &homes[..5], &sites, 0, 1, s, a).number, 6);
+/// assert_eq!(calls::households(network, &households[..5], &sites, 0, 1, s, a).number, 6);
 /// # Ok(())
 /// # }
 /// ```
@@ -103,24 +106,24 @@ pub fn households(
 ///     neighbours: &[1, 3, 0, 2, 1, 4, 0, 4, 2, 3],
 ///     weights: &[4, 5, 4, 3, 3, 7, 5, 3, 7, 3],
 /// };
-/// let (homes, sites) = ([1, 2, 0, 1, 0, 3], [0, 0, 1, 0, 1, 1]);
+/// let (households, sites) = ([1, 2, 0, 1, 0, 3], [0, 0, 1, 0, 1, 1]);
 /// let mut scratch = vec![0; scratch_len(network, 1)];
 /// let mut answers = [0; 6];
 ///
 /// // The site on node 2 wins the household on node 0 and the two on node 1, that on 4 the one on node
 /// // 3, and that on 5 the three on its own node.
-/// accepted(sheet(network, &homes, &sites, &mut scratch, &mut answers))?;
+/// accepted(sheet(network, &households, &sites, &mut scratch, &mut answers))?;
 /// assert_eq!(answers, [0, 0, 3, 0, 1, 3]);
 ///
 /// // Nodes 0 and 4 are both 7 from node 2, so sites there both count its two households.
-/// let (homes, sites) = ([0, 0, 2, 0, 0, 0], [1, 0, 0, 0, 1, 0]);
-/// accepted(sheet(network, &homes, &sites, &mut scratch, &mut answers))?;
+/// let (households, sites) = ([0, 0, 2, 0, 0, 0], [1, 0, 0, 0, 1, 0]);
+/// accepted(sheet(network, &households, &sites, &mut scratch, &mut answers))?;
 /// assert_eq!(answers, [2, 0, 0, 0, 2, 0]);
 ///
 /// // A byte of 16 is above 15, and five answer places are fewer than n.
 /// let many = [16, 0, 0, 0, 1, 0];
-/// assert_eq!(sheet(network, &homes, &many, &mut scratch, &mut answers), 6);
-/// assert_eq!(sheet(network, &homes, &sites, &mut scratch, &mut answers[..5]), 10);
+/// assert_eq!(sheet(network, &households, &many, &mut scratch, &mut answers), 6);
+/// assert_eq!(sheet(network, &households, &sites, &mut scratch, &mut answers[..5]), 10);
 /// # Ok(())
 /// # }
 /// ```

@@ -12,9 +12,9 @@ use super::random::Random;
 use super::tally::Tally;
 use overlap::calls::{households, sheet, Listing};
 
-/// What both calls are lent.
+/// All that both calls are lent.
 #[derive(Clone)]
-pub struct Market {
+pub struct AllLent {
     pub network: OwnedNetwork,
     pub households: Vec<u8>,
     pub sites: Vec<u8>,
@@ -22,7 +22,7 @@ pub struct Market {
     pub answers: Lent,
 }
 
-impl Market {
+impl AllLent {
     /// Arrays that are just long enough for this m and full of junk. The network is an accepted one.
     fn exact(
         network: &OwnedNetwork,
@@ -99,7 +99,7 @@ fn some_bytes(network: &OwnedNetwork, random: &mut Random) -> [Vec<u8>; 2] {
 /// A call of the list.
 #[derive(Clone)]
 pub struct Households {
-    pub market: Market,
+    pub lent: AllLent,
     pub q: u32,
     pub k: u32,
 }
@@ -113,8 +113,8 @@ impl Households {
         (q, k): (u32, u32),
         random: &mut Random,
     ) -> Self {
-        let market = Market::exact(network, bytes, k, random);
-        Self { market, q, k }
+        let lent = AllLent::exact(network, bytes, k, random);
+        Self { lent, q, k }
     }
 
     /// "An accepted call returns number 0; a listing [...] call also the length of its list."
@@ -125,25 +125,25 @@ impl Households {
             length: list.len(),
         };
         let left = Self {
-            market: self.market.accepted(list),
+            lent: self.lent.accepted(list),
             ..*self
         };
         (listing, left)
     }
 
     fn list(&self, pairs: &AllPairs) -> Vec<u32> {
-        self.list_against(&self.market.sites, pairs)
+        self.list_against(&self.lent.sites, pairs)
     }
 
     /// The list with these sites.
     fn list_against(&self, sites: &[u8], pairs: &AllPairs) -> Vec<u32> {
-        pairs.plain_households(&self.market.households, sites, self.q, self.k)
+        pairs.plain_households(&self.lent.households, sites, self.q, self.k)
     }
 
     /// Whether a node that is listed would have k sites, those on q left out, if the sites that are as
     /// far from it as q were nearer.
     fn has_ties(&self, list: &[u32], pairs: &AllPairs) -> bool {
-        let mut others = self.market.sites.clone();
+        let mut others = self.lent.sites.clone();
         others[self.q as usize] = 0;
         list.iter().any(|&h| {
             let e = pairs.plain_distances(h)[self.q as usize] + 1;
@@ -174,11 +174,11 @@ impl Call for Households {
     type Answer = Listing;
 
     const OWN_FAULTS: &'static [(u32, Fault<Self>)] = &[
-        (6, |c, r| spoil_points(&mut c.market.households, r)),
-        (6, |c, r| spoil_points(&mut c.market.sites, r)),
-        (7, |c, r| c.q = no_node(&c.market.network, r)),
+        (6, |c, r| spoil_points(&mut c.lent.households, r)),
+        (6, |c, r| spoil_points(&mut c.lent.sites, r)),
+        (7, |c, r| c.q = no_node(&c.lent.network, r)),
         (9, |c, r| c.k = no_k(r)),
-        (10, |c, r| c.market.shorten_answers(r)),
+        (10, |c, r| c.lent.shorten_answers(r)),
     ];
 
     fn random(network: &OwnedNetwork, _: &AllPairs, random: &mut Random) -> Self {
@@ -186,27 +186,27 @@ impl Call for Households {
         let asked = (some_node(network, random), some_k(random));
         let call = Self::exact(network, [&households, &sites], asked, random);
         Self {
-            market: call.market.lengthen(random),
+            lent: call.lent.lengthen(random),
             ..call
         }
     }
 
     fn run(&mut self) -> Listing {
-        let market = &mut self.market;
+        let lent = &mut self.lent;
         households(
-            market.network.lend(),
-            &market.households,
-            &market.sites,
+            lent.network.lend(),
+            &lent.households,
+            &lent.sites,
             self.q,
             self.k,
-            market.scratch.part_mut(),
-            market.answers.part_mut(),
+            lent.scratch.part_mut(),
+            lent.answers.part_mut(),
         )
     }
 
     fn number(&self) -> u32 {
-        let (network, asked) = (self.market.network.lend(), (self.q, self.k));
-        households_number(network, self.market.bytes(), asked, self.market.lengths())
+        let (network, asked) = (self.lent.network.lend(), (self.q, self.k));
+        households_number(network, self.lent.bytes(), asked, self.lent.lengths())
     }
 
     fn accepted_by(&self, pairs: &AllPairs) -> Outcome<Self> {
@@ -214,19 +214,19 @@ impl Call for Households {
     }
 
     fn network(&self) -> &OwnedNetwork {
-        &self.market.network
+        &self.lent.network
     }
 
     fn network_mut(&mut self) -> &mut OwnedNetwork {
-        &mut self.market.network
+        &mut self.lent.network
     }
 
     fn points(&self) -> &[u8] {
-        &self.market.households
+        &self.lent.households
     }
 
     fn sites(&self) -> &[u8] {
-        &self.market.sites
+        &self.lent.sites
     }
 
     fn m(&self) -> u32 {
@@ -234,11 +234,11 @@ impl Call for Households {
     }
 
     fn scratch_mut(&mut self) -> &mut Lent {
-        &mut self.market.scratch
+        &mut self.lent.scratch
     }
 
     fn arrays(&self) -> Vec<(&'static str, &Lent)> {
-        self.market.arrays()
+        self.lent.arrays()
     }
 
     fn asked(&self) -> String {
@@ -247,25 +247,25 @@ impl Call for Households {
 
     fn tally(&self, tally: &mut Tally, pairs: &AllPairs) {
         let (list, q) = (self.list(pairs), self.q as usize);
-        let (homes, sites) = (&self.market.households, &self.market.sites);
+        let (households, sites) = (&self.lent.households, &self.lent.sites);
         let single: Vec<u8> = sites.iter().map(|&byte| byte.min(1)).collect();
         let reached = |h: usize| pairs.row(self.q)[h].is_some();
-        let with_homes = || (0..homes.len()).filter(|&h| homes[h] > 0);
+        let with_households = || (0..households.len()).filter(|&h| households[h] > 0);
         let happened = [
             list.is_empty(),
             list.len() > 1,
-            homes[q] > 0,
+            households[q] > 0,
             sites[q] > 0,
             sites[q] > 1,
             sites[q] == 0,
             sites.iter().all(|&byte| byte == 0),
-            with_homes().any(|h| h != q && sites[h] > 0),
-            with_homes().filter(|&h| reached(h)).count() > list.len(),
-            !with_homes().all(reached),
+            with_households().any(|h| h != q && sites[h] > 0),
+            with_households().filter(|&h| reached(h)).count() > list.len(),
+            !with_households().all(reached),
             self.has_ties(&list, pairs),
             list != self.list_against(&single, pairs),
-            list.iter().any(|&h| homes[h as usize] > 1),
-            self.market.has_longer_answers(),
+            list.iter().any(|&h| households[h as usize] > 1),
+            self.lent.has_longer_answers(),
         ];
         tally.add_k(self.k);
         for (happened, name) in happened.into_iter().zip(Self::TALLIED) {
@@ -277,37 +277,37 @@ impl Call for Households {
 /// A call of the sheet.
 #[derive(Clone)]
 pub struct Sheet {
-    pub market: Market,
+    pub lent: AllLent,
 }
 
 impl Sheet {
     /// A call with arrays that are just long enough and full of junk. The network is an accepted one.
     pub fn exact(network: &OwnedNetwork, bytes: [&[u8]; 2], random: &mut Random) -> Self {
-        let market = Market::exact(network, bytes, 1, random);
-        Self { market }
+        let lent = AllLent::exact(network, bytes, 1, random);
+        Self { lent }
     }
 
     /// "A sheet call writes, for each node, the length of the list of a site there".
     pub fn accepted(&self, entries: &[u32]) -> Outcome<Self> {
-        let market = self.market.accepted(entries);
-        (0, Self { market })
+        let lent = self.lent.accepted(entries);
+        (0, Self { lent })
     }
 
     /// The call of the list for a site of this sheet, "with the k of the short query".
     pub fn list_of(&self, q: u32, random: &mut Random) -> Households {
-        let Market { network, .. } = &self.market;
-        Households::exact(network, self.market.bytes(), (q, 1), random)
+        let AllLent { network, .. } = &self.lent;
+        Households::exact(network, self.lent.bytes(), (q, 1), random)
     }
 
     fn entries(&self, pairs: &AllPairs) -> Vec<u32> {
-        pairs.plain_sheet(&self.market.households, &self.market.sites)
+        pairs.plain_sheet(&self.lent.households, &self.lent.sites)
     }
 
     /// The households that can reach a site.
     fn with_a_site(&self, pairs: &AllPairs) -> u32 {
-        let reaches = |h: usize| self.market.with_a_site().any(|q| pairs.row(q)[h].is_some());
-        let homes = self.market.households.iter().enumerate();
-        homes
+        let reaches = |h: usize| self.lent.with_a_site().any(|q| pairs.row(q)[h].is_some());
+        let households = self.lent.households.iter().enumerate();
+        households
             .filter(|of| reaches(of.0))
             .map(|of| u32::from(*of.1))
             .sum()
@@ -330,33 +330,33 @@ impl Call for Sheet {
     type Answer = u32;
 
     const OWN_FAULTS: &'static [(u32, Fault<Self>)] = &[
-        (6, |c, r| spoil_points(&mut c.market.households, r)),
-        (6, |c, r| spoil_points(&mut c.market.sites, r)),
-        (10, |c, r| c.market.shorten_answers(r)),
+        (6, |c, r| spoil_points(&mut c.lent.households, r)),
+        (6, |c, r| spoil_points(&mut c.lent.sites, r)),
+        (10, |c, r| c.lent.shorten_answers(r)),
     ];
 
     fn random(network: &OwnedNetwork, _: &AllPairs, random: &mut Random) -> Self {
         let [households, sites] = some_bytes(network, random);
-        let Self { market } = Self::exact(network, [&households, &sites], random);
+        let Self { lent } = Self::exact(network, [&households, &sites], random);
         Self {
-            market: market.lengthen(random),
+            lent: lent.lengthen(random),
         }
     }
 
     fn run(&mut self) -> u32 {
-        let market = &mut self.market;
+        let lent = &mut self.lent;
         sheet(
-            market.network.lend(),
-            &market.households,
-            &market.sites,
-            market.scratch.part_mut(),
-            market.answers.part_mut(),
+            lent.network.lend(),
+            &lent.households,
+            &lent.sites,
+            lent.scratch.part_mut(),
+            lent.answers.part_mut(),
         )
     }
 
     fn number(&self) -> u32 {
-        let network = self.market.network.lend();
-        sheet_number(network, self.market.bytes(), self.market.lengths())
+        let network = self.lent.network.lend();
+        sheet_number(network, self.lent.bytes(), self.lent.lengths())
     }
 
     fn accepted_by(&self, pairs: &AllPairs) -> Outcome<Self> {
@@ -364,19 +364,19 @@ impl Call for Sheet {
     }
 
     fn network(&self) -> &OwnedNetwork {
-        &self.market.network
+        &self.lent.network
     }
 
     fn network_mut(&mut self) -> &mut OwnedNetwork {
-        &mut self.market.network
+        &mut self.lent.network
     }
 
     fn points(&self) -> &[u8] {
-        &self.market.households
+        &self.lent.households
     }
 
     fn sites(&self) -> &[u8] {
-        &self.market.sites
+        &self.lent.sites
     }
 
     fn m(&self) -> u32 {
@@ -384,11 +384,11 @@ impl Call for Sheet {
     }
 
     fn scratch_mut(&mut self) -> &mut Lent {
-        &mut self.market.scratch
+        &mut self.lent.scratch
     }
 
     fn arrays(&self) -> Vec<(&'static str, &Lent)> {
-        self.market.arrays()
+        self.lent.arrays()
     }
 
     fn asked(&self) -> String {
@@ -397,19 +397,19 @@ impl Call for Sheet {
 
     fn tally(&self, tally: &mut Tally, pairs: &AllPairs) {
         let entries = self.entries(pairs);
-        let (homes, sites) = (&self.market.households, &self.market.sites);
+        let (households, sites) = (&self.lent.households, &self.lent.sites);
         let entry = |q: u32| entries[q as usize];
-        let all: u32 = homes.iter().map(|&byte| u32::from(byte)).sum();
+        let all: u32 = households.iter().map(|&byte| u32::from(byte)).sum();
         let with_a_site = self.with_a_site(pairs);
         let happened = [
-            self.market.with_a_site().next().is_none(),
-            self.market.with_a_site().any(|q| entry(q) == 0),
-            self.market.with_a_site().any(|q| entry(q) > 1),
+            self.lent.with_a_site().next().is_none(),
+            self.lent.with_a_site().any(|q| entry(q) == 0),
+            self.lent.with_a_site().any(|q| entry(q) > 1),
             sites.iter().any(|&byte| byte > 1),
-            self.market.with_a_site().any(|q| homes[q as usize] > 0),
+            self.lent.with_a_site().any(|q| households[q as usize] > 0),
             entries.iter().sum::<u32>() > with_a_site,
             with_a_site < all,
-            self.market.has_longer_answers(),
+            self.lent.has_longer_answers(),
         ];
         for (happened, name) in happened.into_iter().zip(Self::TALLIED) {
             tally.add_if(happened, name);
