@@ -71,7 +71,7 @@ mod samples {
     }
 
     /// The options that name the households and sites of sample data.
-    fn of_market(name: &str) -> [String; 4] {
+    fn for_sheet(name: &str) -> [String; 4] {
         let file = |kind: &str| data(&format!("{name}.{kind}"));
         let (households, sites) = (file("households"), file("sites"));
         ["--households".into(), households, "--sites".into(), sites]
@@ -80,9 +80,12 @@ mod samples {
     /// The households that each site wins come behind the table.
     #[test]
     fn the_town_with_households_for_k_2() {
-        let market = of_market("town");
-        let market = market.each_ref().map(String::as_str);
-        let output = run_sample("town", &[&["--k", "2", "--K", "4"], &market[..]].concat());
+        let for_the_sheet = for_sheet("town");
+        let for_the_sheet = for_the_sheet.each_ref().map(String::as_str);
+        let output = run_sample(
+            "town",
+            &[&["--k", "2", "--K", "4"], &for_the_sheet[..]].concat(),
+        );
         let won = include_str!("../examples/data/town.households.expected");
         let expected = include_str!("../examples/data/town.expected").to_string() + won;
         assert_eq!(output, (0, expected, String::new()));
@@ -110,8 +113,8 @@ mod samples {
     }
 
     /// The line of a site's households.
-    fn market_line(pairs: &AllPairs, market: [&[u8]; 2], q: u32, k: u32) -> String {
-        let [households, sites] = market;
+    fn sheet_line(pairs: &AllPairs, for_the_sheet: [&[u8]; 2], q: u32, k: u32) -> String {
+        let [households, sites] = for_the_sheet;
         let list = shown(&pairs.plain_households(households, sites, q, k));
         let entry = pairs.plain_sheet(households, sites)[q as usize];
         format!("{q:<6} {entry:<7} {list}\n")
@@ -170,15 +173,15 @@ mod samples {
         let points = |kind| read_points(&read(kind), &network).unwrap();
         let (households, sites) = (points("households"), points("sites"));
         let pairs = AllPairs::of(network.lend());
-        let market = of_market("town");
-        let market = market.each_ref().map(String::as_str);
+        let for_the_sheet = for_sheet("town");
+        let for_the_sheet = for_the_sheet.each_ref().map(String::as_str);
         for k in 1..=16 {
             let bytes = [households.marks(), sites.marks()];
-            let lines = (0..network.nodes()).map(|q| market_line(&pairs, bytes, q, k));
+            let lines = (0..network.nodes()).map(|q| sheet_line(&pairs, bytes, q, k));
             let heading = format!("\nsite   sheet   households for k = {k}\n");
             let expected: String = std::iter::once(heading).chain(lines).collect();
             let text = k.to_string();
-            let options = [&["--visits", "--k", &text], &market[..]].concat();
+            let options = [&["--visits", "--k", &text], &for_the_sheet[..]].concat();
             let (status, out, _) = run_sample("town", &options);
             assert_eq!(status, 0);
             assert!(out.ends_with(&expected), "k {k}: {out}");
@@ -196,8 +199,8 @@ mod samples {
         assert!(out.contains("visits for k = 1\n4      4, 3\n2      2, 1, 0\n\ntable"));
         // The points of N as sites, and a household on each of them.
         let points = data("n.points");
-        let market = ["--site", "2", "--households", &points, "--sites", &points];
-        let (status, out, _) = run_sample("n", &market);
+        let for_the_sheet = ["--site", "2", "--households", &points, "--sites", &points];
+        let (status, out, _) = run_sample("n", &for_the_sheet);
         assert_eq!(status, 0);
         let won = "households  2, 4, 5\nsites       2, 4, 5\n\n\
             site   sheet   households for k = 1\n2      1       2\n";
@@ -230,8 +233,8 @@ mod messages {
         assert_message(&[&data("n.roads"), &full], 1, &message);
         let (roads, good) = (data("n.roads"), data("n.points"));
         for [households, sites] in [[&full, &good], [&good, &full]] {
-            let market = ["--households", households, "--sites", sites];
-            let arguments = [&[&roads[..], &good[..]], &market[..]].concat();
+            let for_the_sheet = ["--households", households, "--sites", sites];
+            let arguments = [&[&roads[..], &good[..]], &for_the_sheet[..]].concat();
             assert_message(&arguments, 1, &message);
         }
         let binary = file("binary.roads", b"# \xff\n0 1 \xff\n");

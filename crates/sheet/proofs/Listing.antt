@@ -30,16 +30,16 @@ use Rattle.sheet.specs.declared.list.Members.{Members}
 use Rattle.sheet.proofs.Growing.{label-kept, list-few, grown-trans, neighbour-inside}
 
 -- q is as near to v as v's label says
-pub record OnList (g : Network) (xs : List ℕ) (q v : ℕ) : Type 0 where
+pub record IsNear (g : Network) (xs : List ℕ) (q v : ℕ) : Type 0 where
   pub reach : dist g q v ≢ NONE
   pub is : labelIn (nodeCount g) xs 0 v ≡ dist g q v
 
-near-passes : {g : Network} {xs : List ℕ} {q v : ℕ} → OnList g xs q v → isNearest g xs q v ≡ true
+near-passes : {g : Network} {xs : List ℕ} {q v : ℕ} → IsNear g xs q v → isNearest g xs q v ≡ true
 near-passes {g} {xs} {q} {v} d =
     and-intro (not (eqb (dist g q v) NONE)) (eqb (labelIn (nodeCount g) xs 0 v) (dist g q v)) (ap not (ne-eqb (dist g q v) NONE (d .reach)))
     (eq-eqb (labelIn (nodeCount g) xs 0 v) (dist g q v) (d .is))
 
-passes-near : {g : Network} {xs : List ℕ} {q v : ℕ} → isNearest g xs q v ≡ true → OnList g xs q v
+passes-near : {g : Network} {xs : List ℕ} {q v : ℕ} → isNearest g xs q v ≡ true → IsNear g xs q v
 passes-near {g} {xs} {q} {v} e =
     let p = and-parts (not (eqb (dist g q v) NONE)) (eqb (labelIn (nodeCount g) xs 0 v) (dist g q v)) e in
     record {
@@ -52,7 +52,7 @@ pub record Collecting (g : Network) (xs ys H : List ℕ) (q size sum i : ℕ) : 
   pub grows : ListGrown (nodeCount g) H xs ys q 0 (record { size = size; sum = sum })
   pub low : i ≤ size
   pub begins : isMember (nodeCount g) ys q q ≡ true
-  pub sound : (v : ℕ) → v < nodeCount g → isMember (nodeCount g) ys q v ≡ true → OnList g xs q v
+  pub sound : (v : ℕ) → v < nodeCount g → isMember (nodeCount g) ys q v ≡ true → IsNear g xs q v
   pub there : (k : ℕ) → k < i → (j : ℕ) → j < length (neighboursOf g (getD ys (5 * nodeCount g + k) 0)) → Keeps g xs (getD ys (5 * nodeCount g + k) 0) j
       → isMember (nodeCount g) ys q (getD (neighboursOf g (getD ys (5 * nodeCount g + k) 0)) j 0) ≡ true
 
@@ -88,15 +88,15 @@ module _ {g : Network} {xs : List ℕ} {q : ℕ} (can : CanList g xs q) where
       (b .0, omega (arith, b .1, can .labels .own))
 
   -- ---- Near nodes along the arcs that keep to the labels.
-  near-own : OnList g xs q q
+  near-own : IsNear g xs q q
   near-own = let s = dist-self ok q in record { reach = λ e. omega arith; is = can .labels .own ∙ sym s }
 
-  near-next : {u v w : ℕ} → Arc g u v w → OnList g xs q u → label v ≡ label u + w → OnList g xs q v
+  near-next : {u v w : ℕ} → Arc g u v w → IsNear g xs q u → label v ≡ label u + w → IsNear g xs q v
   near-next {u} {v} r d e =
       let s = dist-walk ok (join (distance ok q u .walk (d .reach)) (arc-walk r)) in
       record { reach = s .some; is = omega (arith, e, d .is, s .most, label-least v (s .some) .1) }
 
-  near-previous : {u v w : ℕ} → Arc g u v w → dist g q u ≢ NONE → dist g q v ≡ dist g q u + w → OnList g xs q v → OnList g xs q u × (label v ≡ label u + w)
+  near-previous : {u v w : ℕ} → Arc g u v w → dist g q u ≢ NONE → dist g q v ≡ dist g q u + w → IsNear g xs q v → IsNear g xs q u × (label v ≡ label u + w)
   near-previous {u} {v} r m e d =
       let a = label-least u m in
       let s : label u ≡ dist g q u = omega (arith, a .1, along r (a .0) .1, d .is, e) in
@@ -144,7 +144,7 @@ module _ {g : Network} {xs : List ℕ} {q : ℕ} (can : CanList g xs q) where
       inside : v < n
       inside = l .grows .list .member i h .0
 
-      near : OnList g xs q v
+      near : IsNear g xs q v
       near = l .sound v inside (l .grows .list .member i h .1)
 
       pub can-follow : CanFollowMember g ys H q v size sum
@@ -165,7 +165,7 @@ module _ {g : Network} {xs : List ℕ} {q : ℕ} (can : CanList g xs q) where
       keeps-now : (j : ℕ) → j < length (neighboursOf g v) → Keeps g xs v j → Keeps g ys v j
       keeps-now j a k = omega (arith, k, arc-labels j a)
 
-      behind-near : {u : ℕ} → BehindMember g ys v (length (neighboursOf g v)) u → OnList g xs q u
+      behind-near : {u : ℕ} → BehindMember g ys v (length (neighboursOf g v)) u → IsNear g xs q u
       behind-near b =
           rw (b .leads) at
           (near-next (arc-at (accepted-ranges ok) v inside (b .arc) (b .low)) near (omega (arith, b .keeps, arc-labels (b .arc) (b .low))))
@@ -190,7 +190,7 @@ module _ {g : Network} {xs : List ℕ} {q : ℕ} (can : CanList g xs q) where
 
     -- ---- Each member is followed: no node is missing.
     module _ (all : size ≤ i) where
-      complete : (bound v : ℕ) → v < n → dist g q v < bound → OnList g xs q v → isMember n ys q v ≡ true
+      complete : (bound v : ℕ) → v < n → dist g q v < bound → IsNear g xs q v → isMember n ys q v ≡ true
       complete zero v h b d = absurd (omega arith)
       complete (suc bound) v h b d =
           elim (ℕ-discrete v q) [

@@ -31,11 +31,11 @@ struct Asked {
     k: u32,
     places: u32,
     visits: bool,
-    market: Option<[PathBuf; 2]>,
+    for_the_sheet: Option<[PathBuf; 2]>,
 }
 
 /// The households, and the sites that compete for them.
-struct Market {
+struct ForSheet {
     households: Points,
     sites: Points,
 }
@@ -66,7 +66,7 @@ pub fn run(arguments: &[OsString], out: &mut impl Write, err: &mut impl Write) -
 fn asked(arguments: &[OsString]) -> Result<Asked, Message> {
     let (mut files, mut sites) = (Vec::new(), Vec::new());
     let (mut k, mut places, mut visits) = (1, None, false);
-    let (mut households, mut rivals) = (None, None);
+    let (mut households, mut site_list) = (None, None);
     let mut words = arguments.iter();
     while let Some(word) = words.next() {
         let text = word.to_string_lossy();
@@ -76,7 +76,7 @@ fn asked(arguments: &[OsString]) -> Result<Asked, Message> {
             "--K" => places = Some(number(&text, words.next())?),
             "--visits" => visits = true,
             "--households" => households = Some(file(&text, words.next())?),
-            "--sites" => rivals = Some(file(&text, words.next())?),
+            "--sites" => site_list = Some(file(&text, words.next())?),
             option if option.starts_with('-') => return Err(format!("no option {option}")),
             _ => files.push(PathBuf::from(word)),
         }
@@ -90,7 +90,7 @@ fn asked(arguments: &[OsString]) -> Result<Asked, Message> {
         // Where k is not 1 to 16, that is what the refusal shall name.
         places: places.unwrap_or(k.clamp(1, 16) + 1),
         visits,
-        market: both(households, rivals)?,
+        for_the_sheet: both(households, site_list)?,
     })
 }
 
@@ -124,7 +124,7 @@ fn report(asked: &Asked, out: &mut impl Write) -> Result<(), Message> {
     let roads = read(&asked.roads)?;
     let network = read_network(&roads).map_err(|bad| in_file(&asked.roads, bad))?;
     let points = points_of(&asked.points, &network)?;
-    let market = market_of(asked, &network)?;
+    let for_the_sheet = for_sheet(asked, &network)?;
     let table = Table::build(&network, points, asked.places);
     let mut table = table.map_err(|refusal| format!("K = {}: {refusal}", asked.places))?;
     print_network(&table, out).map_err(unwritten)?;
@@ -133,8 +133,8 @@ fn report(asked: &Asked, out: &mut impl Write) -> Result<(), Message> {
         print_visits(asked, &table, out)?;
     }
     print_table(&table, out).map_err(unwritten)?;
-    match market {
-        Some(market) => print_market(asked, &network, &market, out),
+    match for_the_sheet {
+        Some(for_the_sheet) => print_sheet(asked, &network, &for_the_sheet, out),
         None => Ok(()),
     }
 }
@@ -145,11 +145,11 @@ fn points_of(file: &Path, network: &Network) -> Result<Points, Message> {
 }
 
 /// The households and sites, if they are asked about.
-fn market_of(asked: &Asked, network: &Network) -> Result<Option<Market>, Message> {
-    let Some([households, sites]) = &asked.market else {
+fn for_sheet(asked: &Asked, network: &Network) -> Result<Option<ForSheet>, Message> {
+    let Some([households, sites]) = &asked.for_the_sheet else {
         return Ok(None);
     };
-    Ok(Some(Market {
+    Ok(Some(ForSheet {
         households: points_of(households, network)?,
         sites: points_of(sites, network)?,
     }))
@@ -211,10 +211,10 @@ fn print_visits(asked: &Asked, table: &Table, out: &mut impl Write) -> Result<()
 }
 
 /// Prints for each site its entry of the sheet and its list.
-fn print_market(
+fn print_sheet(
     asked: &Asked,
     network: &Network,
-    Market { households, sites }: &Market,
+    ForSheet { households, sites }: &ForSheet,
     out: &mut impl Write,
 ) -> Result<(), Message> {
     writeln!(
