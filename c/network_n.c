@@ -5,7 +5,7 @@
  *     cc -std=c11 -Wall -Wextra -Wpedantic -Werror -Iinclude c/network_n.c target/staticlib/liboverlap.a -o target/network_n
  *     target/network_n
  *
- * The gate compares the output with network_n.expected, which is worked out from document 01 and Asks 1, 4, 6 and 8 of
+ * The gate compares the output with network_n.expected, which is worked out from document 01 and Asks 1, 4, 6, 8 and 10 of
  * document 02.
  *
  * What a caller lends, by the names of overlap.h. n is the number of nodes, A that of arcs; a road is two arcs, one from each end:
@@ -55,9 +55,9 @@
 /* N has 6 nodes and 10 arcs; this program uses k = 1 and 2, K = 2 and 3. */
 enum { NODES = 6, ARCS = 10, MOST_PLACES = 3 };
 
-/* Document 01: "Length S = 16 x n + 8 x (A + n) x m entries; m is the k of a search, verify or nearest call (1 for the short query), K for
- * build, insert and remove, and 1 for distances." "Both checks have no scratch." Document 02 (Ask 1): "For the list, k is 1 to 16; the m of 10
- * is this k, and 1 for the sheet." The nearer row has no scratch. */
+/* Document 01: "Length S = 16 x n + 8 x (A + n) x m entries; m is the k of a search, verify or nearest call [..], K for build, insert and
+ * remove, and 1 for distances." "Both checks have no scratch." Document 02 (Ask 1): "For the list, k is 1 to 16; the m of 10 is this k, and 1
+ * for the sheet." The nearer row has no scratch. */
 #define SCRATCH_LEN(n, arcs, m) (16 * (n) + 8 * ((arcs) + (n)) * (m))
 
 /* Document 02 (Ask 5): "Eager, verify and the short query shall work with 12 x n entries for every k." It is never more than S. */
@@ -256,6 +256,8 @@ static void print_cases(void)
     print_case("P7, road 2-4 of 6", p7, n_points, 0, 1);
     /* Nodes 0 and 4 are equally far from 2. */
     print_case("a tie, no points", n, no_points, 2, 1);
+    /* The short query has a k of its own, 2: P1 as a short query gives 2, 4. */
+    print_short_query(0);
     print_short_query(3);
     print_short_query(4);
 }

@@ -122,7 +122,8 @@ fn print_cases(engine: &mut Engine, points: &Points, out: &mut impl Write) -> Do
     print_case("P7, road 2-4 of 6", &network_with(6)?, points, (0, 1), out)?;
     // Nodes 0 and 4 are equally far from 2.
     print_case("a tie, no points", &n, &Points::none(&n), (2, 1), out)?;
-    for q in [3, 4] {
+    // The short query has a k of its own, 2: P1 as a short query gives 2, 4.
+    for q in [0, 3, 4] {
         let listed = engine.short_query(points, q)?;
         let (list, expanded) = (words(listed.points), listed.expanded);
         writeln!(out, "short query, q {q}: {{{list}}} expanded {expanded}")?;

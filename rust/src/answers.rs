@@ -255,9 +255,9 @@ pub struct Expansion<'a> {
 /// let network = Network::from_roads(6, &[(0, 1, 4), (0, 3, 5), (1, 2, 3), (2, 4, 7), (3, 4, 3)])?;
 /// let points = Points::on(&network, [2, 4, 5])?;
 /// let mut engine = Engine::new(&network);
-/// // P4: the site's own point isn't listed.
-/// let listed = engine.short_query(&points, 2)?;
-/// assert_eq!((listed.points, listed.expanded), (&[4][..], 3));
+/// // Document 02 (Ask 10): "P1 as a short query gives 2, 4."
+/// let listed = engine.short_query(&points, 0)?;
+/// assert_eq!((listed.points, listed.expanded), (&[2, 4][..], 4));
 /// # Ok(())
 /// # }
 /// ```

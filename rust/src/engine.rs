@@ -251,8 +251,11 @@ impl Engine {
         })
     }
 
-    /// Document 01: "The short query: no k and no limit; eager with k = 1 and limit 65,535." Document
-    /// 02 (Ask 4): it doesn't list the nodes that its count counts.
+    /// Document 01: "The short query: no k and no limit; eager with [...] limit 65,535." Document 02
+    /// (Ask 10): it "takes k = 2 from now on". (Ask 4): it doesn't list the nodes that its count counts.
+    ///
+    /// By a table the same list is [`Table::query`](crate::Table::query) with k = 2, of a table with
+    /// three places or more.
     ///
     /// ```
     /// use overlap::{Engine, Network, Points};
@@ -263,9 +266,9 @@ impl Engine {
     /// let network = Network::from_roads(6, &roads)?;
     /// let points = Points::on(&network, [2, 4, 5])?;
     /// let mut engine = Engine::new(&network);
-    /// // The locker on node 2 itself isn't listed for a site there.
-    /// let listed = engine.short_query(&points, 2)?;
-    /// assert_eq!((listed.points, listed.expanded), (&[4][..], 3));
+    /// // "P1 as a short query gives 2, 4."
+    /// let listed = engine.short_query(&points, 0)?;
+    /// assert_eq!((listed.points, listed.expanded), (&[2, 4][..], 4));
     /// # Ok(())
     /// # }
     /// ```
@@ -384,8 +387,9 @@ impl Engine {
     }
 
     /// How many households each site wins. Document 02 (Ask 1): "A sheet call writes, for each node,
-    /// the length of the list of a site there, 0 without a site, with the k of the short query."
-    /// (Ask 8): "A sheet's length counts each household on a listed node."
+    /// the length of the list of a site there, 0 without a site". (Ask 10): "the sheet now names 1
+    /// itself", for the k of these lists. (Ask 8): "A sheet's length counts each household on a listed
+    /// node."
     ///
     /// The entry of a node with a site is the number of households on the nodes that
     /// [`households`](Self::households) lists for it with k = 1. Where two sites are equally near to a

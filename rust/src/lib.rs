@@ -5,8 +5,9 @@
 //! proved: each call of it meets a contract that says what document 01, the requirements of the
 //! build, says, with what document 02 changed: several lockers at one junction (Ask 8), less scratch
 //! for eager, verify and the short query (Ask 5), eager's visits (Ask 4), no locker on the list of a
-//! site at its own junction (Ask 6), and the households that a site wins against a rival's (Ask 1).
-//! Each item of this crate quotes the sentence that it is.
+//! site at its own junction (Ask 6), the households that a site wins against a rival's (Ask 1), and
+//! the two nearest for the short query (Ask 10). Each item of this crate quotes the sentence that it
+//! is.
 //!
 //! | Type | What it is |
 //! |---|---|

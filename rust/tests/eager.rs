@@ -108,10 +108,21 @@ mod network_n {
         }
     }
 
+    /// "P1 as a short query gives 2, 4." So do sites 1 and 3; 2 and 4 are points themselves, and none
+    /// but 4 and none but 2 is listed for them.
     #[test]
-    fn the_short_query_is_eager_with_k_1() {
+    fn the_short_query_is_eager_with_k_2() {
         let (mut random, points) = (Random::new(0), marks(N_NODES, &N_POINTS));
-        for (q, list, count) in [(0, &[2][..], 1), (1, &[2], 2), (2, &[4], 3), (5, &[], 1)] {
+        for (q, list, visits) in [
+            (0, &[2, 4][..], &[0, 1, 3, 2][..]),
+            (1, &[2, 4], &[1, 2, 0, 3]),
+            (2, &[4], &[2, 1, 0, 4, 3]),
+            (3, &[2, 4], &[3, 4, 0, 1]),
+            (4, &[2], &[4, 3, 2, 0, 1]),
+            (5, &[], &[5]),
+        ] {
+            assert_list(call(q, 2, 65_535), list, visits);
+            let count = visits.len() as u32;
             let short = Short::exact(&network_n(), &points, q, &mut random);
             assert_scratch_lengths(&short, &mut random, |c| c.accepted(list, count));
         }
@@ -146,10 +157,8 @@ mod random {
 
     #[test]
     fn short_query_and_plain_calculation_agree() {
-        // Not the last two: for k = 1 a companion keeps a node off every list, and one locker does to
-        // the count what several do.
-        let names = &Site::TALLIED[..8];
-        assert_random_calls::<Short>(&[0, 1, 2, 3, 4, 5, 6, 7, 10], names);
+        let names = [&Site::TALLIED[..], &Short::TALLIED].concat();
+        assert_random_calls::<Short>(&[0, 1, 2, 3, 4, 5, 6, 7, 10], &names);
     }
 }
 

@@ -9,6 +9,7 @@
 mod common;
 
 use common::all_pairs::AllPairs;
+use common::eager::SHORT_K;
 use common::inputs::{some_k, some_node, some_points};
 use common::network::accepted;
 use common::random::Random;
@@ -111,7 +112,7 @@ mod lists {
             list.first() > Some(&town.q),
             list.last().is_some_and(|&p| p < town.q),
             has_several(&town.q) && list.iter().any(has_several),
-            town.k == 1,
+            town.k == SHORT_K,
         ];
         for (happened, name) in happened.into_iter().zip(TALLIED) {
             tally.add_if(happened, name);

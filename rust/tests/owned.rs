@@ -5,6 +5,7 @@ mod common;
 
 use common::all_pairs::AllPairs;
 use common::damage;
+use common::eager::SHORT_K;
 use common::inputs::{
     no_k, no_node, no_places, some_e, some_k, some_node, some_places, some_points,
 };
@@ -16,7 +17,7 @@ use common::shapes::{belt, grid, random_network, weight_by_product, weighted};
 use common::table::PlainTable;
 use common::table_damage;
 use overlap::calls::{self, eager_scratch_len, scratch_len};
-use overlap::{Engine, Expansion, Network, Points, Refusal, Table, NONE};
+use overlap::{Engine, Expansion, Listed, Network, Points, Refusal, Table, NONE};
 
 /// The answer of eager that has this list and these visits.
 fn expansion<'a>(points: &'a [u32], visits: &'a [u32]) -> Expansion<'a> {
@@ -53,6 +54,25 @@ mod network_n {
         }
     }
 
+    /// "P1 as a short query gives 2, 4."
+    #[test]
+    fn p1_to_p5_as_short_queries() {
+        let (network, points) = n_and_points();
+        let mut engine = Engine::new(&network);
+        for (q, points_of_q, expanded) in [
+            (0, &[2, 4][..], 4),
+            (1, &[2, 4], 4),
+            (2, &[4], 5),
+            (5, &[], 1),
+        ] {
+            let listed = Listed {
+                points: points_of_q,
+                expanded,
+            };
+            assert_eq!(engine.short_query(&points, q), Ok(listed));
+        }
+    }
+
     #[test]
     fn p6_without_points() {
         let (network, _) = n_and_points();
@@ -69,7 +89,8 @@ mod network_n {
         let network = Network::from_roads(6, &roads).unwrap();
         let points = Points::on(&network, [2, 4, 5]).unwrap();
         let mut engine = Engine::new(&network);
-        assert!(engine.short_query(&points, 0).unwrap().points.is_empty());
+        let is = engine.eager(&points, 0, 1, 65_535);
+        assert_eq!(is, Ok(expansion(&[], &[0])));
     }
 
     #[test]
@@ -367,8 +388,8 @@ mod engine {
         assert_eq!(by_call, (Ok(()), list, 0));
 
         let short = engine.short_query(points, q).unwrap();
-        let list = pairs.plain_listed(marks, q, 1);
-        let expanded = pairs.plain_expanded(marks, q, 1);
+        let list = pairs.plain_listed(marks, q, SHORT_K);
+        let expanded = pairs.plain_expanded(marks, q, SHORT_K);
         assert_eq!((short.points, short.expanded), (&list[..], expanded));
         let by_call = thin(&network, small, |s, a| {
             calls::short_query(lent, marks, q, s, a)

@@ -129,7 +129,7 @@ mod random {
     }
 
     /// Each entry is the sum of the households over the engine's own list "of a site there, 0 without
-    /// a site, with the k of the short query".
+    /// a site".
     #[test]
     fn each_entry_is_the_length_of_a_list() {
         for seed in 0..4_000 {

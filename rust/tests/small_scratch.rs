@@ -10,7 +10,7 @@ mod common;
 use common::all_pairs::AllPairs;
 use common::call::{assert_least_scratch, assert_scratch_lengths};
 use common::call::{Answer, Call, Outcome};
-use common::eager::{Eager, Short};
+use common::eager::{Eager, Short, SHORT_K};
 use common::inputs::{some_k, some_node, some_points};
 use common::largest::{densest, each, most_roads, several_on_each, DENSEST_NODES};
 use common::nearest_rows::NearestRows;
@@ -189,7 +189,7 @@ mod fifteen_lockers_on_one_of_two_nodes {
         }
         let call = Verify::exact(&town.network, &POINTS, (1, q, k), &mut random);
         town.try_call(call, &mut random, |c| c.accepted(list.contains(&1)));
-        if k == 1 {
+        if k == SHORT_K {
             let call = Short::exact(&town.network, &POINTS, q, &mut random);
             town.try_call(call, &mut random, |c| c.accepted(list, count));
         }
@@ -344,7 +344,7 @@ mod limits {
             assert_scratch_lengths(&call, &mut random, |c| c.accepted(&list, &visits));
             let call = Eager::exact(&network, &points, (q, k, count - 1), &mut random);
             assert_scratch_lengths(&call, &mut random, |c| c.refused(12));
-            if k == 1 {
+            if k == SHORT_K {
                 let call = Short::exact(&network, &points, q, &mut random);
                 assert_scratch_lengths(&call, &mut random, |c| c.accepted(&list, count));
             }

@@ -8,7 +8,7 @@ mod common;
 
 use common::all_pairs::AllPairs;
 use common::call::{assert_outcome, assert_refused, Call};
-use common::eager::{has_ties, Eager, Short};
+use common::eager::{has_ties, Eager, Short, SHORT_K};
 use common::inputs::{enough, too_short};
 use common::largest::{each, largest_grid, largest_star, several_on_each, MOST_NODES};
 use common::lent::Lent;
@@ -267,14 +267,14 @@ mod order {
 mod short_query {
     use super::*;
 
-    /// Its count is the number of eager's visits with k = 1, and it lists as before.
+    /// Its count is the number of eager's visits with its k, and it lists as eager does.
     #[test]
     fn lists_and_counts_alone() {
         try_random(|call, pairs, random| {
             let (network, points, q) = (call.network(), call.points(), call.site.q);
-            let visits = steps(Eager::exact(network, points, (q, 1, 65_535), random));
+            let visits = steps(Eager::exact(network, points, (q, SHORT_K, 65_535), random));
             let short = Short::exact(network, points, q, random);
-            let list = pairs.plain_listed(points, q, 1);
+            let list = pairs.plain_listed(points, q, SHORT_K);
             let outcome = short.accepted(&list, visits.len() as u32);
             assert_outcome(short, &outcome);
         });

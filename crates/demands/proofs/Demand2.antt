@@ -10,7 +10,7 @@ use lib.ListN.{length}
 use borrow.Author.Tests.{eq-eqb, ne-eqb}
 use Rattle.network.specs.Network.{Network, nodeCount}
 use Rattle.network.specs.Accepted.{Accepted}
-use Rattle.network.specs.Points.{isListed, listed, expanded}
+use Rattle.network.specs.Points.{isListed, listed, expanded, shortK}
 use Rattle.network.specs.Visits.{visits}
 use Rattle.network.proofs.Counts.{select-ascending}
 use Rattle.network.proofs.Visits.{visits-count}
@@ -75,8 +75,8 @@ demand g P q k scratch old scratch′ new r =
           lists (a .accepted) (a .points) (s .1);
       short =
           λ h z.
-          let s = limited-said g P q 1 scratch old z (limitedNumber g P q 1 scratch old) 65535 h in
-          let a = limited-ready g P q 1 scratch old (s .zero) in
+          let s = limited-said g P q shortK scratch old z (limitedNumber g P q shortK scratch old) 65535 h in
+          let a = limited-ready g P q shortK scratch old (s .zero) in
           (lists (a .accepted) (a .points) (s .list), counts (a .accepted) (a .points) (s .count));
       by-table =
           λ K ids distances c h z.

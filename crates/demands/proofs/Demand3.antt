@@ -17,7 +17,7 @@ use Rattle.network.specs.Count.{any}
 use Rattle.network.specs.Network.{Network, nodeCount}
 use Rattle.network.specs.Accepted.{Accepted}
 use Rattle.network.specs.Check.{networkNumber}
-use Rattle.network.specs.Points.{lockers, expanded}
+use Rattle.network.specs.Points.{lockers, expanded, shortK}
 use Rattle.network.specs.Visits.{visits}
 use Rattle.network.specs.Answers.{answered}
 use Rattle.network.specs.Rows.{rowsChanged, Sized, IsTable}
@@ -346,9 +346,9 @@ demand g P₀ K scratch ids distances e calls answers P ids′ distances′ run 
       agree = λ q k site some few s old s′ new r places. agreed g (b .0) K (f .standing) (t .1) q k site some few s old places (t .0) s′ new r;
       short =
           λ q site s old s′ new r room places.
-          quoted g (b .0) K (f .standing) (t .1) q 1 site (omega arith) (omega arith) s old places
-          (limited-zero g (b .0) K (f .standing) (t .1) q 1 site (omega arith) (omega arith) s old places room)
-          (expanded-most (number-zero g .0 (b .0)) P q 1);
+          quoted g (b .0) K (f .standing) (t .1) q shortK site (omega arith) (omega arith) s old places
+          (limited-zero g (b .0) K (f .standing) (t .1) q shortK site (omega arith) (omega arith) s old places room)
+          (expanded-most (number-zero g .0 (b .0)) P q shortK);
       steps = same-steps g P;
       afresh = rebuilt g (b .0) K (f .standing) (t .0) (t .1);
     }

@@ -12,7 +12,7 @@ use Rattle.network.specs.Network.{Network, nodeCount}
 use Rattle.network.specs.Count.{sumOver}
 use Rattle.network.specs.Walk.{Walk}
 use Rattle.network.specs.Answers.{Ascending, answered}
-use Rattle.network.specs.Points.{lockers, marked, fewerAt}
+use Rattle.network.specs.Points.{lockers, marked, fewerAt, shortK}
 use Rattle.conditions.specs.declared.answers.Listing.{Listing}
 use Rattle.conditions.specs.Values.{ruleVerdict}
 use Rattle.site_calls.specs.Eager.{eagerOutcome, shortOutcome}
@@ -90,13 +90,13 @@ pub record ListsSteps (g : Network) (P : List ℕ) (q k : ℕ) (old new : List �
   pub count : Counts g P q k r
   pub visits : new ≡ answered (count .steps) old
 
--- What a search with number 0 has written, whatever it was lent: eager; lazy and lazy-EP, which have one contract; the short query, whose k is 1; and the
--- table query, where the table check says yes of the table that it was lent. Each clause is read alone.
+-- What a search with number 0 has written, whatever it was lent: eager; lazy and lazy-EP, which have one contract; the short query, with its own k (Ask 10);
+-- and the table query, where the table check says yes of the table that it was lent. Each clause is read alone.
 pub record Demand2 (g : Network) (P : List ℕ) (q k : ℕ) (scratch old scratch′ new : List ℕ) (r : Listing) : Type 0 where
   pub eager : (limit : ℕ) (visits visits′ : List ℕ) → EagerExported (eagerOutcome g P q k limit scratch old visits) r scratch′ new visits′ → r .number ≡ 0
       → Lists g P q k old new r × ListsSteps g P q k visits visits′ r
   pub lazy : SearchExported (lazyOutcome g P q k scratch old) r scratch′ new → r .number ≡ 0 → Lists g P q k old new r
-  pub short : SearchExported (shortOutcome g P q scratch old) r scratch′ new → r .number ≡ 0 → Lists g P q 1 old new r × Counts g P q 1 r
+  pub short : SearchExported (shortOutcome g P q scratch old) r scratch′ new → r .number ≡ 0 → Lists g P q shortK old new r × Counts g P q shortK r
   pub by-table : (K : ℕ) (ids distances : List ℕ) → ruleVerdict (tableCheckAnswer g P K ids distances) .yes ≡ 1
       → TableQueryExported g P q k K (record { ids = ids; distances = distances; scratch = scratch; answers = old }) scratch′ new r → r .number ≡ 0
       → Lists g P q k old new r

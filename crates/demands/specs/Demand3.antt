@@ -8,7 +8,7 @@ use mathlib.Core.List.{List, [], _∷_}
 use lib.ListN.{length, take, replicate}
 use Rattle.network.specs.Network.{Network, nodeCount}
 use Rattle.network.specs.Rows.{tableIds, tableDistances, Sized}
-use Rattle.network.specs.Points.{listed, expanded}
+use Rattle.network.specs.Points.{listed, expanded, shortK}
 use Rattle.network.specs.Visits.{visits}
 use Rattle.network.specs.Answers.{answered}
 use Rattle.network.specs.Scratch.{eagerWords, scratchWords}
@@ -94,9 +94,9 @@ pub record Demand3 (g : Network) (P₀ : List ℕ) (K : ℕ) (calls : List Call)
   pub table-distances : distances ≡ tableDistances g P K
   pub agree : (q k : ℕ) → q < nodeCount g → 1 ≤ k → k ≤ 16 → (scratch old scratch′ new : List ℕ) (r : Listing)
       → nodeCount g ≤ length old → Agree g P K ids distances q k scratch old scratch′ new r
-  -- the short query is eager with k = 1 and limit 65,535, which no count exceeds
+  -- the short query is eager with its own k (Ask 10) and limit 65,535, which no count exceeds
   pub short : (q : ℕ) → q < nodeCount g → (scratch old scratch′ new : List ℕ) (r : Listing) → eagerWords g ≤ length scratch → nodeCount g ≤ length old
-      → SearchExported (shortOutcome g P q scratch old) r scratch′ new → Quotes g P q 1 old new r × (r .count ≡ expanded g P q 1)
+      → SearchExported (shortOutcome g P q scratch old) r scratch′ new → Quotes g P q shortK old new r × (r .count ≡ expanded g P q shortK)
   -- both machines take the same steps
   pub steps : SameSteps g P
   -- the table is as built afresh: build, lent these marks, is accepted and writes the same arrays

@@ -91,11 +91,12 @@ pub record Examples : Type 0 where
         search = record { answer = is.Points 2 4; scratch = replicate 352 0; answers = 2 ∷ 4 ∷ 9 ∷ 9 ∷ 9 ∷ 9 ∷ [] };
         visits = 0 ∷ 1 ∷ 3 ∷ 2 ∷ 8 ∷ 8 ∷ 8 ∷ [];
       }
-  -- Ask 4: '10 if the new list's array is shorter than n'; 'the short query doesn't' list them, and has no such array
+  -- Ask 4: '10 if the new list's array is shorter than n'; 'the short query doesn't' list them, and has no such array; 'P1 as a short query gives 2, 4'
+  -- (Ask 10)
   pub few-visits : eagerOutcome N points 0 2 4 scratch old (replicate 5 8)
       ≡ record { search = record { answer = is.Refused 10; scratch = scratch; answers = old }; visits = replicate 5 8 }
   pub short-P1 : shortOutcome N points 0 (replicate 72 9) old
-      ≡ record { answer = is.Points 1 1; scratch = replicate 72 0; answers = 2 ∷ 9 ∷ 9 ∷ 9 ∷ 9 ∷ 9 ∷ [] }
+      ≡ record { answer = is.Points 2 4; scratch = replicate 72 0; answers = 2 ∷ 4 ∷ 9 ∷ 9 ∷ 9 ∷ 9 ∷ [] }
   -- one word of scratch less than S
   pub short : lazyOutcome N points 0 2 (replicate 351 9) old ≡ record { answer = is.Refused 10; scratch = replicate 351 9; answers = old }
   -- Ask 5: '12 × n entries for every k', and one word less; lazy asks S; two nodes of which one has 15 lockers: the other alone is expanded

@@ -60,7 +60,7 @@ fn show_short_query(q: u32) {
     put(b"\n");
 }
 
-// P1 to P7: the lists of eager and the nodes that it expanded; and a site that two junctions are equally far from.
+// P1 to P7: the lists of eager and the nodes that it expanded; P1 as a short query; and a site that two junctions are equally far from.
 pub fn show_searches() {
     put(b"Cases of document 01\n");
     show_on_n(b"  P1   ", 0, 1, NO_LIMIT);

@@ -7,6 +7,7 @@ use lib.ListN.{length}
 use Rattle.network.specs.Network.{Network, nodeCount}
 use Rattle.network.specs.Accepted.{Accepted}
 use Rattle.network.specs.Scratch.{scratchWords}
+use Rattle.network.specs.Households.{sheetK}
 use Rattle.conditions.specs.Conditions.{pointsNumber, nodeNumber, kNumber, shortNumber}
 use Rattle.conditions.proofs.NotMet.{first-zero, points-ready, node-ready, k-ready, short-ready}
 use Rattle.numbers.specs.Numbers.{networkPointsNumber}
@@ -44,10 +45,10 @@ pub sheet-ready : (g : Network) (H T scratch answers : List ℕ) → sheetNumber
 unfolding sheetNumber
 sheet-ready g H T scratch answers e =
     let a = first-zero (bothNumber g H T) _ e in
-    let b = first-zero (shortNumber (length scratch) (scratchWords g 1)) _ (a .1) in
+    let b = first-zero (shortNumber (length scratch) (scratchWords g sheetK)) _ (a .1) in
     let c = first-zero (shortNumber (length answers) (nodeCount g)) [] (b .1) in
     record {
       accepted = both-ready g H T (a .0) .0;
-      room = short-ready (length scratch) (scratchWords g 1) (b .0);
+      room = short-ready (length scratch) (scratchWords g sheetK) (b .0);
       places = short-ready (length answers) (nodeCount g) (c .0);
     }

@@ -6,6 +6,7 @@ use mathlib.Core.List.{List, [], _∷_}
 use lib.ListN.{length}
 use Rattle.network.specs.Network.{Network, nodeCount}
 use Rattle.network.specs.Scratch.{scratchWords}
+use Rattle.network.specs.Households.{sheetK}
 use Rattle.conditions.specs.Conditions.{firstNumber, pointsNumber, nodeNumber, kNumber, shortNumber}
 use Rattle.numbers.specs.Numbers.{networkPointsNumber}
 
@@ -28,11 +29,11 @@ householdsNumber g H T q k scratch answers =
     ∷ shortNumber (length answers) (nodeCount g)
     ∷ [])
 
--- the sheet: 10 too, where m is 1
+-- the sheet: 10 too, where m is 1, its k (Ask 10)
 unfoldable pub sheetNumber : Network → List ℕ → List ℕ → List ℕ → List ℕ → ℕ
 sheetNumber g H T scratch answers =
     firstNumber
     (bothNumber g H T
-    ∷ shortNumber (length scratch) (scratchWords g 1)
+    ∷ shortNumber (length scratch) (scratchWords g sheetK)
     ∷ shortNumber (length answers) (nodeCount g)
     ∷ [])

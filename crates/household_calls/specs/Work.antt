@@ -7,6 +7,7 @@ use lib.ListN.{length}
 use Rattle.network.specs.Network.{Network, nodeCount}
 use Rattle.network.specs.Accepted.{Accepted}
 use Rattle.network.specs.Scratch.{scratchWords}
+use Rattle.network.specs.Households.{sheetK}
 
 pub record HouseholdsReady (g : Network) (T : List ℕ) (q k : ℕ) (scratch answers : List ℕ) : Type 0 where
   pub accepted : Accepted g
@@ -18,5 +19,5 @@ pub record HouseholdsReady (g : Network) (T : List ℕ) (q k : ℕ) (scratch ans
 
 pub record SheetReady (g : Network) (scratch answers : List ℕ) : Type 0 where
   pub accepted : Accepted g
-  pub room : scratchWords g 1 ≤ length scratch
+  pub room : scratchWords g sheetK ≤ length scratch
   pub places : nodeCount g ≤ length answers

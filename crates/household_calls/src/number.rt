@@ -3,6 +3,9 @@ ghost use mathlib.Core.Path.{_≡_};
 ghost use Rattle.network.specs.Network.{network};
 ghost use Rattle.household_calls.specs.Numbers.{bothNumber, householdsNumber, sheetNumber};
 
+// The sheet's k, whatever the short query's is (Ask 10). Its method (sheet) is for this k alone; what may change with a k is the m of 10.
+const SHEET_K: u32 = 1;
+
 // What both calls test first: 1 to 5, 6 of the households, 6 of the sites.
 fn both_number(
     starts: &[u32],
@@ -54,7 +57,7 @@ pub fn households_number(
     conditions::short_number(answers.len(), n)
 }
 
-// The sheet: 1 to 5, 6, 6, 10; m is 1.
+// The sheet: 1 to 5, 6, 6, 10; m is its k.
 pub fn sheet_number(
     starts: &[u32],
     neighbours: &[u32],
@@ -71,7 +74,7 @@ pub fn sheet_number(
         return number;
     }
     let n = starts.len() - 1;
-    let number = conditions::scratch_number(n, neighbours.len(), 1, scratch.len());
+    let number = conditions::scratch_number(n, neighbours.len(), SHEET_K, scratch.len());
     if number != 0 {
         return number;
     }

@@ -9,7 +9,7 @@ use lib.ListN.{set, replicate}
 use Rattle.network.specs.Network.{Network, network}
 use Rattle.network.specs.Accepted.{Accepted}
 use Rattle.network.specs.Distance.{NONE}
-use Rattle.network.specs.Points.{listed, expanded, exceedsLimit}
+use Rattle.network.specs.Points.{listed, expanded, exceedsLimit, shortK}
 use Rattle.network.specs.Nearest.{nearest}
 use Rattle.network.specs.Visits.{visits}
 use Rattle.network.specs.Households.{won, sheet}
@@ -61,6 +61,9 @@ pub record Cases : Type 0 where
   pub P1 : listed (roads 7) points 0 1 ≡ 2 ∷ []
   pub P1-expanded : expanded (roads 7) points 0 1 ≡ 1
   pub P1-visits : visits (roads 7) points 0 1 ≡ 0 ∷ []
+  -- 'P1 as a short query gives 2, 4' (Ask 10), with its count
+  pub P1-short : listed (roads 7) points 0 shortK ≡ 2 ∷ 4 ∷ []
+  pub P1-short-expanded : expanded (roads 7) points 0 shortK ≡ 4
   -- P2: q 0, k 2; 'Limit 4 answers P2, limit 3 refuses.'
   pub P2 : listed (roads 7) points 0 2 ≡ 2 ∷ 4 ∷ []
   pub P2-expanded : expanded (roads 7) points 0 2 ≡ 4

@@ -8,7 +8,7 @@ use mathlib.Core.List.{List}
 use Rattle.network.specs.Network.{Network, nodeCount}
 use Rattle.network.specs.Accepted.{Accepted}
 use Rattle.network.specs.Count.{sumOver, select, tabulate}
-use Rattle.network.specs.Points.{lockers, marked, isExpanded, shortK}
+use Rattle.network.specs.Points.{lockers, marked, isExpanded}
 
 -- 'A household is listed for q exactly if it can be reached and fewer than k sites are strictly nearer to it than q': of node h with a household that is
 -- `isExpanded` with the sites as points: d(h, q) is not NONE, which is to be reached from q, as roads run both ways (`dist-symmetric`), and fewer than k sites
@@ -24,9 +24,13 @@ won g H T q k = select (isWon g H T q k) (nodeCount g)
 unfoldable pub wonLength : Network → List ℕ → List ℕ → ℕ → ℕ → ℕ
 wonLength g H T q k = sumOver (isWon g H T q k) (lockers H) (nodeCount g)
 
--- 'A sheet call writes, for each node, the length of the list of a site there, 0 without a site, with the k of the short query.'
+-- 'The sheet of Ask 1 relied on 1 and existing sheets must compare, so the sheet now names 1 itself' (Ask 10): its k, whatever the short query's is
+abbrev pub sheetK : ℕ
+sheetK = 1
+
+-- 'A sheet call writes, for each node, the length of the list of a site there, 0 without a site', with this k
 unfoldable pub sheetEntry : Network → List ℕ → List ℕ → ℕ → ℕ
-sheetEntry g H T v = cond (marked T v) (wonLength g H T v shortK) 0
+sheetEntry g H T v = cond (marked T v) (wonLength g H T v sheetK) 0
 
 unfoldable pub sheet : Network → List ℕ → List ℕ → List ℕ
 sheet g H T = tabulate (sheetEntry g H T) (nodeCount g)

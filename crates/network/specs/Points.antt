@@ -62,9 +62,9 @@ isExpanded g P q k m =
 unfoldable pub expanded : Network → List ℕ → ℕ → ℕ → ℕ
 expanded g P q k = count (isExpanded g P q k) (nodeCount g)
 
--- 'The short query: no k and no limit; eager with k = 1 and limit 65,535': its k, by name
+-- 'The short query takes k = 2 from now on' (Ask 10): its k, which stands here alone
 abbrev pub shortK : ℕ
-shortK = 1
+shortK = 2
 
 -- 12: 'eager: the expanded count would exceed the limit'
 unfoldable pub exceedsLimit : Network → List ℕ → ℕ → ℕ → ℕ → Bool

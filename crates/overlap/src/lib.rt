@@ -167,8 +167,8 @@ pub extern "C" fn overlap_eager(
 }
 
 // The short query. Lent: the network, the points, scratch of 12 × n entries (Ask 5), and an array for n answers. Returned and left: as eager with k =
-// 1 and limit 65,535, which no count exceeds, but for the visits: it lists none (Ask 4). Document 01: 'The short query: no k and no limit; eager with
-// k = 1 and limit 65,535.'
+// 2 and limit 65,535, which no count exceeds, but for the visits: it lists none (Ask 4). Document 01: 'The short query: no k and no limit; eager with
+// [..] limit 65,535.' Document 02 (Ask 10): 'The short query takes k = 2 from now on.'
 #[no_mangle]
 pub extern "C" fn overlap_short_query(
     starts: &[u32],
@@ -442,8 +442,8 @@ pub extern "C" fn overlap_households(
 
 // The sheet. Lent: the network, households and sites, both laid out as points, scratch of S entries with m = 1, and an array for n answers. Returned: 0, or 1
 // to 5, 6 of the households, 6 of the sites, 10. Accepted: the answers are the n entries, then the old ones, and the whole scratch is zero. Refused: nothing
-// is written. Document 02: 'A sheet call writes, for each node, the length of the list of a site there, 0 without a site, with the k of the short query.' 'A
-// sheet's length counts each household on a listed node.'
+// is written. Document 02: 'A sheet call writes, for each node, the length of the list of a site there, 0 without a site' (Ask 1); 'the sheet now names 1
+// itself' (Ask 10), for the k of these lists. 'A sheet's length counts each household on a listed node' (Ask 8).
 #[no_mangle]
 pub extern "C" fn overlap_sheet(
     starts: &[u32],

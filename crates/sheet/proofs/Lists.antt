@@ -14,8 +14,8 @@ use Rattle.network.specs.Network.{Network, nodeCount}
 use Rattle.network.specs.Accepted.{Accepted}
 use Rattle.network.specs.Distance.{NONE, dist}
 use Rattle.network.specs.Count.{weighed}
-use Rattle.network.specs.Points.{lockers, marked, isNearer, countNearer, isExpanded, shortK}
-use Rattle.network.specs.Households.{sheetEntry}
+use Rattle.network.specs.Points.{lockers, marked, isNearer, countNearer, isExpanded}
+use Rattle.network.specs.Households.{sheetK, sheetEntry}
 use Rattle.network.proofs.NodeArcs.{arc-source}
 use Rattle.network.proofs.Counts.{selected, select-passed}
 use Rattle.network.proofs.Totals.{total-same, total-more, sum-none}
@@ -69,9 +69,9 @@ module _ {g : Network} (ok : Accepted g) (T : List ℕ) where
 
   module _ (q : ℕ) (inside : q < nodeCount g) (mark : marked T q ≡ true) where
     -- v is on q's list exactly if q is reached and as near as any site
-    on-list : (v : ℕ) → isExpanded g T q shortK v ≡ (not (eqb (dist g q v) NONE) && eqb (near v) (dist g q v))
+    on-list : (v : ℕ) → isExpanded g T q sheetK v ≡ (not (eqb (dist g q v) NONE) && eqb (near v) (dist g q v))
     unfolding isExpanded
-    on-list v = ap (λ (d : ℕ). not (eqb d NONE) && ltb (countNearer g T v d) shortK) (dist-symmetric ok v q) ∙ ap (λ b. not (eqb (dist g q v) NONE) && b) same
+    on-list v = ap (λ (d : ℕ). not (eqb d NONE) && ltb (countNearer g T v d) sheetK) (dist-symmetric ok v q) ∙ ap (λ b. not (eqb (dist g q v) NONE) && b) same
       where
         same : ltb (countNearer g T v (dist g q v)) 1 ≡ eqb (near v) (dist g q v)
         same =
@@ -108,7 +108,7 @@ module _ {g : Network} {T xs : List ℕ} {q : ℕ} (c : CanEnter g T xs q) (mark
   pub can-list : CanList g xs q
   can-list = record { accepted = c .accepted; room = c .room; site = c .inside; labels = labels-along; marks = c .marks }
 
-  there : (v : ℕ) → v < nodeCount g → isNearest g xs q v ≡ isExpanded g T q shortK v
+  there : (v : ℕ) → v < nodeCount g → isNearest g xs q v ≡ isExpanded g T q sheetK v
   there v h =
       ap (λ (l : ℕ). not (eqb (dist g q v) NONE) && eqb l (dist g q v)) (c .labels v h) ∙ sym (on-list (c .accepted) T q (c .inside) mark v)
 
@@ -122,7 +122,7 @@ module _ {g : Network} {T xs : List ℕ} {q : ℕ} (c : CanEnter g T xs q) (mark
             rw mark
             (l .summed
             ∙ total-same _ _ (nodeCount g) (λ v h. ap (λ b. weighed b (lockers H v)) (there v h))
-            ∙ won-length g H T q shortK);
+            ∙ won-length g H T q sheetK);
       }
 
 -- without a site the entry is 0

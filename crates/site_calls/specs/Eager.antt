@@ -44,6 +44,6 @@ eagerOutcome g P q k limit scratch answers steps =
       visits = visitsOutcome number g P q k limit steps;
     }
 
--- 'The short query: no k and no limit; eager with k = 1 and limit 65,535', without the visits
+-- 'The short query: no k and no limit; eager with [..] limit 65,535', and 'k = 2 from now on' (Ask 10), without the visits
 unfoldable pub shortOutcome : Network → List ℕ → ℕ → List ℕ → List ℕ → SearchOutcome
 shortOutcome g P q scratch answers = limitedOutcome (limitedNumber g P q shortK scratch answers) g P q shortK 65535 scratch answers

@@ -1,11 +1,14 @@
 // The short query: its work once no condition of 1 to 10 is met. Document 01, 'What a site receives': 'The short query: no k and no limit; eager with
-// k = 1 and limit 65,535.' It lists no visits (Ask 4).
+// [..] limit 65,535.' It lists no visits (Ask 4).
 ghost use mathlib.Core.Path.{_≡_};
 ghost use Rattle.network.specs.Network.{network};
 ghost use Rattle.site_calls.specs.Eager.{shortOutcome};
 use crate::eager;
 use conditions::answers::Listed;
 use expansion::words;
+
+// 'The short query takes k = 2 from now on' (Ask 10).
+const SHORT_K: u32 = 2;
 
 // The whole call.
 pub fn answer(
@@ -28,7 +31,7 @@ pub fn answer(
         weights,
         points,
         q,
-        1,
+        SHORT_K,
         scratch,
         answers,
     );
@@ -44,7 +47,7 @@ pub fn answer(
         scratch,
         answers,
         q,
-        1,
+        SHORT_K as usize,
         65535,
     ))
 }

@@ -50,7 +50,7 @@ impl Settings {
             build_places: vec![2, 5, 9, 17],
             ks: vec![1, 2, 4, 8, 12, 16],
             sides: vec![32, 45, 64, 90, 128, 181, 255],
-            reach_ks: vec![1, 4, 16],
+            reach_ks: vec![1, 2, 4, 16],
             budget: budget(1_500, 11, 64),
             chart_budget: budget(500, 5, 32),
             document: docs.join("PERFORMANCE.md"),

@@ -36,7 +36,10 @@ pub fn eager(
     })
 }
 
-/// Eager with k = 1 and limit 65,535, without the visits.
+/// The k of the short query (Ask 10).
+const SHORT_K: usize = 2;
+
+/// Eager with this k and limit 65,535, without the visits.
 #[inline(never)]
 pub fn short_query(
     network: Network<'_>,
@@ -49,7 +52,7 @@ pub fn short_query(
         network,
         points,
         q,
-        k: 1,
+        k: SHORT_K,
     };
     let lists = [answers];
     let lent = Lent { scratch, lists };

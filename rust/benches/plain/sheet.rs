@@ -9,6 +9,9 @@ use super::network_check;
 use super::site::{are_points, least_scratch};
 use overlap::calls::Network;
 
+/// The k of the sheet, which is its own (Ask 10): the walk below is for one nearest.
+const SHEET_K: usize = 1;
+
 #[inline(never)]
 pub fn sheet(
     network: Network<'_>,
@@ -30,7 +33,7 @@ fn number_of(network: Network<'_>, bytes: [&[u8]; 2], scratch: usize, answers: u
     let number = bytes_number(network, bytes[0], bytes[1]);
     if number != 0 {
         number
-    } else if scratch < least_scratch(network, 1) || answers < bytes[1].len() {
+    } else if scratch < least_scratch(network, SHEET_K) || answers < bytes[1].len() {
         10
     } else {
         0

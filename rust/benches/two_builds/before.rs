@@ -13,6 +13,9 @@
 //! Ask 1 adds three calls. A build before it has none of them, and `main.rs` asks it for none; `run`
 //! sees whether it has.
 //!
+//! Ask 10 changes the k of the short query, from 1 to 2, and with it what it answers. `main.rs` asks both
+//! builds for P1 as a short query and times theirs only where they take the same k. The sheet's k stays.
+//!
 //! Both are lent what they ask for, 12 × n words of scratch since Ask 5. A build before Ask 5 asks for
 //! more and is not called any more.
 

@@ -24,7 +24,8 @@ mod plain;
 mod roads;
 
 use before::BEFORE;
-use calls::{Call, Query, ENGINE, HOUSEHOLDS, NEARER_ROW, SHEET};
+use calls::{Call, Functions, Query, ENGINE, HOUSEHOLDS, NEARER_ROW, SHEET, SHORT_QUERY};
+use common::network::{marks, network_n, N_NODES, N_POINTS};
 use measure::{measure, Budget};
 use networks::{limits, roads, streets, Subject};
 use outcome::built;
@@ -56,10 +57,23 @@ fn print_times(subject: &Subject, calls: &[Call], places: u32) {
 /// The calls that a build before Ask 1 has not.
 const OF_ASK_1: [Call; 3] = [HOUSEHOLDS, SHEET, NEARER_ROW];
 
-/// The calls that both builds have.
+/// The length of P1's list as a short query: 2, and 1 by a build before Ask 10.
+fn p1_by_short_query(by: &Functions) -> usize {
+    let network = network_n();
+    let points = marks(N_NODES, &N_POINTS);
+    let (mut scratch, mut answers) = ([0; 12 * N_NODES as usize], [0; N_NODES as usize]);
+    let listing = (by.short_query)(network.lend(), &points, 0, &mut scratch, &mut answers);
+    listing.length
+}
+
+/// The calls that both builds have and mean the same by.
 fn shared_calls() -> Vec<Call> {
     let is_new = |call: &Call| OF_ASK_1.iter().any(|new| new.name == call.name);
-    let is_shared = |call: &Call| cfg!(feature = "households") || !is_new(call);
+    let has_same_k = p1_by_short_query(&ENGINE) == p1_by_short_query(&BEFORE);
+    let is_shared = |call: &Call| {
+        (cfg!(feature = "households") || !is_new(call))
+            && (has_same_k || call.name != SHORT_QUERY.name)
+    };
     calls::ALL.into_iter().filter(is_shared).collect()
 }
 

@@ -84,11 +84,13 @@ pub fn eager(
     }
 }
 
-/// Document 01: "The short query: no k and no limit; eager with k = 1 and limit 65,535."
+/// Document 01: "The short query: no k and no limit; eager with [...] limit 65,535." Document 02 (Ask
+/// 10): "The short query takes k = 2 from now on."
 ///
 /// The answer and all that the call leaves are those of [`eager`], in as much scratch, but for the
 /// visits. Document 02 (Ask 4): "Eager also lists the nodes that its count counts, [...]; the short
-/// query doesn't." No condition 9 or 12 can be met.
+/// query doesn't." No condition 9 or 12 can be met. By a table the same list is
+/// [`table_query`](super::table_query) with k = 2, which 9 lets pass where K is 3 or more.
 ///
 /// ```
 /// use overlap::calls::{eager_scratch_len, short_query, Network};
@@ -103,10 +105,15 @@ pub fn eager(
 /// let mut scratch = vec![0; eager_scratch_len(network)];
 /// let mut answers = [0; 6];
 /// let points = [0, 0, 1, 0, 1, 1];
+/// // "P1 as a short query gives 2, 4."
+/// let listing = short_query(network, &points, 0, &mut scratch, &mut answers).accepted()?;
+/// assert_eq!(answers[..listing.length], [2, 4]);
+/// assert_eq!(listing.count, 4);
+///
+/// // For a site on node 2 the point there isn't listed.
 /// let listing = short_query(network, &points, 2, &mut scratch, &mut answers).accepted()?;
-/// // P4: the point on node 2 itself isn't listed.
 /// assert_eq!(answers[..listing.length], [4]);
-/// assert_eq!(listing.count, 3);
+/// assert_eq!(listing.count, 5);
 /// # Ok(())
 /// # }
 /// ```

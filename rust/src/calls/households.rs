@@ -81,8 +81,8 @@ pub fn households(
 }
 
 /// Document 02 (Ask 1): "A sheet call writes, for each node, the length of the list of a site there, 0
-/// without a site, with the k of the short query." That k is 1. (Ask 8): "A sheet's length counts each
-/// household on a listed node."
+/// without a site". (Ask 10): "the sheet now names 1 itself", for the k of these lists, whatever that of
+/// the short query is. (Ask 8): "A sheet's length counts each household on a listed node."
 ///
 /// So the entry of a node with a site is the sum of the bytes of [`households`] over the list that the
 /// call of that name gives for it with k = 1. Where two sites are equally near to a household, both

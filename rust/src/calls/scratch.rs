@@ -3,9 +3,9 @@
 use super::Network;
 
 /// Document 01: "Scratch is a lent array of 32-bit numbers. Length S = 16 × n + 8 × (A + n) × m
-/// entries; m is the k of a search, verify or nearest call (1 for the short query), K for build,
-/// insert and remove, and 1 for distances." Document 02 (Ask 1): "For the list, k is 1 to 16; the m of
-/// 10 is this k, and 1 for the sheet."
+/// entries; m is the k of a search, verify or nearest call [...], K for build, insert and remove, and 1
+/// for distances." Document 02 (Ask 1): "For the list, k is 1 to 16; the m of 10 is this k, and 1 for
+/// the sheet."
 ///
 /// Eager, verify and the short query need less: [`eager_scratch_len`].
 ///

@@ -73,12 +73,17 @@ impl AllPairs {
         self.nodes().filter(is_listed).collect()
     }
 
-    /// Ask 1: "for each node, the length of the list of a site there, 0 without a site, with the k of
-    /// the short query." Ask 8: "A sheet's length counts each household on a listed node."
+    /// Ask 1: "for each node, the length of the list of a site there, 0 without a site". Ask 8: "A
+    /// sheet's length counts each household on a listed node."
     pub fn plain_sheet(&self, households: &[u8], sites: &[u8]) -> Vec<u32> {
+        self.sheet_with(households, sites, SHEET_K)
+    }
+
+    /// The same with another k.
+    pub fn sheet_with(&self, households: &[u8], sites: &[u8], k: u32) -> Vec<u32> {
         let entry = |q: u32| match sites[q as usize] {
             0 => 0,
-            _ => counted(households, &self.plain_households(households, sites, q, 1)),
+            _ => counted(households, &self.plain_households(households, sites, q, k)),
         };
         self.nodes().map(entry).collect()
     }
@@ -87,6 +92,9 @@ impl AllPairs {
         0..self.rows.len() as u32
     }
 }
+
+/// Ask 10: "existing sheets must compare, so the sheet now names 1 itself."
+pub const SHEET_K: u32 = 1;
 
 /// How many households are on these nodes.
 pub fn counted(households: &[u8], list: &[u32]) -> u32 {

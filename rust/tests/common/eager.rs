@@ -217,9 +217,9 @@ fn lower_limit(call: &mut Eager, random: &mut Random) {
     call.limit = random.pick(&[expanded - 1, expanded - 1, expanded / 2, 0]);
 }
 
-/// "The short query: no k and no limit; eager with k = 1 and limit 65,535." No count is above this
-/// limit.
-const SHORT_K: u32 = 1;
+/// "The short query: no k and no limit; eager with [...] limit 65,535." No count is above this limit.
+/// Ask 10: "The short query takes k = 2 from now on."
+pub const SHORT_K: u32 = 2;
 
 /// A call of the short query. Ask 4: eager lists visits, "the short query doesn't".
 #[derive(Clone)]
@@ -236,6 +236,12 @@ impl Short {
         let (listing, left) = self.0.accepted(list, count);
         (listing, Self(left))
     }
+
+    /// The names under which things are counted, beyond those of the site.
+    pub const TALLIED: [&'static str; 2] = [
+        "a list that k = 1 would change",
+        "a count that k = 1 would change",
+    ];
 }
 
 impl Call for Short {
@@ -296,6 +302,16 @@ impl Call for Short {
     }
 
     fn tally(&self, tally: &mut Tally, pairs: &AllPairs) {
-        self.0.tally(tally, pairs);
+        let site = &self.0;
+        site.tally(tally, pairs);
+        let mut by_one = site.clone();
+        by_one.k = 1;
+        let happened = [
+            site.list(pairs) != by_one.list(pairs),
+            site.expanded(pairs) != by_one.expanded(pairs),
+        ];
+        for (happened, name) in happened.into_iter().zip(Self::TALLIED) {
+            tally.add_if(happened, name);
+        }
     }
 }

@@ -1,6 +1,6 @@
 //! Everything that the two calls of households and sites are lent: the list and the sheet.
 
-use super::all_pairs::AllPairs;
+use super::all_pairs::{AllPairs, SHEET_K};
 use super::call::{Call, Outcome};
 use super::faults::Fault;
 use super::inputs::{enough, no_k, no_node, some_k, some_node};
@@ -293,10 +293,10 @@ impl Sheet {
         (0, Self { lent })
     }
 
-    /// The call of the list for a site of this sheet, "with the k of the short query".
+    /// The call of the list for a site of this sheet, with the sheet's k.
     pub fn list_of(&self, q: u32, random: &mut Random) -> Households {
         let AllLent { network, .. } = &self.lent;
-        Households::exact(network, self.lent.bytes(), (q, 1), random)
+        Households::exact(network, self.lent.bytes(), (q, SHEET_K), random)
     }
 
     fn entries(&self, pairs: &AllPairs) -> Vec<u32> {
@@ -314,7 +314,7 @@ impl Sheet {
     }
 
     /// The names under which things are counted.
-    pub const TALLIED: [&'static str; 8] = [
+    pub const TALLIED: [&'static str; 9] = [
         "no site at all",
         "a site that wins nothing",
         "a site with several households",
@@ -323,6 +323,7 @@ impl Sheet {
         "a household that several sites count",
         "a household that reaches no site",
         "longer answers",
+        "a sheet that k = 2 would change",
     ];
 }
 
@@ -410,6 +411,7 @@ impl Call for Sheet {
             entries.iter().sum::<u32>() > with_a_site,
             with_a_site < all,
             self.lent.has_longer_answers(),
+            entries != pairs.sheet_with(households, sites, 2),
         ];
         for (happened, name) in happened.into_iter().zip(Self::TALLIED) {
             tally.add_if(happened, name);

@@ -3,6 +3,8 @@
 use mathlib.Core.Path.{_≡_, sym, _∙_}
 use lib.ListN.{length}
 use Rattle.network.specs.Network.{Network, network}
+use Rattle.network.specs.Points.{shortK}
+use Rattle.conditions.specs.Conditions.{kNumber}
 use Rattle.numbers.specs.Numbers.{limitedNumber}
 use Rattle.numbers.proofs.Ready.{limited-ready}
 use Rattle.site_calls.proofs.Searchable.{limited-search}
@@ -18,8 +20,9 @@ start c = c .before .before .before .before .before .before .before .before .bef
 abbrev G : tie.After-limited-number → Network
 G n = let a = start n .args in network (a .starts .now) (a .neighbours .now) (a .weights .now)
 
--- behind the test no condition is met
-none : (e : tie.Else1) → let a = start (e .before) .args in limitedNumber (G (e .before)) (a .points .now) (a .q) 1 (a .scratch .now) (a .answers .now) ≡ 0
+-- behind the test no condition is met. The number is the same for any k that 9 lets pass, so a wrong k is first refused where the list is told (`returns-2`).
+none : (e : tie.Else1) → let a = start (e .before) .args in limitedNumber (G (e .before)) (a .points .now) (a .q) shortK (a .scratch .now) (a .answers .now) ≡ 0
+unfolding limitedNumber kNumber
 none e = sym (e .before .limited-number .ensures) ∙ e .if1 .left
 
 limited-number-requires : tie.Need-limited-number-requires
@@ -32,21 +35,26 @@ same-length-2 : tie.Need-same-length-2
 same-length-2 c = search needs
 
 returns : tie.Need-returns
+unfolding limitedNumber kNumber
 returns c =
     let n = c .before in
     let a = start n .args in
     short-is (G n) (a .points .now) (a .q) (a .scratch .now) (a .answers .now)
-    (limited-refused (G n) (a .points .now) (a .q) 1 65535 (a .scratch .now) (a .answers .now) (n .limited-number .result) (n .limited-number .ensures) (c .if1 .taken))
+    (limited-refused (G n) (a .points .now) (a .q) shortK 65535 (a .scratch .now) (a .answers .now) (n .limited-number .result) (n .limited-number .ensures) (c .if1 .taken))
 
 zero-requires : tie.Need-zero-requires
 zero-requires c κs = search needs
+
+cast-without-visits : tie.Need-cast-without-visits
+cast-without-visits c = search needs
 
 without-visits-requires : tie.Need-without-visits-requires
 without-visits-requires c κs =
     let z = c .before .before .before .before in
     let e = z .before .before in
-    let a = start (e .before) .args in
-    let r = limited-ready (G (e .before)) (a .points .now) (a .q) 1 (a .scratch .now) (a .answers .now) (none e) in
+    let n = e .before in
+    let a = start n .args in
+    let r = limited-ready (G n) (a .points .now) (a .q) _ (a .scratch .now) (a .answers .now) (sym (n .limited-number .ensures) ∙ e .if1 .left) in
     (limited-search r (z .zero .ensures), r .places)
 
 listed-of-requires : tie.Need-listed-of-requires
@@ -67,7 +75,7 @@ returns-2 c =
     let long = length (a .scratch .now) in
     short-is (G (e .before)) (a .points .now) (a .q) (a .scratch .now) (a .answers .now)
     (rw (c .listed-of .ensures)
-    (limited-outcome (G (e .before)) (a .points .now) (a .q) 1 65535 (a .scratch .now) (a .answers .now) (r .without-visits .result) (none e) (r .without-visits .ensures)
+    (limited-outcome (G (e .before)) (a .points .now) (a .q) shortK 65535 (a .scratch .now) (a .answers .now) (r .without-visits .result) (none e) (r .without-visits .ensures)
     (λ s. all-zero long (zero-length long (z .zero .ensures)) s)))
 
 pub answer-spec : {M : Type 1} → statement M
@@ -79,6 +87,7 @@ answer-spec =
     same-length-2
     returns
     zero-requires
+    cast-without-visits
     without-visits-requires
     listed-of-requires
     same-length-3
