@@ -1,6 +1,6 @@
 //! Network N of document 01 through every call. It prints what `c/network_n.c` prints, and
 //! `tests/network_n.rs` compares the output with `c/network_n.expected`, which is worked out from
-//! document 01 and Asks 1, 4, 6 and 8 of document 02.
+//! document 01 and Asks 1, 4, 6, 8 and 10 of document 02.
 //!
 //! Run it with `cargo run --release --example network_n`.
 

@@ -1,4 +1,5 @@
-//! Eager and the short query, compared with document 01, and eager's visits with Ask 4 of document 02.
+//! Eager and the short query, compared with document 01, eager's visits with Ask 4 of document 02, and
+//! the short query's k with Ask 10.
 
 mod common;
 
@@ -108,8 +109,8 @@ mod network_n {
         }
     }
 
-    /// "P1 as a short query gives 2, 4." So do sites 1 and 3; 2 and 4 are points themselves, and none
-    /// but 4 and none but 2 is listed for them.
+    /// "P1 as a short query gives 2, 4." So do sites 1 and 3; for 2 and 4, which are points themselves,
+    /// the other one alone is listed.
     #[test]
     fn the_short_query_is_eager_with_k_2() {
         let (mut random, points) = (Random::new(0), marks(N_NODES, &N_POINTS));

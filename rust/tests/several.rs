@@ -251,8 +251,10 @@ mod searches {
     /// the site.
     #[test]
     fn no_locker_on_q_is_listed() {
-        assert_list(TWO_ON_2, (2, 1), &[4], &[2, 1, 0]);
-        assert_list([0, 0, 15, 0, 1, 1], (2, 1), &[4], &[2, 1, 0]);
+        for on_2 in [2, 15] {
+            assert_list([0, 0, on_2, 0, 1, 1], (2, 1), &[4], &[2, 1, 0]);
+            assert_list([0, 0, on_2, 0, 1, 1], (2, 2), &[4], &[2, 1, 0, 4, 3]);
+        }
     }
 
     /// P4 with two lockers on 4: each has the other nearer than the site, and those on 2 are no nearer
@@ -269,7 +271,7 @@ mod searches {
     /// P5 with 15 lockers on the node that is alone.
     #[test]
     fn a_node_alone() {
-        for k in [1, 14, 15, 16] {
+        for k in [1, 2, 14, 15, 16] {
             assert_list([0, 0, 0, 0, 0, 15], (5, k), &[], &[5]);
         }
     }

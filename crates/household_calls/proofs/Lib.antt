@@ -1,2 +1,3 @@
--- What a number 0 leaves to the work.
+-- What a number 0 leaves to the work (Ready); the sheet of N, worked out (Examples).
 pub mod Ready
+pub mod Examples

@@ -62,7 +62,7 @@ isExpanded g P q k m =
 unfoldable pub expanded : Network → List ℕ → ℕ → ℕ → ℕ
 expanded g P q k = count (isExpanded g P q k) (nodeCount g)
 
--- 'The short query takes k = 2 from now on' (Ask 10): its k, which stands here alone
+-- 'The short query takes k = 2 from now on' (Ask 10): its k; no other definition says it
 abbrev pub shortK : ℕ
 shortK = 2
 

@@ -3,9 +3,9 @@
 //!
 //! Ask 4 changes eager's. A build before it is lent no array for the visits and lists none: its number,
 //! list, count and scratch are compared with this one's, and the visits are not. This build is lent the
-//! array and timed with all that it does more: eager keeps the visits and copies them, the short query
-//! keeps them. A build since Ask 4, as this one is in a control, is lent the array too, and all is
-//! compared; `run` sees which form it has.
+//! array and timed with all that it does more: it keeps the visits and copies them. A build since Ask
+//! 4, as this one is in a control, is lent the array too, and all is compared; `run` sees which form it
+//! has.
 //!
 //! Ask 6 changes no form, and answers only where the site is a point. No site is one here, which
 //! `main.rs` sees to, so the answers of a build before it are compared whole.

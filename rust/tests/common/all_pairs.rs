@@ -79,7 +79,7 @@ impl AllPairs {
         self.sheet_with(households, sites, SHEET_K)
     }
 
-    /// The same with another k.
+    /// The same with any k.
     pub fn sheet_with(&self, households: &[u8], sites: &[u8], k: u32) -> Vec<u32> {
         let entry = |q: u32| match sites[q as usize] {
             0 => 0,

@@ -1,5 +1,5 @@
 //! What the test programs and the benchmarks share. All of it is written from document 01, with what
-//! Asks 1, 4, 5, 6 and 8 of document 02 change, and knows nothing of how the engine works.
+//! Asks 1, 4, 5, 6, 8 and 10 of document 02 change, and knows nothing of how the engine works.
 
 // Each program uses a part of this.
 #![allow(dead_code)]
