@@ -3,7 +3,7 @@ ghost use mathlib.Core.Path.{_≡_};
 ghost use Rattle.network.specs.Network.{network};
 ghost use Rattle.household_calls.specs.Numbers.{bothNumber, householdsNumber, sheetNumber};
 
-// The sheet's k, whatever the short query's is (Ask 10). Its method (sheet) is for this k alone; what may change with a k is the m of 10.
+// The sheet's k, whatever the short query's is (Ask 10), and so the m of its 10. Its walk (sheet, list) is for one nearest and is passed no k.
 const SHEET_K: u32 = 1;
 
 // What both calls test first: 1 to 5, 6 of the households, 6 of the sites.
