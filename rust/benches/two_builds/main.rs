@@ -82,7 +82,7 @@ fn main() {
     let shared = shared_calls();
     let of_name = |name: &String| {
         let call = shared.iter().find(|call| call.name == name);
-        *call.unwrap_or_else(|| panic!("no call that both builds have, and mean the same by, is named {name}"))
+        *call.unwrap_or_else(|| panic!("no call that both builds have alike is named {name}"))
     };
     let calls: Vec<Call> = match names.len() {
         0 => shared,
