@@ -1,31 +1,25 @@
 -- Several nodes as the origin of a search: a walk from one of them, and the distance of the nearest.
 -- Assumes nothing.
-use Prim.Native.Nat.{ℕ, _+_, _≤_}
-use mathlib.Core.Path.{_≡_, refl, ap}
+use Prim.Native.Nat.{ℕ, _+_}
 use mathlib.Core.Logic.{_≢_, ⊎-elim}
 use mathlib.Core.List.{List, [], _∷_, List·Memᴰ, List·Memᴰ·head, List·Memᴰ·tail, List·Memᴰ·cases-cons, List·Memᴰ·not-nil}
-use native.Mathlib.Decide.{ℕ-discrete, decLe}
+use native.Mathlib.Decide.{ℕ-discrete}
 use native.Mathlib.Omega.{arith}
 use Rattle.network.specs.Network.{Network, Arc}
 use Rattle.network.specs.Accepted.{Accepted}
 use Rattle.network.specs.Walk.{Walk, here}
-use Rattle.network.specs.Distance.{NONE, dist}
+use Rattle.network.specs.Distance.{NONE, distFrom}
 use Rattle.network.specs.Order.{Upto}
 use Rattle.network.proofs.Walks.{join, arc-walk}
 use Rattle.network.proofs.Least.{distance}
 use Rattle.network.proofs.Distances.{dist-walk, dist-self, dist-at-most, dist-previous}
-use Rattle.expansion.specs.Expand.{distFrom}
+use Rattle.network.proofs.DistancesFrom.{from-most, from-any, from-nearest}
 use Rattle.expansion.proofs.Origins.{Origin, Last, Lawful}
 
 pub record WalkFrom (g : Network) (S : List ℕ) (v l : ℕ) : Type 0 where
   pub source : ℕ
   pub member : List·Memᴰ source S
   pub walk : Walk g source v l
-
-pub record NearestOf (g : Network) (S : List ℕ) (v : ℕ) : Type 0 where
-  pub source : ℕ
-  pub member : List·Memᴰ source S
-  pub is : distFrom g S v ≡ dist g source v
 
 abbrev pub several : Network → List ℕ → Origin
 several g S = record { Source = λ v. List·Memᴰ v S; From = WalkFrom g S; far = distFrom g S }
@@ -37,38 +31,6 @@ member? v (s ∷ ss) =
       | yes e ↦ yes (List·Memᴰ·head e)
       | no n ↦ elim (member? v ss) [ yes m ↦ yes (List·Memᴰ·tail m) | no k ↦ no (λ m. ⊎-elim (λ e. n e) (λ t. k t) (List·Memᴰ·cases-cons m)) ]
     ]
-
-module _ (g : Network) where
-  pub from-most : (S : List ℕ) (v : ℕ) → distFrom g S v ≤ NONE
-  unfolding distFrom
-  from-most [] v = omega arith
-  from-most (s ∷ ss) v = omega (arith, dist-at-most g s v)
-
-  pub from-any : (S : List ℕ) (s v : ℕ) → List·Memᴰ s S → distFrom g S v ≤ dist g s v
-  unfolding distFrom
-  from-any [] s v m = absurd (List·Memᴰ·not-nil m)
-  from-any (t ∷ ss) s v m =
-      ⊎-elim
-      (λ e. omega (arith, ap (λ (x : ℕ). dist g x v) e))
-      (λ i. omega (arith, from-any ss s v i))
-      (List·Memᴰ·cases-cons m)
-
-  pub from-nearest : (S : List ℕ) (v : ℕ) → distFrom g S v ≢ NONE → NearestOf g S v
-  unfolding distFrom
-  from-nearest [] v n = absurd (n refl)
-  from-nearest (s ∷ ss) v n =
-      elim (decLe (dist g s v) (distFrom g ss v)) [
-        | yes l ↦ record { source = s; member = List·Memᴰ·head refl; is = omega arith }
-        | no l ↦ let r = from-nearest ss v (omega arith) in record { source = r .source; member = List·Memᴰ·tail (r .member); is = omega (arith, r .is) }
-      ]
-
-  -- a list of one node
-  pub from-one : (S : List ℕ) (s v : ℕ) → List·Memᴰ s S → ((x : ℕ) → List·Memᴰ x S → x ≡ s) → distFrom g S v ≡ dist g s v
-  from-one S s v m only =
-      elim (ℕ-discrete (distFrom g S v) NONE) [
-        | yes e ↦ omega (arith, from-any S s v m, dist-at-most g s v)
-        | no n ↦ let r = from-nearest S v n in omega (arith, r .is, ap (λ (x : ℕ). dist g x v) (only (r .source) (r .member)))
-      ]
 
 module _ {g : Network} (ok : Accepted g) (S : List ℕ) where
   from-upto : {v l : ℕ} → WalkFrom g S v l → Upto (distFrom g S v) l

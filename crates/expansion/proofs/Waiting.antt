@@ -13,15 +13,16 @@ use lib.ListN.{getD}
 use borrow.Author.Tests.{ne-eqb, eqb-false, not-true}
 use Rattle.network.specs.Network.{Network, nodeCount}
 use Rattle.network.specs.Accepted.{Accepted}
-use Rattle.network.specs.Distance.{NONE, dist}
+use Rattle.network.specs.Distance.{NONE, dist, distFrom}
 use Rattle.network.proofs.Counts.{selected, select-passed}
+use Rattle.network.proofs.DistancesFrom.{from-one}
 use Rattle.expansion.specs.Queue.{keyOf, keyAt}
 use Rattle.expansion.specs.Tags.{tagOf, nodeOf}
 use Rattle.expansion.specs.NodeQueue.{PushedNode}
 use Rattle.expansion.specs.Area.{queueBase, queueOf, HeldAt, Area, Kept}
-use Rattle.expansion.specs.Expand.{labelWord, isWaiting, nodesWaiting, distFrom, CanExpand, CanSettleFrom, SettledAll, SettledFrom}
+use Rattle.expansion.specs.Expand.{labelWord, isWaiting, nodesWaiting, CanExpand, CanSettleFrom, SettledAll, SettledFrom}
 use Rattle.expansion.proofs.Origins.{Origin}
-use Rattle.expansion.proofs.Several.{several, several-lawful, from-one}
+use Rattle.expansion.proofs.Several.{several, several-lawful}
 use Rattle.expansion.proofs.Steps.{initial}
 use Rattle.expansion.proofs.AreaLaws.{area-start, kept-trans}
 use Rattle.expansion.proofs.AreaSearch.{small, held-same, key-node-of, word-label, search-finished}

@@ -1,14 +1,14 @@
 -- What an expansion requires, and what the expansion of everything leaves, from one node or from several together.
 -- Assumes nothing.
-use Prim.Native.Nat.{ℕ, suc, _+_, _-_, _*_, _≤_, _<_, min}
+use Prim.Native.Nat.{ℕ, suc, _+_, _-_, _*_, _≤_, _<_}
 use mathlib.Core.Path.{_≡_}
 use mathlib.Core.Bool.{Bool, cond, not}
-use mathlib.Core.List.{List, [], _∷_}
+use mathlib.Core.List.{List}
 use lib.Dec.{eqb, leb}
 use lib.ListN.{length, getD}
 use Rattle.network.specs.Network.{Network, nodeCount}
 use Rattle.network.specs.Accepted.{Accepted}
-use Rattle.network.specs.Distance.{NONE, dist}
+use Rattle.network.specs.Distance.{NONE, dist, distFrom}
 use Rattle.network.specs.Count.{select}
 use Rattle.expansion.specs.Area.{queueBase, Area, Kept, Blank}
 
@@ -40,11 +40,6 @@ pub record SettledAll (g : Network) (xs ys : List ℕ) (b source settled : ℕ) 
   pub labels : (v : ℕ) → v < nodeCount g → getD ys (b + v) 0 ≡ labelWord (nodeCount g) (dist g source v)
 
 -- ---- From several nodes together.
-
--- the distance of the node of a list that is nearest to v, NONE where none can be reached
-unfoldable pub distFrom : Network → List ℕ → ℕ → ℕ
-distFrom g [] v = NONE
-distFrom g (s ∷ ss) v = min (dist g s v) (distFrom g ss v)
 
 -- the nodes that wait, where none is settled
 abbrev pub isWaiting : List ℕ → ℕ → ℕ → Bool

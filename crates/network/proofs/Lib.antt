@@ -14,6 +14,7 @@ pub mod Within
 pub mod Trail
 pub mod Least
 pub mod Distances
+pub mod DistancesFrom
 pub mod Totals
 pub mod Single
 pub mod Ordered

@@ -41,6 +41,11 @@ dist g a b = within g (nodeCount g) a b
 unfoldable pub distancesFrom : Network → ℕ → List ℕ
 distancesFrom g a = tabulate (dist g a) (nodeCount g)
 
+-- the distance of the node of a list that is nearest to v, NONE where none can be reached
+unfoldable pub distFrom : Network → List ℕ → ℕ → ℕ
+distFrom g [] v = NONE
+distFrom g (s ∷ ss) v = min (dist g s v) (distFrom g ss v)
+
 -- What the distance is, on an accepted network (the theorem is `distance` of proofs/Least.antt): NONE and there is no walk, or the sum of a walk
 -- and no more than that of any
 pub record Least (g : Network) (a b : ℕ) : Type 0 where

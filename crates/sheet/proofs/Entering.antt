@@ -10,7 +10,8 @@ use Rattle.network.specs.Network.{Network, nodeCount}
 use Rattle.network.specs.Households.{sheetEntry, sheet}
 use Rattle.network.proofs.Tabulate.{Stored, stored-all}
 use Rattle.expansion.specs.Area.{queueBase, Kept}
-use Rattle.expansion.specs.Expand.{wordDistance, distFrom, nodesWaiting, CanSettleFrom, SettledFrom}
+use Rattle.network.specs.Distance.{distFrom}
+use Rattle.expansion.specs.Expand.{wordDistance, nodesWaiting, CanSettleFrom, SettledFrom}
 use Rattle.expansion.proofs.AreaLaws.{kept-trans}
 use Rattle.expansion.proofs.Settled.{word-distance, zero-blank}
 use Rattle.sheet.specs.Sources.{Started}

@@ -12,7 +12,7 @@ use lib.Dec.{eqb, ltb}
 use borrow.Author.Tests.{eq-eqb, ne-eqb, lt-ltb, le-ltb, ltb-true}
 use Rattle.network.specs.Network.{Network, nodeCount}
 use Rattle.network.specs.Accepted.{Accepted}
-use Rattle.network.specs.Distance.{NONE, dist}
+use Rattle.network.specs.Distance.{NONE, dist, distFrom}
 use Rattle.network.specs.Count.{weighed}
 use Rattle.network.specs.Points.{lockers, marked, isNearer, countNearer, isExpanded}
 use Rattle.network.specs.Households.{sheetK, sheetEntry}
@@ -23,8 +23,8 @@ use Rattle.network.proofs.Rank.{nearer-passes, passes-nearer}
 use Rattle.network.proofs.Least.{distance}
 use Rattle.network.proofs.Distances.{dist-at-most, dist-symmetric}
 use Rattle.network.proofs.Households.{won-length}
-use Rattle.expansion.specs.Expand.{distFrom}
-use Rattle.expansion.proofs.Several.{several-lawful, from-any, from-nearest}
+use Rattle.network.proofs.DistancesFrom.{from-any, from-nearest}
+use Rattle.expansion.proofs.Several.{several-lawful}
 use Rattle.sheet.specs.List.{isNearest, LabelsAlong, CanList, ListLeft}
 use Rattle.sheet.specs.Sheet.{siteNodes, CanEnter, EntryLeft}
 

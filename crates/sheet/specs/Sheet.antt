@@ -12,7 +12,8 @@ use Rattle.network.specs.Points.{marked}
 use Rattle.network.specs.Households.{sheetEntry, sheet}
 use Rattle.network.specs.Answers.{answered}
 use Rattle.expansion.specs.Area.{Kept, Blank, Wiped}
-use Rattle.expansion.specs.Expand.{labelIn, distFrom}
+use Rattle.network.specs.Distance.{distFrom}
+use Rattle.expansion.specs.Expand.{labelIn}
 
 -- the nodes with a site
 abbrev pub siteNodes : Network → List ℕ → List ℕ
