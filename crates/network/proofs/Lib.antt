@@ -1,5 +1,6 @@
 -- The theorems about the definitions of specs/, for this crate and for those above it. From the bottom up: tests and counts; a part that is lent;
--- arcs and the network check; walks and distances; the order by distance and node; rows; the visits; P1 to P10.
+-- arcs and the network check; walks and distances; the order by distance and node; rows; the visits; households and
+-- routes; P1 to P10.
 pub mod Tests
 pub mod Counts
 pub mod Tabulate
@@ -24,5 +25,6 @@ pub mod Rows
 pub mod Visits
 pub mod OwnLockers
 pub mod Households
+pub mod Routes
 pub mod Prefix
 pub mod Cases

@@ -17,7 +17,7 @@ use Rattle.network.specs.Count.{bit, weighed, sumOver}
 use Rattle.network.specs.Points.{lockers, marked, isNearer, countNearer, othersAt, othersNearer}
 use Rattle.network.specs.Nearest.{key}
 use Rattle.network.specs.Order.{isBefore, before, Nearer}
-use Rattle.network.proofs.Tests.{and-parts, and-intro}
+use Rattle.network.proofs.Tests.{alike, and-parts, and-intro}
 use Rattle.network.proofs.Totals.{sum-le, sum-mono, total-at, total-same, weighed-none}
 
 -- a number that is marked is a node
@@ -93,12 +93,6 @@ pub before-is : (g : Network) (P : List ℕ) (i e k : ℕ) → before g P i e k 
 unfolding before
 before-is g P i e k = refl
 
--- two tests that pass together are one
-same : (a b : Bool) → (a ≡ true → b ≡ true) → (b ≡ true → a ≡ true) → a ≡ b
-same true b h k = sym (h refl)
-same false true h k = k refl
-same false false h k = refl
-
 -- where what comes before k comes before l too, no fewer come before l; of other marks, where there are no fewer at each node
 pub before-more : (g : Network) (P P′ : List ℕ) (i j e f k l : ℕ) → ((x : ℕ) → Before g P i e k x → Before g P′ j f l x × (lockers P x ≤ lockers P′ x))
     → before g P i e k ≤ before g P′ j f l
@@ -149,7 +143,7 @@ before-step {g} ok P i e p r =
   where
     other : (x : ℕ) → x < nodeCount g → x ≢ p → isBefore g P i e (suc (key (p, dist g i p))) x ≡ isBefore g P i e (key (p, dist g i p)) x
     other x l n =
-        same
+        alike
         (isBefore g P i e (suc (key (p, dist g i p))) x)
         (isBefore g P i e (key (p, dist g i p)) x)
         (λ a.
@@ -159,6 +153,15 @@ before-step {g} ok P i e p r =
         (λ a.
         let b = passes-before {g = g} {P = P} {i = i} {e = e} {p = x} (key (p, dist g i p)) l a in
         before-passes (suc (key (p, dist g i p))) (b .nearer) (omega (arith, b .first)))
+
+-- farther out no fewer others are nearer
+pub nearer-mono : (g : Network) (P : List ℕ) (p d e : ℕ) → d ≤ e → othersNearer g P p d ≤ othersNearer g P p e
+unfolding othersNearer
+nearer-mono g P p d e h =
+    sum-mono (isNearer g P p d) (isNearer g P p e) (othersAt P p) (nodeCount g)
+    (λ x l a.
+    let r = passes-nearer {g = g} {P = P} {i = p} {e = d} {p = x} l a in
+    nearer-passes (record { inside = l; point = r .point; less = omega (arith, r .less) }))
 
 -- the others of a node are its lockers and those of the nodes nearer, but for one
 module _ (g : Network) (P : List ℕ) (p e : ℕ) where

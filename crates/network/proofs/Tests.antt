@@ -17,6 +17,12 @@ pub bool-cases : (b : Bool) → (b ≡ true) ⊎ (b ≡ false)
 bool-cases true = inl refl
 bool-cases false = inr refl
 
+-- two tests that pass together are one
+pub alike : (x y : Bool) → (x ≡ true → y ≡ true) → (y ≡ true → x ≡ true) → x ≡ y
+alike true y h k = sym (h refl)
+alike false true h k = k refl
+alike false false h k = refl
+
 pub and-parts : (x y : Bool) → (x && y) ≡ true → (x ≡ true) × (y ≡ true)
 and-parts true y e = (refl, e)
 and-parts false y e = absurd (false≢true e)
