@@ -9,12 +9,13 @@ use Rattle.network.specs.Points.{isNearer, countNearer, othersNearer, ve
 use Rattle.network.specs.Nearest.{insert, insertTimes, byDistance, nearest}
 use Rattle.network.specs.Visits.{visits}
 use Rattle.network.specs.Households.{isWon, won, wonLength, sheetEntry, sheet}
+use Rattle.network.specs.Routes.{hasRoad, breaksFrom, badRoute, onRoute, listedForAny, isTouched, touched}
 use Rattle.network.specs.Rows.{row, sameRow, rowsChanged}
 use Rattle.network.specs.Cases.{Cases, roads}
 use Rattle.network.proofs.NumberZero.{number-zero}
 
 pub cases : Cases
-unfolding any count total select arcsFrom arcsOf partOf badSize fallsAt badStarts badNeighbourAt badPart badNeighboursOf badNeighbours badWeightAt badWeights isArcAt hasArc lacksReturnAt lacksReturnOf lacksReturn networkNumber plus leastOver within dist isNearer countNearer othersNearer verified isListed listed isExpanded expanded exceedsLimit insert insertTimes byDistance nearest tabulate visits row sameRow rowsChanged isWon won wonLength sheetEntry sheet
+unfolding any count total select arcsFrom arcsOf partOf badSize fallsAt badStarts badNeighbourAt badPart badNeighboursOf badNeighbours badWeightAt badWeights isArcAt hasArc lacksReturnAt lacksReturnOf lacksReturn networkNumber plus leastOver within dist isNearer countNearer othersNearer verified isListed listed isExpanded expanded exceedsLimit insert insertTimes byDistance nearest tabulate visits row sameRow rowsChanged isWon won wonLength sheetEntry sheet hasRoad breaksFrom badRoute onRoute listedForAny isTouched touched
 cases =
     record {
       accepted-N = number-zero (roads 7) .0 refl;
@@ -84,4 +85,29 @@ cases =
       won-two = refl;
       sheet-N = refl;
       sheet-tie = refl;
+      route-two = refl;
+      route-turned = refl;
+      route-far = refl;
+      route-far-k2 = refl;
+      route-one = refl;
+      route-one-on = refl;
+      route-alone = refl;
+      route-on = refl;
+      route-both-on = refl;
+      route-back = refl;
+      route-to-and-fro = refl;
+      route-all = refl;
+      route-all-k16 = refl;
+      route-lockers = refl;
+      route-lockers-k1 = refl;
+      route-lockers-k2 = refl;
+      route-lockers-k3 = refl;
+      good-route = refl;
+      good-alone = refl;
+      missing-middle = refl;
+      missing-first = refl;
+      missing-last = refl;
+      twice = refl;
+      no-node = refl;
+      no-road = refl;
     }

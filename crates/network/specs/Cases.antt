@@ -13,6 +13,7 @@ use Rattle.network.specs.Points.{listed, expanded, exceedsLimit, shortK}
 use Rattle.network.specs.Nearest.{nearest}
 use Rattle.network.specs.Visits.{visits}
 use Rattle.network.specs.Households.{won, sheet}
+use Rattle.network.specs.Routes.{badRoute, touched}
 use Rattle.network.specs.Rows.{row, rowsChanged}
 
 -- 'Six nodes, roads 0-1 of 4, 0-3 of 5, 1-2 of 3, 2-4 of 7, 3-4 of 3; node 5 alone': N is `roads 7`
@@ -148,3 +149,40 @@ pub record Cases : Type 0 where
   pub sheet-N : sheet (roads 7) someHouseholds points ≡ 0 ∷ 0 ∷ 3 ∷ 0 ∷ 1 ∷ 3 ∷ []
   -- 0 and 4 are both 7 from 2, so both win its household
   pub sheet-tie : sheet (roads 7) oneAt2 sitesAt0And4 ≡ 1 ∷ 0 ∷ 0 ∷ 0 ∷ 1 ∷ 0 ∷ []
+  -- Ask 7 on N, worked out by hand from the distances of N. Off the route, 2 and 4 are listed for k 1 where the route is at most 7 from them, as they
+  -- are 7 from each other; for k 2 always; 5 is reached from no other node. Along the road 0-3, 2 is 7 from 0 and 4 is 3 from 3: by the
+  -- distance to the first node alone, one of them would be lost either way round
+  pub route-two : touched (roads 7) points (0 ∷ 3 ∷ []) 1 ≡ 2 ∷ 4 ∷ []
+  pub route-turned : touched (roads 7) points (3 ∷ 0 ∷ []) 1 ≡ 2 ∷ 4 ∷ []
+  -- along the road 0-1, 4 is 8 from 0 and 10 from 1
+  pub route-far : touched (roads 7) points (0 ∷ 1 ∷ []) 1 ≡ 2 ∷ []
+  pub route-far-k2 : touched (roads 7) points (0 ∷ 1 ∷ []) 2 ≡ 2 ∷ 4 ∷ []
+  -- a route of one node lists what P1 does, and P4, without the point on it; nothing is reached from 5
+  pub route-one : touched (roads 7) points (0 ∷ []) 1 ≡ 2 ∷ []
+  pub route-one-on : touched (roads 7) points (2 ∷ []) 1 ≡ 4 ∷ []
+  pub route-alone : touched (roads 7) points (5 ∷ []) 1 ≡ []
+  -- 1 lists 2 (P3), which stands on the route, and 2 lists 4 (P4): the union alone would be 2, 4
+  pub route-on : touched (roads 7) points (1 ∷ 2 ∷ []) 1 ≡ 4 ∷ []
+  -- 2 lists 4 and 4 lists 2, and both stand on the route
+  pub route-both-on : touched (roads 7) points (2 ∷ 4 ∷ []) 1 ≡ []
+  -- back and forth: 1 twice, 4 is 7 from 2; without 2 on the route, 2 is 3 from 1 and 4 is 8 from 0
+  pub route-back : touched (roads 7) points (0 ∷ 1 ∷ 2 ∷ 1 ∷ []) 1 ≡ 4 ∷ []
+  pub route-to-and-fro : touched (roads 7) points (1 ∷ 0 ∷ 1 ∷ []) 1 ≡ 2 ∷ []
+  -- over all nodes that are joined nothing is left but 5
+  pub route-all : touched (roads 7) points (0 ∷ 1 ∷ 2 ∷ 4 ∷ 3 ∷ []) 1 ≡ []
+  pub route-all-k16 : touched (roads 7) points (0 ∷ 1 ∷ 2 ∷ 4 ∷ 3 ∷ []) 16 ≡ []
+  -- two lockers at 2: each has the other at 0; along 0-1 both are nearer to 4 than the route is, along 0-3 none is
+  pub route-lockers : touched (roads 7) twoAt2 (0 ∷ 3 ∷ []) 1 ≡ 4 ∷ []
+  pub route-lockers-k1 : touched (roads 7) twoAt2 (0 ∷ 1 ∷ []) 1 ≡ []
+  pub route-lockers-k2 : touched (roads 7) twoAt2 (0 ∷ 1 ∷ []) 2 ≡ 2 ∷ []
+  pub route-lockers-k3 : touched (roads 7) twoAt2 (0 ∷ 1 ∷ []) 3 ≡ 2 ∷ 4 ∷ []
+  -- 14: not back and forth over roads, nor for one node, which needs none; a road that is missing in the middle, first or last; a node twice in
+  -- sequence; no node; a node without a road
+  pub good-route : badRoute (roads 7) (0 ∷ 1 ∷ 2 ∷ 1 ∷ []) ≡ false
+  pub good-alone : badRoute (roads 7) (5 ∷ []) ≡ false
+  pub missing-middle : badRoute (roads 7) (0 ∷ 1 ∷ 3 ∷ 4 ∷ []) ≡ true
+  pub missing-first : badRoute (roads 7) (0 ∷ 2 ∷ 4 ∷ []) ≡ true
+  pub missing-last : badRoute (roads 7) (0 ∷ 1 ∷ 4 ∷ []) ≡ true
+  pub twice : badRoute (roads 7) (0 ∷ 1 ∷ 1 ∷ 2 ∷ []) ≡ true
+  pub no-node : badRoute (roads 7) [] ≡ true
+  pub no-road : badRoute (roads 7) (4 ∷ 5 ∷ []) ≡ true
