@@ -2,17 +2,19 @@
 -- Assumes nothing.
 use Prim.Native.Nat.{ℕ, _*_, _≤_, _<_}
 use mathlib.Core.Path.{_≡_, refl, sym, ap, _∙_}
-use mathlib.Core.Bool.{Bool, true, false, cond, not, _||_}
-use mathlib.Core.List.{List, [], _∷_, _++_}
-use mathlib.Core.Logic.{_≢_}
+use mathlib.Core.Bool.{Bool, true, false, cond, not, _||_, false≢true}
+use mathlib.Core.List.{List, [], _∷_, _++_, map}
+use mathlib.Core.Logic.{_≢_, ⊎-elim}
 use native.Mathlib.Decide.{ℕ-discrete}
 use native.Mathlib.Omega.{arith}
 use lib.Dec.{eqb, leb, ltb}
 use lib.ListN.{length}
 use borrow.Author.Tests.{eq-eqb, ne-eqb, eqb-true, eqb-false, leb-false, ltb-false, not-false}
 use Rattle.network.specs.Count.{any}
-use Rattle.network.proofs.Tests.{or-parts}
-use Rattle.conditions.specs.Conditions.{firstNumber, badByteAt, pointsNumber, nodeNumber, tableNumber, kNumber, tableKNumber, shortNumber}
+use Rattle.network.specs.Network.{Network}
+use Rattle.network.specs.Routes.{onRoute, badRoute}
+use Rattle.network.proofs.Tests.{or-parts, or-cases}
+use Rattle.conditions.specs.Conditions.{firstNumber, badByteAt, pointsNumber, nodeNumber, nodesNumber, tableNumber, kNumber, tableKNumber, shortNumber, routeNumber}
 
 -- the clauses of `firstNumber`: the first number is not 0; it is
 pub first-is : (x : ℕ) (xs : List ℕ) (r : ℕ) → r ≡ x → r ≢ 0 → r ≡ firstNumber (x ∷ xs)
@@ -71,6 +73,16 @@ pub node-ready : (n v : ℕ) → nodeNumber n v ≡ 0 → v < n
 unfolding nodeNumber
 node-ready n v e = leb-false n v (number-none (leb n v) 7 (omega arith) e)
 
+pub nodes-ready : (n : ℕ) (R : List ℕ) → nodesNumber n R ≡ 0 → (v : ℕ) → onRoute R v ≡ true → v < n
+unfolding nodesNumber onRoute
+nodes-ready n [] e v h = absurd (false≢true h)
+nodes-ready n (r ∷ rs) e v h =
+    let a = first-zero (nodeNumber n r) (map (nodeNumber n) rs) e in
+    ⊎-elim
+    (λ q. let x = eqb-true v r q in omega (arith, node-ready n r (a .0)))
+    (λ q. nodes-ready n rs (a .1) v q)
+    (or-cases (eqb v r) (onRoute rs v) h)
+
 pub k-ready : (k : ℕ) → kNumber k ≡ 0 → (1 ≤ k) × (k ≤ 16)
 unfolding kNumber
 k-ready k e =
@@ -101,3 +113,7 @@ table-k-ready k K e =
     let r = or-parts (eqb k 0) _ (number-none (eqb k 0 || leb K k) 9 (omega arith) e) in
     let n = eqb-false k 0 (r .0) in
     (omega arith, leb-false K k (r .1))
+
+pub route-ready : (g : Network) (R : List ℕ) → routeNumber g R ≡ 0 → badRoute g R ≡ false
+unfolding routeNumber
+route-ready g R e = number-none (badRoute g R) 14 (omega arith) e

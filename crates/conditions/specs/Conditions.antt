@@ -1,14 +1,15 @@
--- Document 01, 'Numbers of refusal', 6 to 12: the number of each condition, 0 where it is not met; and the first number of several. 1 to 5 are the
--- network's own (network, Check).
+-- Document 01, 'Numbers of refusal', 6 to 12, and document 02's 14: the number of each condition, 0 where it is not met; and the first number of several.
+-- 1 to 5 are the network's own (network, Check).
 -- Assumes nothing.
 use Prim.Native.Nat.{ℕ, _*_}
 use mathlib.Core.Bool.{Bool, cond, not, _||_}
-use mathlib.Core.List.{List, [], _∷_}
+use mathlib.Core.List.{List, [], _∷_, map}
 use lib.Dec.{eqb, ltb, leb}
 use lib.ListN.{length, getD}
 use Rattle.network.specs.Count.{any}
 use Rattle.network.specs.Network.{Network}
 use Rattle.network.specs.Points.{lockers, marked, exceedsLimit}
+use Rattle.network.specs.Routes.{badRoute}
 use Rattle.conditions.specs.declared.kind.Kind.{Kind}
 use Rattle.conditions.specs.declared.kind.Kind.the-variants.{Insert, Remove}
 
@@ -31,6 +32,10 @@ pointsNumber n P = cond (not (eqb (length P) n) || any (badByteAt P) (length P))
 -- 7: 'a node given is n or more'
 unfoldable pub nodeNumber : ℕ → ℕ → ℕ
 nodeNumber n v = cond (leb n v) 7 0
+
+-- '7 for each node of the list' (Ask 7)
+unfoldable pub nodesNumber : ℕ → List ℕ → ℕ
+nodesNumber n R = firstNumber (map (nodeNumber n) R)
 
 -- 8: 'K not 2 to 17, or a table array not n × K long', of arrays of so many ids and distances
 unfoldable pub tableNumber : ℕ → ℕ → ℕ → ℕ → ℕ
@@ -67,3 +72,7 @@ overLimit = 12
 
 unfoldable pub limitNumber : Network → List ℕ → ℕ → ℕ → ℕ → ℕ
 limitNumber g P q k limit = cond (exceedsLimit g P q k limit) overLimit 0
+
+-- '14, after 12, if the list is empty or two nodes in sequence have no road' (Ask 7)
+unfoldable pub routeNumber : Network → List ℕ → ℕ
+routeNumber g R = cond (badRoute g R) 14 0

@@ -1,10 +1,15 @@
-// The conditions 6 to 11, each with its own number, 0 where it is not met; and the answers of the calls. Document 01, 'Numbers of refusal'. S is computed
-// behind the tests of n, A and m, so that no product wraps.
+// The conditions 6 to 11 and 14, each with its own number, 0 where it is not met; and the answers of the calls. Document 01, 'Numbers of refusal', and
+// document 02, Ask 7. S is computed behind the tests of n, A and m, so that no product wraps.
 ghost use mathlib.Core.Path.{_≡_};
-ghost use Prim.Native.Nat.{_+_, _*_, _≤_};
+ghost use mathlib.Core.List.{List};
+ghost use Prim.Native.Nat.{ℕ, _+_, _*_, _≤_};
 ghost use lib.ListN.{length};
 ghost use Rattle.network.specs.Count.{any};
-ghost use Rattle.conditions.specs.Conditions.{badByteAt, pointsNumber, nodeNumber, tableNumber, kNumber, tableKNumber, shortNumber, fullNumber, unmarkedNumber};
+ghost use Rattle.network.specs.Network.{network};
+ghost use Rattle.network.specs.Routes.{hasRoad, badRoute};
+ghost use Rattle.conditions.specs.Roads.{RisingPart, RisingParts};
+ghost use Rattle.conditions.specs.Conditions.{badByteAt, pointsNumber, nodeNumber, nodesNumber, tableNumber, kNumber, tableKNumber, shortNumber, fullNumber, unmarkedNumber, routeNumber};
+use network::arcs;
 use network::arcs::wide;
 use network::points::lockers_at;
 
@@ -45,6 +50,21 @@ pub fn node_number(n: usize, node: u32) -> u32
 {
     if n <= wide(node) {
         return 7;
+    }
+    0
+}
+
+// 7 for each node of a list (Ask 7).
+pub fn nodes_number(n: usize, route: &[u32]) -> u32
+    ensures { λ r. ⌜ r ≡ nodesNumber n (now (route .entry)) ⌝ }
+{
+    let mut i = 0;
+    while i < route.len() {
+        let number = node_number(n, route[i]);
+        if number != 0 {
+            return number;
+        }
+        i += 1;
     }
     0
 }
@@ -148,4 +168,48 @@ pub fn unmarked_number(points: &[u8], p: u32) -> u32
         return 0;
     }
     11
+}
+
+// Whether two nodes have a road, whatever the weights are. Costs the logarithm of a's number of roads.
+fn has_road(starts: &[u32], neighbours: &[u32], a: usize, b: u32) -> bool
+    requires { ⌜ RisingPart (now starts) (now neighbours) a ⌝ }
+    ensures { λ r. ⌜ ((weights : List ℕ) → r ≡ hasRoad (network (now (starts .entry)) (now (neighbours .entry)) weights) a b) ⌝ }
+{
+    let ahead = arcs::neighbours_of(starts, neighbours, a);
+    let place = arcs::lower_bound(ahead, b);
+    if ahead.len() <= place {
+        return false;
+    }
+    ahead[place] == b
+}
+
+// Of 14: the list is empty, or two nodes in sequence have no road.
+fn bad_route(starts: &[u32], neighbours: &[u32], route: &[u32]) -> bool
+    requires { ⌜ RisingParts (now starts) (now neighbours) (now route) ⌝ }
+    ensures { λ r. ⌜ ((weights : List ℕ) → r ≡ badRoute (network (now (starts .entry)) (now (neighbours .entry)) weights) (now (route .entry))) ⌝ }
+{
+    if route.len() == 0 {
+        return true;
+    }
+    let mut next = 1;
+    while next < route.len() {
+        let from = wide(route[next - 1]);
+        let to = route[next];
+        if !has_road(starts, neighbours, from, to) {
+            return true;
+        }
+        next += 1;
+    }
+    false
+}
+
+// 14: the list is empty, or two nodes in sequence have no road. It costs the number of nodes times the logarithm of the largest number of roads of one.
+pub fn route_number(starts: &[u32], neighbours: &[u32], route: &[u32]) -> u32
+    requires { ⌜ RisingParts (now starts) (now neighbours) (now route) ⌝ }
+    ensures { λ r. ⌜ ((weights : List ℕ) → r ≡ routeNumber (network (now (starts .entry)) (now (neighbours .entry)) weights) (now (route .entry))) ⌝ }
+{
+    if bad_route(starts, neighbours, route) {
+        return 14;
+    }
+    0
 }

@@ -107,16 +107,16 @@ module _ {xs : List ℕ} {x low high : ℕ} (up : Ascending xs) (b : Bracket xs 
             ];
       }
 
+-- what stands elsewhere than at x's place is not x
+pub elsewhere : {xs : List ℕ} {x place : ℕ} → Ascending xs → LowerBound xs x place → (i : ℕ) → i < length xs → i ≢ place → getD xs i 0 ≢ x
+elsewhere {xs} {place} up bound i l n e =
+    elim (decLt i place) [
+      | yes s ↦ omega (arith, bound .less i s)
+      | no s ↦ omega (arith, rises xs up place i (omega arith) l, bound .rest place (omega arith) (omega arith))
+    ]
+
 -- 5: whether b has an arc to a of weight w
 module _ (g : Network) (b a w place : ℕ) (up : Ascending (neighboursOf g b)) (bound : LowerBound (neighboursOf g b) a place) where
-  -- what stands elsewhere is another node
-  elsewhere : (i : ℕ) → i < length (neighboursOf g b) → i ≢ place → getD (neighboursOf g b) i 0 ≢ a
-  elsewhere i l n e =
-      elim (decLt i place) [
-        | yes s ↦ omega (arith, bound .less i s)
-        | no s ↦ omega (arith, rises (neighboursOf g b) up place i (omega arith) l, bound .rest place (omega arith) (omega arith))
-      ]
-
   not-at : (i : ℕ) → getD (neighboursOf g b) i 0 ≢ a → isArcAt g b a w i ≡ false
   unfolding isArcAt
   not-at i n = and-left (eqb (getD (neighboursOf g b) i 0) a) _ (ne-eqb (getD (neighboursOf g b) i 0) a n)
@@ -129,7 +129,7 @@ module _ (g : Network) (b a w place : ℕ) (up : Ascending (neighboursOf g b)) (
       (λ i l.
       elim (ℕ-discrete i place) [
         | yes q ↦ not-at i (⊎-elim (λ past. absurd (omega arith)) (λ n. rw q n) h)
-        | no q ↦ not-at i (elsewhere i l q)
+        | no q ↦ not-at i (elsewhere up bound i l q)
       ])
 
   -- the arc to a has another weight; it has weight w
@@ -141,7 +141,7 @@ module _ (g : Network) (b a w place : ℕ) (up : Ascending (neighboursOf g b)) (
   unfolding hasArc
   arc-other n =
       none-any (isArcAt g b a w) (length (neighboursOf g b))
-      (λ i l. elim (ℕ-discrete i place) [ yes q ↦ weighs-other i (rw q n) | no q ↦ not-at i (elsewhere i l q) ])
+      (λ i l. elim (ℕ-discrete i place) [ yes q ↦ weighs-other i (rw q n) | no q ↦ not-at i (elsewhere up bound i l q) ])
 
   pub arc-there : place < length (neighboursOf g b) → getD (neighboursOf g b) place 0 ≡ a → getD (weightsOf g b) place 0 ≡ w → hasArc g b a w ≡ true
   unfolding hasArc isArcAt
