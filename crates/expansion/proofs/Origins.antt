@@ -4,9 +4,10 @@ use Prim.Native.Nat.{ℕ, _+_, _≤_}
 use mathlib.Core.Path.{_≡_}
 use mathlib.Core.Logic.{_≢_}
 use native.Mathlib.Decide.{ℕ-discrete}
+use native.Mathlib.Nat.{add-assoc, add-zero}
 use Rattle.network.specs.Network.{Network, Arc}
 use Rattle.network.specs.Accepted.{Accepted}
-use Rattle.network.specs.Walk.{Walk, here}
+use Rattle.network.specs.Walk.{Walk, here, step}
 use Rattle.network.specs.Distance.{NONE, dist}
 use Rattle.network.specs.Order.{Upto}
 use Rattle.network.proofs.Walks.{join, arc-walk}
@@ -36,6 +37,15 @@ pub record Lawful (g : Network) (o : Origin) : Type 0 where
   pub upto : {v l : ℕ} → o .From v l → Upto (o .far v) l
   pub attains : (v : ℕ) → o .far v ≢ NONE → o .From v (o .far v)
   pub previous : (v : ℕ) → (o .Source v → ⊥) → o .far v ≢ NONE → Last g o v
+
+-- a walk from a source goes on along another
+onward : {g : Network} {o : Origin} → Lawful g o → {u v l s : ℕ} → o .From u l → Walk g u v s → o .From v (l + s)
+onward lawful h here = rw add-zero h
+onward lawful h (step r k) = rw (← add-assoc) (onward lawful (lawful .along h r) k)
+
+-- so what a source reaches through u is no farther than u and the rest
+pub far-through : {g : Network} {o : Origin} → Accepted g → Lawful g o → (u v : ℕ) → o .far u ≢ NONE → dist g u v ≢ NONE → Upto (o .far v) (o .far u + dist g u v)
+far-through ok lawful u v m n = lawful .upto (onward lawful (lawful .attains u m) (distance ok u v .walk n))
 
 -- one node
 abbrev pub one : Network → ℕ → Origin

@@ -1,11 +1,12 @@
 -- Verify counts the other lockers that an expansion from p settles: those at a label below the present one, and those at it. When an entry of
--- label l is taken, every node nearer than l is settled, so the count below l is the rule's count of other lockers nearer than l.
+-- label l is taken, every node nearer than l is settled, so the count below l is the rule's count of other lockers nearer than l. The site is a list of
+-- nodes S, one or those of a route.
 -- Assumes nothing.
 use Prim.Native.Nat.{ℕ, suc, _+_, _-_, _≤_, _<_}
 use mathlib.Core.Path.{_≡_, refl, sym, ap, _∙_}
-use mathlib.Core.Bool.{Bool, true, false, not, _&&_}
+use mathlib.Core.Bool.{Bool, true, false, not, _&&_, _||_}
 use mathlib.Core.Logic.{_≢_, _⊎_, ⊎-elim}
-use mathlib.Core.List.{List}
+use mathlib.Core.List.{List, List·Memᴰ}
 use native.Mathlib.Decide.{ℕ-discrete, decLt, decLe}
 use native.Mathlib.Omega.{arith}
 use lib.Dec.{eqb, ltb}
@@ -13,15 +14,22 @@ use lib.ListN.{length, getD}
 use borrow.Author.Tests.{eqb-true, ltb-true, lt-ltb, le-ltb, eq-eqb, ne-eqb}
 use Rattle.network.specs.Network.{Network, nodeCount, neighboursOf}
 use Rattle.network.specs.Accepted.{Accepted}
-use Rattle.network.specs.Distance.{NONE, dist}
+use Rattle.network.specs.Distance.{NONE, dist, distFrom}
 use Rattle.network.specs.Count.{weighed, sumOver, bit}
-use Rattle.network.specs.Points.{lockers, marked, isNearer, othersAt, othersNearer, verified}
-use Rattle.network.proofs.Counts.{bit-most}
+use Rattle.network.specs.Points.{lockers, marked, isNearer, othersAt, othersNearer}
+use Rattle.network.specs.Routes.{onRoute, verifiedFrom}
+use Rattle.network.proofs.Counts.{bit-most, select-same}
 use Rattle.network.proofs.Totals.{total-same, total-split, total-at, sum-mono, sum-none}
-use Rattle.network.proofs.Tests.{and-right}
+use Rattle.network.proofs.Tests.{bool-cases, and-right}
+use Rattle.network.proofs.Distances.{dist-self, dist-zero, dist-symmetric}
+use Rattle.network.proofs.DistancesFrom.{from-any, from-nearest}
+use Rattle.network.proofs.Rank.{nearer-mono}
+use Rattle.network.proofs.Routes.{on-member, on-selected, verified-one}
+use Rattle.expansion.specs.declared.verify.Site.{Site}
+use Rattle.expansion.specs.declared.verify.Site.the-variants.{One, Stops}
 use Rattle.expansion.specs.declared.verify.Tally.{Tally}
-use Rattle.expansion.specs.Area.{LabelAt, Area, Moved, Blank, Took, Followed}
-use Rattle.expansion.specs.Visited.{CameTo}
+use Rattle.expansion.specs.Area.{LabelAt, Area, Kept, Moved, Blank, Took, Followed}
+use Rattle.expansion.specs.Visited.{isStop, stopsIn, isSite, nodesOfSite, CanRead, SiteInside, verifiedAt, CameTo}
 use Rattle.expansion.proofs.Search.{frontier}
 use Rattle.expansion.proofs.Origins.{one}
 use Rattle.expansion.proofs.AreaLaws.{settledAs, others-settle}
@@ -54,40 +62,66 @@ others-are g P p e =
     none false true w z = sym z
     none false false w z = refl
 
-pub nearer-mono : (g : Network) (P : List ℕ) (p d e : ℕ) → d ≤ e → othersNearer g P p d ≤ othersNearer g P p e
-nearer-mono g P p d e h =
-    omega (
-      arith,
-      others-are g P p d,
-      others-are g P p e,
-      sum-mono (λ x. ltb (dist g p x) d) (λ x. ltb (dist g p x) e) (othersAt P p) (nodeCount g)
-          (λ x i t. lt-ltb (dist g p x) e (omega (arith, ltb-true (dist g p x) d t))),
-    )
-
 pub nearer-none : (g : Network) (P : List ℕ) (p : ℕ) → othersNearer g P p 0 ≡ 0
 nearer-none g P p =
     others-are g P p 0
     ∙ sum-none (λ x. ltb (dist g p x) 0) (othersAt P p) (nodeCount g) (λ x i t. absurd (omega (arith, ltb-true (dist g p x) 0 t)))
 
--- the rule: q can't be reached; k other points are nearer; fewer are, and p is not on q; it is
-not-reached : (g : Network) (P : List ℕ) (p q k : ℕ) → dist g p q ≡ NONE → false ≡ verified g P p q k
-unfolding verified
-not-reached g P p q k e = rw (eq-eqb (dist g p q) NONE e) (sym (and-right (not (eqb p q)) false refl))
+-- the rule: the site can't be reached; k other points are nearer; fewer are, and p is not on it; it is
+not-reached : (g : Network) (P : List ℕ) (p : ℕ) (S : List ℕ) (k : ℕ) → distFrom g S p ≡ NONE → false ≡ verifiedFrom g P p S k
+unfolding verifiedFrom
+not-reached g P p S k e = rw (eq-eqb (distFrom g S p) NONE e) (sym (and-right (not (onRoute S p)) false refl))
 
-too-many : (g : Network) (P : List ℕ) (p q k : ℕ) → k ≤ othersNearer g P p (dist g p q) → false ≡ verified g P p q k
-unfolding verified
-too-many g P p q k h =
+too-many : (g : Network) (P : List ℕ) (p : ℕ) (S : List ℕ) (k : ℕ) → k ≤ othersNearer g P p (distFrom g S p) → false ≡ verifiedFrom g P p S k
+unfolding verifiedFrom
+too-many g P p S k h =
     sym
-    (and-right (not (eqb p q)) _
-    (and-right (not (eqb (dist g p q) NONE)) (ltb (othersNearer g P p (dist g p q)) k) (le-ltb (othersNearer g P p (dist g p q)) k h)))
+    (and-right (not (onRoute S p)) _
+    (and-right (not (eqb (distFrom g S p) NONE)) (ltb (othersNearer g P p (distFrom g S p)) k) (le-ltb (othersNearer g P p (distFrom g S p)) k h)))
 
-few-enough : (g : Network) (P : List ℕ) (p q k : ℕ) → p ≢ q → dist g p q ≢ NONE → othersNearer g P p (dist g p q) < k → true ≡ verified g P p q k
-unfolding verified
-few-enough g P p q k m n h = rw (ne-eqb p q m, ne-eqb (dist g p q) NONE n, lt-ltb (othersNearer g P p (dist g p q)) k h)
+few-enough : (g : Network) (P : List ℕ) (p : ℕ) (S : List ℕ) (k : ℕ) → onRoute S p ≡ false → distFrom g S p ≢ NONE → othersNearer g P p (distFrom g S p) < k → true ≡ verifiedFrom g P p S k
+unfolding verifiedFrom
+few-enough g P p S k m n h = rw (m, ne-eqb (distFrom g S p) NONE n, lt-ltb (othersNearer g P p (distFrom g S p)) k h)
 
-pub on-site : (g : Network) (P : List ℕ) (p q k : ℕ) → p ≡ q → false ≡ verified g P p q k
-unfolding verified
-on-site g P p q k e = rw (eq-eqb p q e)
+on-site : (g : Network) (P : List ℕ) (p : ℕ) (S : List ℕ) (k : ℕ) → onRoute S p ≡ true → false ≡ verifiedFrom g P p S k
+unfolding verifiedFrom
+on-site g P p S k e = rw e
+
+-- ---- The nodes of the site.
+
+-- what the code tests is whether a node is one of them
+pub site-member : (g : Network) (xs : List ℕ) (site : Site) (v : ℕ) → v < nodeCount g → isSite xs site v ≡ onRoute (nodesOfSite (nodeCount g) xs site) v
+unfolding onRoute stopsIn
+site-member g xs (One q) v h = sym (or-none (eqb v q))
+  where
+    or-none : (b : Bool) → (b || false) ≡ b
+    or-none true = refl
+    or-none false = refl
+site-member g xs Stops v h = sym (on-selected (isStop xs) (nodeCount g) v ∙ ap (λ b. b && isStop xs v) (lt-ltb v (nodeCount g) h))
+
+-- the words before the area stay, and so do they
+pub site-kept : {n b : ℕ} {xs ys : List ℕ} (site : Site) (v : ℕ) → SiteInside n b site → v < n → Kept xs ys b → isSite ys site v ≡ isSite xs site v
+site-kept (One q) v i h k = refl
+site-kept Stops v i h k = ap (λ (w : ℕ). eqb w 2) (k .words v (omega arith))
+
+-- what `is_site` requires
+pub can-read : (n b v : ℕ) (xs : List ℕ) (site : Site) → SiteInside n b site → v < n → b ≤ length xs → CanRead xs site v
+can-read n b v xs (One q) i h fits = tt
+can-read n b v xs Stops i h fits = omega arith
+
+pub stops-read : (xs : List ℕ) (site : Site) (v : ℕ) → site ≡ Stops → CanRead xs site v → v < length xs
+stops-read xs site v e h = rw e at h
+
+pub stops-same : (n : ℕ) (xs ys : List ℕ) → ((v : ℕ) → v < n → isStop ys v ≡ isStop xs v) → stopsIn n ys ≡ stopsIn n xs
+unfolding stopsIn
+stops-same n xs ys same = select-same (isStop ys) (isStop xs) n same
+
+-- the rule with their distance is what verify answers
+pub site-answer : {g : Network} → Accepted g → (P : List ℕ) (p : ℕ) (site : Site) (k : ℕ) {b : ℕ} {xs ys : List ℕ} → SiteInside (nodeCount g) b site → Kept xs ys b
+    → verifiedFrom g P p (nodesOfSite (nodeCount g) ys site) k ≡ verifiedAt g P xs p site k
+site-answer ok P p (One q) k i h = verified-one ok P p q k
+site-answer {g} ok P p Stops k {xs = xs} {ys = ys} i h =
+    ap (λ (S : List ℕ). verifiedFrom g P p S k) (stops-same (nodeCount g) xs ys (λ v l. site-kept Stops v i l h))
 
 -- ---- The count under way.
 
@@ -95,13 +129,13 @@ on-site g P p q k e = rw (eq-eqb p q e)
 abbrev pub atLevel : ℕ → List ℕ → ℕ → ℕ → ℕ → Bool
 atLevel n xs b l x = eqb (getD xs (b + x) 0) (suc (n + l))
 
--- The expansion has come to label l. Every node nearer than l is settled, at no more than l; q is not settled.
-pub record Counted (g : Network) (P : List ℕ) (p q : ℕ) (xs : List ℕ) (b l below level : ℕ) : Type 0 where
+-- The expansion has come to label l. Every node nearer than l is settled, at no more than l; no node of the site is.
+pub record Counted (g : Network) (P : List ℕ) (p : ℕ) (S xs : List ℕ) (b l below level : ℕ) : Type 0 where
   pub before : (x : ℕ) → x < nodeCount g → dist g p x < l → nodeCount g < getD xs (b + x) 0
   pub low : (x m : ℕ) → LabelAt (nodeCount g) xs b x m → m ≤ l
   pub nearer : below ≡ othersNearer g P p l
   pub here : level ≡ sumOver (atLevel (nodeCount g) xs b l) (othersAt P p) (nodeCount g)
-  pub new : getD xs (b + q) 0 ≤ nodeCount g
+  pub new : (x : ℕ) → x < nodeCount g → List·Memᴰ x S → getD xs (b + x) 0 ≤ nodeCount g
 
 -- the words of nodes that are not settled move, and no level changes
 level-moved : {n : ℕ} {xs ys : List ℕ} {b : ℕ} (l : ℕ) → Moved n xs ys b → (x : ℕ) → x < n → eqb (getD ys (b + x) 0) (suc (n + l)) ≡ eqb (getD xs (b + x) 0) (suc (n + l))
@@ -122,9 +156,9 @@ came-sum {t} {r} {l} c =
     ]
 
 -- nothing is settled yet
-pub counted-start : (g : Network) (P : List ℕ) (p q : ℕ) {xs ys : List ℕ} {b : ℕ} → q < nodeCount g → Blank xs b → Moved (nodeCount g) xs ys b
-    → Counted g P p q ys b 0 0 0
-counted-start g P p q {xs} {ys} {b} inside blank t =
+pub counted-start : (g : Network) (P : List ℕ) (p : ℕ) (S : List ℕ) {xs ys : List ℕ} {b : ℕ} → Blank xs b → Moved (nodeCount g) xs ys b
+    → Counted g P p S ys b 0 0 0
+counted-start g P p S {xs} {ys} {b} blank t =
     record {
       before = λ x h e. absurd (omega arith);
       low = λ x m h. absurd (omega (arith, h .is, blank-word x (h .inside)));
@@ -133,16 +167,16 @@ counted-start g P p q {xs} {ys} {b} inside blank t =
           sym
           (sum-none (atLevel (nodeCount g) ys b 0) (othersAt P p) (nodeCount g)
           (λ x h e. absurd (omega (arith, eqb-true (getD ys (b + x) 0) (suc (nodeCount g + 0)) e, blank-word x h))));
-      new = blank-word q inside;
+      new = λ x h m. blank-word x h;
     }
   where
     blank-word : (x : ℕ) → x < nodeCount g → getD ys (b + x) 0 ≤ nodeCount g
     blank-word x h = t .others x h (omega (arith, blank .zero (b + x) (omega arith)))
 
 -- the queue alone changes
-counted-same : {g : Network} {P : List ℕ} {p q : ℕ} {xs ys : List ℕ} {b l below level : ℕ} → q < nodeCount g → Moved (nodeCount g) xs ys b
-    → Counted g P p q xs b l below level → Counted g P p q ys b l below level
-counted-same {g} {P} {p} {q} {xs} {ys} {b} {l} inside same c =
+counted-same : {g : Network} {P : List ℕ} {p : ℕ} {S xs ys : List ℕ} {b l below level : ℕ} → Moved (nodeCount g) xs ys b
+    → Counted g P p S xs b l below level → Counted g P p S ys b l below level
+counted-same {g} {P} {p} {S} {xs} {ys} {b} {l} same c =
     record {
       before = λ x h e. let k = c .before x h e in omega (arith, same .settled x h k);
       low = λ x m h. c .low x m (label-back same x m h);
@@ -152,7 +186,7 @@ counted-same {g} {P} {p} {q} {xs} {ys} {b} {l} inside same c =
           ∙ sym
           (total-same (λ x. weighed (atLevel (nodeCount g) xs b l x) (othersAt P p x)) (λ x. weighed (atLevel (nodeCount g) ys b l x) (othersAt P p x)) (nodeCount g)
           (λ x h. ap (λ (w : Bool). weighed w (othersAt P p x)) (level-moved l same x h)));
-      new = same .others q inside (c .new);
+      new = λ x h m. same .others x h (c .new x h m);
     }
 
 -- An entry of label l is taken, of node v.
@@ -175,7 +209,7 @@ module _ {g : Network} (ok : Accepted g) {p : ℕ} {xs ys : List ℕ} {b settled
   pub labels-exact : (x m : ℕ) → LabelAt (nodeCount g) ys b x m → m ≡ dist g p x
   labels-exact x m h = e .searched .exact x m (label-back (took-moved ok (e .area) (e .searched) t) x m h) tt
 
-  module _ {P : List ℕ} {q at below level : ℕ} (inside : q < nodeCount g) (c : Counted g P p q xs b at below level) where
+  module _ {P S : List ℕ} {at below level : ℕ} (c : Counted g P p S xs b at below level) where
     pub taken-high : at ≤ l
     taken-high =
         elim (decLt l at) [
@@ -183,8 +217,8 @@ module _ {g : Network} (ok : Accepted g) {p : ℕ} {xs ys : List ℕ} {b settled
           | no n ↦ omega arith
         ]
 
-    same-queue : Counted g P p q ys b at below level
-    same-queue = counted-same inside (took-moved ok (e .area) (e .searched) t) c
+    same-queue : Counted g P p S ys b at below level
+    same-queue = counted-same (took-moved ok (e .area) (e .searched) t) c
 
     -- above the present label, a node is nearer than l where it is nearer than the present label, or settled at it
     split : at < l → (x w : ℕ) → x < nodeCount g → weighed (ltb (dist g p x) l) w ≡ weighed (ltb (dist g p x) at) w + weighed (eqb (getD ys (b + x) 0) (suc (nodeCount g + at))) w
@@ -224,7 +258,7 @@ module _ {g : Network} (ok : Accepted g) {p : ℕ} {xs ys : List ℕ} {b settled
               (λ x. weighed (atLevel (nodeCount g) ys b at x) (othersAt P p x)) (nodeCount g) (λ x i. split h x (othersAt P p x) i),
         )
 
-    risen : at < l → Counted g P p q ys b l (below + level) 0
+    risen : at < l → Counted g P p S ys b l (below + level) 0
     risen h =
         record {
           before = λ x i k. omega (arith, nearer-settled x k .is);
@@ -238,25 +272,25 @@ module _ {g : Network} (ok : Accepted g) {p : ℕ} {xs ys : List ℕ} {b settled
         }
 
   -- the tally when the expansion has come to l
-  module _ {P : List ℕ} {q : ℕ} (inside : q < nodeCount g) {y z : Tally} (c : Counted g P p q xs b (y .label) (y .below) (y .level)) (r : CameTo y l z) where
+  module _ {P S : List ℕ} {y z : Tally} (c : Counted g P p S xs b (y .label) (y .below) (y .level)) (r : CameTo y l z) where
     pub came-label : z .label ≡ l
     came-label =
         elim (decLt (y .label) l) [
           | yes h ↦ r .label h
-          | no n ↦ let q : l ≡ y .label = omega (arith, taken-high inside c) in rw (r .same (omega arith)) (sym q)
+          | no n ↦ let q : l ≡ y .label = omega (arith, taken-high c) in rw (r .same (omega arith)) (sym q)
         ]
 
-    pub came : Counted g P p q ys b l (z .below) (z .level)
+    pub came : Counted g P p S ys b l (z .below) (z .level)
     came =
         elim (decLt (y .label) l) [
-          | yes h ↦ rw (r .below h, r .level h) (risen inside c h)
+          | yes h ↦ rw (r .below h, r .level h) (risen c h)
           | no n ↦
-              let q : y .label ≡ l = omega (arith, taken-high inside c) in
-              rw (r .same (omega arith)) (rw q at (same-queue inside c))
+              let q : y .label ≡ l = omega (arith, taken-high c) in
+              rw (r .same (omega arith)) (rw q at (same-queue c))
         ]
 
   -- the entry's node is settled at l, and its arcs are followed
-  module _ {P : List ℕ} {q below level : ℕ} (inside : q < nodeCount g) (other : v ≢ q) (c : Counted g P p q ys b l below level) {ws : List ℕ} {more : ℕ}
+  module _ {P S : List ℕ} {below level : ℕ} (other : List·Memᴰ v S → ⊥) (c : Counted g P p S ys b l below level) {ws : List ℕ} {more : ℕ}
       (f : Followed g (settledAs (nodeCount g) ys b settled v l) ws b left more v l (length (neighboursOf g v))) where
     area : Area (nodeCount g) ys b settled left
     area = took-area ok (e .area) (e .searched) t
@@ -281,7 +315,7 @@ module _ {g : Network} (ok : Accepted g) {p : ℕ} {xs ys : List ℕ} {b settled
         let is : weighed (atLevel (nodeCount g) ws b l v) (othersAt P p v) ≡ othersAt P p v = rw (eq-eqb (getD ws (b + v) 0) (suc (nodeCount g + l)) word-v) in
         omega (arith, z, was, is, c .here)
 
-    pub counted-settled : Counted g P p q ws b l below (level + othersAt P p v)
+    pub counted-settled : Counted g P p S ws b l below (level + othersAt P p v)
     counted-settled =
         record {
           before =
@@ -298,43 +332,72 @@ module _ {g : Network} (ok : Accepted g) {p : ℕ} {xs ys : List ℕ} {b settled
               ];
           nearer = c .nearer;
           here = sym level-settled;
-          new = f .frame .others q inside (omega (arith, others q inside (λ y. other (sym y)), c .new));
+          new = λ x h m. f .frame .others x h (omega (arith, others x h (λ y. other (rw y at m)), c .new x h m));
         }
 
     -- the same, as the tally counts it
-    pub counted-next : {at r : ℕ} → at ≡ l → r ≡ othersAt P p v → Counted g P p q ws b at below (level + r)
+    pub counted-next : {at r : ℕ} → at ≡ l → r ≡ othersAt P p v → Counted g P p S ws b at below (level + r)
     counted-next y z = rw (y, z) counted-settled
 
-  -- k other points are nearer than l, and so nearer than q; q is taken, and fewer are
-  answer-many : {P : List ℕ} {q below level : ℕ} (k : ℕ) → Counted g P p q ys b l below level → k ≤ below → false ≡ verified g P p q k
-  answer-many {P} {q} {below} k c h = too-many g P p q k (omega (arith, c .nearer, nearer-mono g P p l (dist g p q) far))
-    where
-      far : l ≤ dist g p q
-      far =
-          elim (decLt (dist g p q) l) [
-            | yes y ↦ absurd (omega (arith, nearer-settled q y .is, c .new))
-            | no n ↦ omega arith
-          ]
+  -- ---- The answer.
+  module _ {P S : List ℕ} {below level : ℕ} (k : ℕ) (c : Counted g P p S ys b l below level) where
+    -- no node of the site is nearer than l
+    site-far : l ≤ distFrom g S p
+    site-far =
+        elim (decLt (distFrom g S p) l) [
+          | yes h ↦
+              let r = from-nearest g S p (λ z. omega (arith, taken-small)) in
+              let d = nearer-settled (r .source) (omega (arith, r .is, dist-symmetric ok p (r .source))) in
+              absurd (omega (arith, d .is, c .new (r .source) (d .inside) (r .member)))
+          | no n ↦ omega arith
+        ]
 
-  answer-few : {P : List ℕ} {q below level : ℕ} (k : ℕ) → p ≢ q → Counted g P p q ys b l below level → v ≡ q → below < k → true ≡ verified g P p q k
-  answer-few {P} {q} k n c y h =
-      let d : l ≡ dist g p q = taken-exact ∙ ap (dist g p) y in
-      few-enough g P p q k n (λ z. omega (arith, taken-small)) (omega (arith, c .nearer, ap (othersNearer g P p) d))
+    -- so where one is taken, l is its distance
+    site-taken : List·Memᴰ v S → l ≡ distFrom g S p
+    site-taken m = omega (arith, site-far, from-any g S v p m, dist-symmetric ok p v, taken-exact)
 
-  pub answer-taken : {P : List ℕ} {q below level : ℕ} (k : ℕ) → p ≢ q → Counted g P p q ys b l below level → (k ≤ below) ⊎ (v ≡ q)
-      → ltb below k ≡ verified g P p q k
-  answer-taken {below = below} k n c known =
-      elim (decLt below k) [
-        | yes h ↦ lt-ltb below k h ∙ ⊎-elim (λ y. absurd (omega arith)) (λ y. answer-few k n c y h) known
-        | no m ↦ le-ltb below k (omega arith) ∙ answer-many k c (omega arith)
-      ]
+    -- behind label 0 p is settled, and so not on the site
+    off-site : 0 < l → onRoute S p ≡ false
+    off-site h =
+        let d = nearer-settled p (omega (arith, dist-self ok p)) in
+        ⊎-elim
+        (λ e. absurd (omega (arith, d .is, c .new p (d .inside) (on-member S p .0 e))))
+        (λ e. e)
+        (bool-cases (onRoute S p))
 
--- no entry is left: q can't be reached
-pub answer-none : {g : Network} (ok : Accepted g) {P : List ℕ} {p q : ℕ} {xs : List ℕ} {b settled len l below level : ℕ} (k : ℕ)
-    → Progress g (one g p) All All xs b settled len → len ≡ 0 → Counted g P p q xs b l below level → false ≡ verified g P p q k
-answer-none {g} ok {P} {p} {q} k e t c =
-    not-reached g P p q k
-    (elim (ℕ-discrete (dist g p q) NONE) [
+    -- k other points are nearer than l, and so nearer than the site; or it is taken, and fewer are
+    answer-many : k ≤ below → false ≡ verifiedFrom g P p S k
+    answer-many h = too-many g P p S k (omega (arith, c .nearer, nearer-mono g P p l (distFrom g S p) site-far))
+
+    answer-few : 0 < l → List·Memᴰ v S → below < k → true ≡ verifiedFrom g P p S k
+    answer-few low m h =
+        let d = site-taken m in
+        few-enough g P p S k (off-site low) (λ z. omega (arith, taken-small)) (omega (arith, c .nearer, ap (othersNearer g P p) d))
+
+    pub answer-taken : 0 < l → (k ≤ below) ⊎ List·Memᴰ v S → ltb below k ≡ verifiedFrom g P p S k
+    answer-taken low known =
+        elim (decLt below k) [
+          | yes h ↦ lt-ltb below k h ∙ ⊎-elim (λ y. absurd (omega arith)) (λ y. answer-few low y h) known
+          | no m ↦ le-ltb below k (omega arith) ∙ answer-many (omega arith)
+        ]
+
+    -- the first node, p itself, ends it
+    pub answer-first : l ≡ 0 → (k ≤ below) ⊎ List·Memᴰ v S → false ≡ verifiedFrom g P p S k
+    answer-first z known =
+        ⊎-elim
+        answer-many
+        (λ m. on-site g P p S k (on-member S p .1 (rw (dist-zero ok p v (omega (arith, taken-exact))) m)))
+        known
+
+-- no entry is left: the site can't be reached
+pub answer-none : {g : Network} (ok : Accepted g) {P : List ℕ} {p : ℕ} {S xs : List ℕ} {b settled len l below level : ℕ} (k : ℕ)
+    → Progress g (one g p) All All xs b settled len → len ≡ 0 → Counted g P p S xs b l below level → false ≡ verifiedFrom g P p S k
+answer-none {g} ok {P} {p} {S} k e t c =
+    not-reached g P p S k
+    (elim (ℕ-discrete (distFrom g S p) NONE) [
       | yes z ↦ z
-      | no n ↦ absurd (omega (arith, search-finished ok (e .area) (e .searched) t (all-leads ok p) q tt n .is, c .new))
+      | no n ↦
+          let r = from-nearest g S p n in
+          let d = search-finished ok (e .area) (e .searched) t (all-leads ok p) (r .source) tt (omega (arith, r .is, dist-symmetric ok p (r .source))) in
+          absurd (omega (arith, d .is, c .new (r .source) (d .inside) (r .member)))
     ])

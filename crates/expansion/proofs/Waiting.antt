@@ -1,22 +1,22 @@
--- An expansion of everything from the nodes that wait at label 0 where none is settled: it is under way. Where it ends, each node's seat is that of the
+-- An expansion from the nodes that wait at label 0 where none is settled: it is under way. Where it goes through everything and ends, each node's seat is that of the
 -- distance of the nearest of them.
 -- Assumes nothing.
 use Prim.Native.Nat.{ℕ, zero, suc, _+_, _≤_, _<_}
 use mathlib.Core.Path.{_≡_, refl, sym, ap, _∙_}
-use mathlib.Core.Bool.{not}
+use mathlib.Core.Bool.{not, _||_}
 use mathlib.Core.Logic.{_≢_, inl, inr}
 use mathlib.Core.List.{List, List·Memᴰ}
 use native.Mathlib.Decide.{ℕ-discrete, decLe}
 use native.Mathlib.Omega.{arith}
 use lib.Dec.{eqb}
 use lib.ListN.{getD}
-use borrow.Author.Tests.{ne-eqb, eqb-false, not-true}
+use borrow.Author.Tests.{eq-eqb, ne-eqb, eqb-false, not-true}
 use Rattle.network.specs.Network.{Network, nodeCount}
 use Rattle.network.specs.Accepted.{Accepted}
 use Rattle.network.specs.Distance.{NONE, dist, distFrom}
 use Rattle.network.proofs.Counts.{selected, select-passed}
 use Rattle.network.proofs.DistancesFrom.{from-one}
-use Rattle.expansion.specs.Queue.{keyOf, keyAt}
+use Rattle.expansion.specs.Queue.{keyOf, keyAt, Holds}
 use Rattle.expansion.specs.Tags.{tagOf, nodeOf}
 use Rattle.expansion.specs.NodeQueue.{PushedNode}
 use Rattle.expansion.specs.Area.{queueBase, queueOf, HeldAt, Area, Kept}
@@ -24,7 +24,7 @@ use Rattle.expansion.specs.Expand.{labelWord, isWaiting, nodesWaiting, C
 use Rattle.expansion.proofs.Origins.{Origin}
 use Rattle.expansion.proofs.Several.{several, several-lawful}
 use Rattle.expansion.proofs.Steps.{initial}
-use Rattle.expansion.proofs.AreaLaws.{area-start, kept-trans}
+use Rattle.expansion.proofs.AreaLaws.{area-start, key-own, kept-trans}
 use Rattle.expansion.proofs.AreaSearch.{small, held-same, key-node-of, word-label, search-finished}
 use Rattle.expansion.proofs.Progress.{All, all-lead, Progress}
 use Rattle.expansion.proofs.Settled.{label-none, label-some}
@@ -41,15 +41,43 @@ module _ (n : ℕ) (xs : List ℕ) (b : ℕ) where
       let r = select-passed (isWaiting xs b) n v m in
       (r .0, eqb-false (getD xs (b + v) 0) 0 (not-true (eqb (getD xs (b + v) 0) 0) (r .1)))
 
-module _ {g : Network} (ok : Accepted g) {xs : List ℕ} {b len : ℕ} (a : Area (nodeCount g) xs b 0 len) where
-  -- no node is settled
-  unlabelled : (v : ℕ) → v < nodeCount g → getD xs (b + v) 0 ≤ nodeCount g
-  unlabelled v h =
-      elim (decLe (getD xs (b + v) 0) (nodeCount g)) [
-        | yes l ↦ l
-        | no l ↦ absurd (omega (arith, a .labelled v h (omega arith) .low))
+-- no node is settled
+unlabelled : {n : ℕ} {xs : List ℕ} {b len : ℕ} → Area n xs b 0 len → (v : ℕ) → v < n → getD xs (b + v) 0 ≤ n
+unlabelled {n} {xs} {b} a v h =
+    elim (decLe (getD xs (b + v) 0) n) [
+      | yes l ↦ l
+      | no l ↦ absurd (omega (arith, a .labelled v h (omega arith) .low))
+    ]
+
+-- a source more is put in: it waits, and so do those that waited
+module _ {n : ℕ} {xs ys : List ℕ} {b len source : ℕ} (a : Area n xs b 0 len) (h : source < n)
+    (p : PushedNode n xs ys b (queueBase n b) len (keyOf 0 (tagOf source source))) where
+  node : nodeOf (keyOf 0 (tagOf source source)) ≡ source
+  node = let low : source < 65536 = omega (arith, a .queue .few) in key-own 0 source source low low
+
+  -- who has an entry waits
+  held-waits : (k : ℕ) → Holds (queueOf n ys b) (len + 1) k → (v : ℕ) → nodeOf k ≡ v → getD ys (b + v) 0 ≢ 0
+  held-waits k x v e z = omega (arith, p .queue .seat (x .index) (x .inside), ap (λ (i : ℕ). getD ys (b + i) 0) (ap nodeOf (x .is) ∙ e))
+
+  others : (v : ℕ) → v < n → v ≢ source → (w : ℕ) → getD xs (b + v) 0 ≡ w → isWaiting ys b v ≡ isWaiting xs b v
+  others v l d zero e = ap (λ (w : ℕ). not (eqb w 0)) (p .frame .free v l (λ i. d (i ∙ node)) (inl e))
+  others v l d (suc i) e =
+      let q = a .queue .waits v i l e (omega (arith, unlabelled a v l)) in
+      let k = keyAt (queueOf n xs b) i in
+      let x = p .holds k .1 (inl (record { index = i; inside = q .0; is = refl })) in
+      ap not (ne-eqb (getD ys (b + v) 0) 0 (held-waits k x v (q .1)))
+      ∙ sym (ap not (ne-eqb (getD xs (b + v) 0) 0 (omega arith)))
+
+  pub pushed-waits : (v : ℕ) → v < n → isWaiting ys b v ≡ (eqb v source || isWaiting xs b v)
+  pushed-waits v l =
+      elim (ℕ-discrete v source) [
+        | yes e ↦
+            rw (e, eq-eqb source source refl)
+            (ap not (ne-eqb (getD ys (b + source) 0) 0 (held-waits (keyOf 0 (tagOf source source)) (p .holds (keyOf 0 (tagOf source source)) .1 (inr refl)) source node)))
+        | no d ↦ rw (ne-eqb v source d) (others v l d (getD xs (b + v) 0) refl)
       ]
 
+module _ {g : Network} (ok : Accepted g) {xs : List ℕ} {b len : ℕ} (a : Area (nodeCount g) xs b 0 len) where
   -- who waits has an entry, at label 0
   held : (v : ℕ) → List·Memᴰ v (nodesWaiting (nodeCount g) xs b) → HeldAt (nodeCount g) xs b len v 0
   held v m = let r = waiting-seat (nodeCount g) xs b v m in by (r .0) (getD xs (b + v) 0) refl (r .1)
@@ -57,7 +85,7 @@ module _ {g : Network} (ok : Accepted g) {xs : List ℕ} {b len : ℕ} (a : Area
       by : v < nodeCount g → (w : ℕ) → getD xs (b + v) 0 ≡ w → getD xs (b + v) 0 ≢ 0 → HeldAt (nodeCount g) xs b len v 0
       by h zero e n = absurd (n e)
       by h (suc i) e n =
-          let q = a .queue .waits v i h e (omega (arith, unlabelled v h)) in
+          let q = a .queue .waits v i h e (omega (arith, unlabelled a v h)) in
           let k = keyAt (queueOf (nodeCount g) xs b) i in
           let y = a .entries k (record { index = i; inside = q .0; is = refl }) in
           let is : y .node ≡ v = sym (ap nodeOf (y .is) ∙ key-node-of ok (y .label) (y .node) (y .parent) (y .inside) (y .from)) ∙ q .1 in
@@ -79,7 +107,7 @@ module _ {g : Network} (ok : Accepted g) {xs : List ℕ} {b len : ℕ} (a : Area
         omega (arith, q .0, y .low),
       )
 
-  pub progress-waiting : Progress g (several g (nodesWaiting (nodeCount g) xs b)) All All xs b 0 len
+  pub progress-waiting : {Open Seen : ℕ → Type 0} → Progress g (several g (nodesWaiting (nodeCount g) xs b)) Open Seen xs b 0 len
   progress-waiting =
       record {
         area = a;

@@ -1,13 +1,23 @@
-// Verify: document 01, 'What a site receives': whether fewer than k other lockers are strictly nearer to p than q, and q can be reached. 'Verify of the
-// point on q says no' (Ask 6).
+// Verify: document 01, 'What a site receives': whether fewer than k other lockers are strictly nearer to p than the site, and it can be reached. 'Verify of
+// the point on q says no' (Ask 6). The site is a node, or a route: then its distance is that of the nearest of its nodes (Ask 7).
 ghost use mathlib.Core.Path.{_≡_};
 ghost use Prim.Native.Nat.{_+_, _≤_, _<_};
 ghost use Rattle.network.specs.Network.{network};
 ghost use Rattle.network.specs.Points.{othersAt};
-ghost use Rattle.expansion.specs.Visited.{CanVisit, CameTo, Visited, VerifyLeft};
+ghost use Rattle.expansion.specs.Visited.{CanRead, isSite, CanVisit, CameTo, Visited, VerifyLeft};
 use crate::step;
 use crate::step::Taken;
+use network::arcs::wide;
 use network::points::lockers_at;
+
+// What stands in the word of a node of the route, among the first n words.
+pub const STOP: u32 = 2;
+
+// The site: a node, or the nodes of a route.
+pub enum Site {
+    One { q: u32 },
+    Stops,
+}
 
 // Whether the rule holds, and what stands in the area: how many nodes are settled, and how many entries wait.
 pub struct VisitEnd {
@@ -52,8 +62,19 @@ fn counts(points: &[u8], p: u32, node: u32) -> usize
     all - 1
 }
 
-// Expands from p until it is known whether fewer than k other lockers are strictly nearer to p than q, and leaves what it settled. From q itself the
-// first node ends it.
+// Whether a node is the site, or one of its nodes.
+fn is_site(s: &[u32], site: Site, node: u32) -> bool
+    requires { ⌜ CanRead (now s) site node ⌝ }
+    ensures { λ r. ⌜ r ≡ isSite (now (s .entry)) site node ⌝ }
+{
+    match site {
+        Site::One { q } => node == q,
+        Site::Stops => s[wide(node)] == STOP,
+    }
+}
+
+// Expands from p until it is known whether fewer than k other lockers are strictly nearer to p than the site, and leaves what it settled. From the site
+// itself the first node ends it, at label 0.
 pub fn visit(
     starts: &[u32],
     neighbours: &[u32],
@@ -62,11 +83,11 @@ pub fn visit(
     s: &mut [u32],
     b: usize,
     p: u32,
-    q: u32,
+    site: Site,
     k: usize,
 ) -> VisitEnd
-    requires { ⌜ CanVisit (network (now starts) (now neighbours) (now weights)) (now points) (now s) b p q ⌝ }
-    ensures { λ r. ⌜ Visited (network (now (starts .entry)) (now (neighbours .entry)) (now (weights .entry))) (now (points .entry)) p q k (now (s .entry)) (now (s .exit)) b r ⌝ }
+    requires { ⌜ CanVisit (network (now starts) (now neighbours) (now weights)) (now points) (now s) b p site ⌝ }
+    ensures { λ r. ⌜ Visited (network (now (starts .entry)) (now (neighbours .entry)) (now (weights .entry))) (now (points .entry)) p site k (now (s .entry)) (now (s .exit)) b r ⌝ }
 {
     let n = starts.len() - 1;
     step::start(s, b, n, p);
@@ -93,9 +114,10 @@ pub fn visit(
             };
         };
         tally = come_to(tally, label);
-        if k <= tally.below || node == q {
+        let here = is_site(s, site, node);
+        if k <= tally.below || here {
             return VisitEnd {
-                yes: p != q && tally.below < k,
+                yes: 0 < label && tally.below < k,
                 settled,
                 len: left,
             };
@@ -116,14 +138,14 @@ pub fn verify(
     s: &mut [u32],
     b: usize,
     p: u32,
-    q: u32,
+    site: Site,
     k: usize,
 ) -> bool
-    requires { ⌜ CanVisit (network (now starts) (now neighbours) (now weights)) (now points) (now s) b p q ⌝ }
-    ensures { λ r. ⌜ VerifyLeft (network (now (starts .entry)) (now (neighbours .entry)) (now (weights .entry))) (now (points .entry)) p q k (now (s .entry)) (now (s .exit)) b r ⌝ }
+    requires { ⌜ CanVisit (network (now starts) (now neighbours) (now weights)) (now points) (now s) b p site ⌝ }
+    ensures { λ r. ⌜ VerifyLeft (network (now (starts .entry)) (now (neighbours .entry)) (now (weights .entry))) (now (points .entry)) p site k (now (s .entry)) (now (s .exit)) b r ⌝ }
 {
     let n = starts.len() - 1;
-    let v = visit(starts, neighbours, weights, points, s, b, p, q, k);
+    let v = visit(starts, neighbours, weights, points, s, b, p, site, k);
     let settled = v.settled;
     let len = v.len;
     step::clear(s, b, n, settled, len);

@@ -86,7 +86,7 @@ module _ {g : Network} {T : List ℕ} {v : ℕ} {xs : List ℕ} (c : CanCountSit
 
 -- ---- The search under way.
 pub record Winning (g : Network) (H T : List ℕ) (q k : ℕ) (xs : List ℕ) (settled len : ℕ) : Type 0 where
-  pub progress : Progress g (one g q) (Unbeaten g T q k) (Unbeaten g T q k) xs (outerBase g) settled len
+  pub progress : Progress g (one g q) (Unbeaten g T (one g q) k) (Unbeaten g T (one g q) k) xs (outerBase g) settled len
   pub blank : (j : ℕ) → j < flagsBase g → getD xs j 0 ≡ 0
   pub sound : (h : ℕ) → h < nodeCount g → getD xs (flagsBase g + h) 0 ≢ 0 → isWon g H T q k h ≡ true
   pub told : (v l : ℕ) → LabelAt (nodeCount g) xs (outerBase g) v l → isWon g H T q k v ≡ true → getD xs (flagsBase g + v) 0 ≢ 0
@@ -95,8 +95,8 @@ module _ {g : Network} {T : List ℕ} {q k : ℕ} {s₀ : List ℕ} (c : CanWin 
   ok : Accepted g
   ok = c .accepted
 
-  pub leads : Leads g (one g q) (Unbeaten g T q k) (Unbeaten g T q k)
-  leads = closed-leads (one-lawful ok q) (unbeaten-closed ok T q k)
+  pub leads : Leads g (one g q) (Unbeaten g T (one g q) k) (Unbeaten g T (one g q) k)
+  leads = closed-leads (one-lawful ok q) (unbeaten-closed ok (one-lawful ok q) T k)
 
   pub can-expand : CanExpand g s₀ (outerBase g) q
   can-expand =
@@ -152,12 +152,12 @@ module _ {g : Network} {T : List ℕ} {q k : ℕ} {s₀ : List ℕ} (c : CanWin 
 
     -- the node is settled; its flag is w, or as it was
     module _ {ws : List ℕ} {more : ℕ} (same : Moved (nodeCount g) (settledAs (nodeCount g) ys (outerBase g) settled v l) ws (outerBase g))
-        (progress : Progress g (one g q) (Unbeaten g T q k) (Unbeaten g T q k) ws (outerBase g) (settled + 1) more) where
+        (progress : Progress g (one g q) (Unbeaten g T (one g q) k) (Unbeaten g T (one g q) k) ws (outerBase g) (settled + 1) more) where
       front : (i : ℕ) → i < outerBase g → getD ws i 0 ≡ getD xs i 0
       front = front-kept ok (e .progress) t same
 
       -- the search stops behind the node
-      stopped : Beaten g T q k v → Winning g H T q k ws (settled + 1) more
+      stopped : Beaten g T (one g q) k v → Winning g H T q k ws (settled + 1) more
       stopped beaten =
           record {
             progress = progress;
@@ -168,7 +168,7 @@ module _ {g : Network} {T : List ℕ} {q k : ℕ} {s₀ : List ℕ} (c : CanWin 
                 rw (front (flagsBase g + x) (omega (arith, h .inside)))
                 (⊎-elim
                 (λ o. e .told x m o a)
-                (λ s. absurd (expanded-unbeaten g T q k v .0 (rw (s .0) at (won-parts g H T q k x a .1)) .1 beaten))
+                (λ s. absurd (expanded-unbeaten ok T q k v .0 (rw (s .0) at (won-parts g H T q k x a .1)) .1 beaten))
                 (labels-then ok (e .progress) t same x m h));
           }
 
@@ -232,9 +232,9 @@ module _ {g : Network} {T : List ℕ} {q k : ℕ} {s₀ : List ℕ} (c : CanWin 
     where
       told : (h : ℕ) → isWon g H T q k h ≡ true → getD xs (flagsBase g + h) 0 ≢ 0
       told h a =
-          let r = expanded-unbeaten g T q k h .0 (won-parts g H T q k h a .1) in
+          let r = expanded-unbeaten ok T q k h .0 (won-parts g H T q k h a .1) in
           e .told h (dist g q h)
-          (search-finished ok (e .progress .area) (e .progress .searched) z leads h (r .1) (omega (arith, r .0, dist-symmetric ok q h))) a
+          (search-finished ok (e .progress .area) (e .progress .searched) z leads h (r .1) (r .0)) a
 
 -- the list of the flags
 pub won-list : {g : Network} {H T : List ℕ} {q k : ℕ} {xs ys : List ℕ} {settled : ℕ} → Explored g H T q k xs ys settled

@@ -16,16 +16,16 @@ use Rattle.network.specs.Distance.{dist}
 use Rattle.network.specs.Points.{lockers, isListed}
 use Rattle.expansion.specs.declared.verify.VisitEnd.{VisitEnd}
 use Rattle.expansion.specs.Area.{AmongSettled, Area, Wiped}
+use Rattle.expansion.specs.declared.verify.Site.the-variants.{One}
 use Rattle.expansion.specs.Visited.{CanVisit, Visited}
 use Rattle.expansion.specs.Expand.{wordDistance, labelIn, settledIn}
 use Rattle.expansion.proofs.AreaSearch.{word-label}
 use Rattle.expansion.proofs.Settled.{label-settled}
 use Rattle.expansion.proofs.Beside.{Beside, area-beside}
 use Rattle.lazy_searches.specs.Lazy.{visitBase, isLess, CanCount, CountedAll, CanDiscover, CountedBy, Discovered}
-use Rattle.searches.proofs.Listed.{listed-parts}
+use Rattle.searches.proofs.Listed.{listed-parts, listed-verified, verified-listed}
 use Rattle.network.proofs.Tests.{and-parts}
 use Rattle.network.proofs.Lends.{first-size, first-part, first-after}
-use Rattle.searches.proofs.FlagLaws.{listed-verified, verified-listed}
 use Rattle.lazy_searches.proofs.Places.{place-labelled, places-distinct}
 
 -- the two halves of the test
@@ -53,7 +53,7 @@ module _ {g : Network} {P : List ℕ} {q k : ℕ} {xs : List ℕ} {b v : ℕ} (c
       }
 
   -- what the verification requires of the words before the search's area
-  pub can-visit : CanVisit g P (take b xs) (visitBase (nodeCount g)) v q
+  pub can-visit : CanVisit g P (take b xs) (visitBase (nodeCount g)) v (One q)
   can-visit =
       record {
         expand = record { accepted = c .accepted; inside = c .inside; blank = record { zero = zeros }; size = omega (arith, part-length, c .base) };
@@ -69,7 +69,7 @@ module _ {g : Network} {P : List ℕ} {q k : ℕ} {xs : List ℕ} {b v : ℕ} (c
           ]
 
   -- ---- The verification has ended.
-  module _ {zs : List ℕ} {r : VisitEnd} (w : Visited g P v q k (take b xs) zs (visitBase (nodeCount g)) r) where
+  module _ {zs : List ℕ} {r : VisitEnd} (w : Visited g P v (One q) k (take b xs) zs (visitBase (nodeCount g)) r) where
     inner : (i : ℕ) → i < b → getD (zs ++ drop b xs) i 0 ≡ getD zs i 0
     inner = first-part b xs zs fits (w .frame .size)
 

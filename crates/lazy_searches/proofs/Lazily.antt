@@ -29,6 +29,7 @@ use Rattle.expansion.proofs.Progress.{took-place}
 use Rattle.expansion.proofs.Settled.{zero-blank}
 use Rattle.searches.specs.Eager.{isFound}
 use Rattle.lazy_searches.specs.Lazy.{visitBase, CanDiscover, CountedBy, Discovered, CanExploreLazy}
+use Rattle.expansion.proofs.Origins.{one}
 use Rattle.searches.proofs.Beaten.{Unbeaten, Part, part-marked, beaten-part}
 use Rattle.lazy_searches.proofs.Parents.{parent-low}
 use Rattle.lazy_searches.proofs.LazySearch.{Discovering, Arrived, discovering-start, took-unverified, label-least, discovering-dropped, Joins, joined, joins-grow, shrinks, tells-joined, arrive, front, discovering-stopped, discovering-opened, discovered-listed}
@@ -55,7 +56,7 @@ nearer-more g M M′ v u d sub new h less =
 
 -- the counts, where the points M are verified
 pub record CountsFit (g : Network) (M : List ℕ) (q k : ℕ) (xs : List ℕ) : Type 0 where
-  pub most : (u : ℕ) → u < nodeCount g → Unbeaten g M q k u → getD xs u 0 ≤ countNearer g M u (dist g u q)
+  pub most : (u : ℕ) → u < nodeCount g → Unbeaten g M (one g q) k u → getD xs u 0 ≤ countNearer g M u (dist g q u)
 
 pub record Lazily (g : Network) (P : List ℕ) (q k : ℕ) (xs : List ℕ) (b settled len : ℕ) : Type 0 where
   pub verified : List ℕ
@@ -73,7 +74,7 @@ pub record Arriving (g : Network) (P : List ℕ) (q k : ℕ) (ys : List ℕ) (b 
   pub few : (u : ℕ) → u < nodeCount g → getD ys u 0 ≤ 255 * (settled + 1)
 
 -- a node with a count of k is beaten
-pub closed : {g : Network} {M : List ℕ} {q k : ℕ} {xs : List ℕ} → CountsFit g M q k xs → (u : ℕ) → u < nodeCount g → k ≤ getD xs u 0 → Unbeaten g M q k u → ⊥
+pub closed : {g : Network} {M : List ℕ} {q k : ℕ} {xs : List ℕ} → CountsFit g M q k xs → (u : ℕ) → u < nodeCount g → k ≤ getD xs u 0 → Unbeaten g M (one g q) k u → ⊥
 closed c u h full o = o (omega (arith, c .most u h o))
 
 module _ {g : Network} {P : List ℕ} {q b : ℕ} {s₀ : List ℕ} (c : CanExploreLazy g P s₀ b q) where
@@ -154,7 +155,7 @@ module _ {g : Network} {P : List ℕ} {q b : ℕ} {s₀ : List ℕ} (c : CanExpl
           ]
 
       -- a node that is counted: the point is nearer to it than the site
-      nearer : (x : ℕ) → x < nodeCount g → Unbeaten g (e .verified) q k x → CountedBy g P ys zs b l v x → dist g x v < dist g x q
+      nearer : (x : ℕ) → x < nodeCount g → Unbeaten g (e .verified) (one g q) k x → CountedBy g P ys zs b l v x → dist g x v < dist g q x
       nearer x h o r =
           elim (decLe (getD ys (b + x) 0) (nodeCount g)) [
             | yes z ↦
@@ -163,7 +164,6 @@ module _ {g : Network} {P : List ℕ} {q b : ℕ} {s₀ : List ℕ} (c : CanExpl
                   r .ahead,
                   label-least ok low (e .searched) t x h (unsettled x h z) o,
                   dist-symmetric ok x v,
-                  dist-symmetric ok x q,
                 )
             | no n ↦
                 let m = word-label {n = nodeCount g} {xs = ys} b x h (omega arith) in
@@ -172,7 +172,6 @@ module _ {g : Network} {P : List ℕ} {q b : ℕ} {s₀ : List ℕ} (c : CanExpl
                   r .behind (m .0) (m .1),
                   e .searched .progress .searched .exact x (m .0) (label-back moved x (m .0) (m .1)) o,
                   dist-symmetric ok x v,
-                  dist-symmetric ok x q,
                 )
           ]
 
@@ -196,7 +195,7 @@ module _ {g : Network} {P : List ℕ} {q b : ℕ} {s₀ : List ℕ} (c : CanExpl
           was : (x : ℕ) → x < nodeCount g → getD ys x 0 ≤ 255 * settled
           was x h = rw (front-taken x (omega (arith, low))) (e .few x h)
 
-          counts : (x : ℕ) → x < nodeCount g → Unbeaten g (j .0) q k x → getD zs x 0 ≤ countNearer g (j .0) x (dist g x q)
+          counts : (x : ℕ) → x < nodeCount g → Unbeaten g (j .0) (one g q) k x → getD zs x 0 ≤ countNearer g (j .0) x (dist g q x)
           counts x h o =
               let old = shrinks ok low (e .searched) t (j .1) x o in
               let sub = joins-grow ok low (e .searched) t (j .1) in
@@ -205,7 +204,7 @@ module _ {g : Network} {P : List ℕ} {q b : ℕ} {s₀ : List ℕ} (c : CanExpl
               omega (
                 arith,
                 counts-taken .most x h old,
-                beaten-part g (e .verified) (j .0) q (countNearer g (e .verified) x (dist g x q)) x sub (omega arith),
+                beaten-part g (e .verified) (j .0) (one g q) (countNearer g (e .verified) x (dist g q x)) x sub (omega arith),
               ))
               (λ a.
               omega (
@@ -213,7 +212,7 @@ module _ {g : Network} {P : List ℕ} {q b : ℕ} {s₀ : List ℕ} (c : CanExpl
                 a .more,
                 j .1 .own,
                 counts-taken .most x h old,
-                nearer-more g (e .verified) (j .0) v x (dist g x q) sub (took-unverified ok low (e .searched) t) (t .inside) (nearer x h old a),
+                nearer-more g (e .verified) (j .0) v x (dist g q x) sub (took-unverified ok low (e .searched) t) (t .inside) (nearer x h old a),
               ))
               (d .counts x h)
 

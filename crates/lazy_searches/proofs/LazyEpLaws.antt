@@ -20,6 +20,8 @@ use Rattle.expansion.specs.Queue.{keyOf}
 use Rattle.expansion.specs.Tags.{tagOf}
 use Rattle.expansion.specs.NodeQueue.{PushedNode}
 use Rattle.expansion.specs.Area.{queueBase, LabelAt, Kept, Moved, Took, Followed}
+use Rattle.expansion.proofs.Origins.{one}
+use Rattle.expansion.specs.declared.verify.Site.the-variants.{One}
 use Rattle.expansion.specs.Visited.{CanVisit, VerifyLeft}
 use Rattle.expansion.proofs.AreaLaws.{moved-same, settledAs, frame-settle}
 use Rattle.expansion.proofs.AreaSearch.{label-back, took-area, took-word, took-moved, took-exact}
@@ -29,8 +31,7 @@ use Rattle.searches.specs.Eager.{isFound}
 use Rattle.lazy_searches.specs.Second.{wordsBase, secondBase, secondQueue, idAt, wordAt, Second, SecondSound, CanAdmit, Admitted, CanAdvance, Advanced, isBelow, Closed}
 use Rattle.lazy_searches.specs.LazyEp.{CanSettle, ClosedBehind, TakenBack, CanDiscoverEp, PointVerified, DiscoveredEp}
 use Rattle.searches.proofs.Beaten.{Unbeaten, stops}
-use Rattle.searches.proofs.Listed.{listed-parts}
-use Rattle.searches.proofs.FlagLaws.{verified-listed, listed-verified}
+use Rattle.searches.proofs.Listed.{listed-parts, listed-verified, verified-listed}
 use Rattle.network.proofs.Lends.{row-fits, first-size, first-part, first-after}
 use Rattle.network.proofs.Totals.{total-same}
 use Rattle.lazy_searches.proofs.SecondLaws.{sound-part, second-start, sound-start, closed-nearer}
@@ -117,8 +118,8 @@ closed-part {P} {n} {k} {u} {l} e {xs} h m c =
         )
 
 -- ---- Verifying a point.
-module _ {g : Network} {P : List ℕ} {q k v inner : ℕ} {xs : List ℕ} (c : CanVisit g P xs inner v q) (low : nodeCount g ≤ inner) (mark : marked P v ≡ true)
-    {zs : List ℕ} {answer : Bool} (r : VerifyLeft g P v q k xs zs inner answer) where
+module _ {g : Network} {P : List ℕ} {q k v inner : ℕ} {xs : List ℕ} (c : CanVisit g P xs inner v (One q)) (low : nodeCount g ≤ inner) (mark : marked P v ≡ true)
+    {zs : List ℕ} {answer : Bool} (r : VerifyLeft g P v (One q) k xs zs inner answer) where
   word : (i : ℕ) → getD zs i 0 ≡ getD xs i 0
   word i =
       elim (decLt i inner) [
@@ -172,7 +173,7 @@ module _ {g : Network} {P : List ℕ} {xs : List ℕ} {inner k len v q : ℕ} (c
         sound = λ M here s. s;
       }
 
-  pub can-verify : CanVisit g P xs inner v q
+  pub can-verify : CanVisit g P xs inner v (One q)
   can-verify =
       record {
         expand = record { accepted = c .accepted; inside = c .inside; blank = c .blank; size = omega (arith, c .size) };
@@ -356,16 +357,16 @@ module _ {g : Network} {P s₀ : List ℕ} {inner outer q k : ℕ} (c : CanSettl
       blank-on j h m = advanced-beside .words j h ∙ t .popped .frame .before j m ∙ e .blank j h m
 
       -- its entry is taken back: its node is beaten, or the node that put it in is
-      back-node : Closed P (nodeCount g) ws k v l → Unbeaten g (e .marks) q k v → ⊥
+      back-node : Closed P (nodeCount g) ws k v l → Unbeaten g (e .marks) (one g q) k v → ⊥
       back-node h o =
           o
-          (stops ok (e .marks) q k v l (label-exact ok flags-low d t)
+          (stops g (e .marks) (one g q) k v l (label-exact ok flags-low d t)
           (closed-nearer ok second-on sound-on (d .whole) (t .inside) (omega (arith, small)) (closed-part inner (t .inside) (c .rows) h)))
 
       pub parent-inside : u < nodeCount g
       parent-inside = parent-low ok (d .progress) t (d .came)
 
-      back-parent : ClosedBehind P (nodeCount g) ws outer k u → Unbeaten g (e .marks) q k u → ⊥
+      back-parent : ClosedBehind P (nodeCount g) ws outer k u → Unbeaten g (e .marks) (one g q) k u → ⊥
       back-parent h o =
           let at : LabelAt (nodeCount g) xs outer u (h .label) =
           label-back (took-moved ok (d .progress .area) (d .progress .searched) t) u (h .label)
@@ -373,7 +374,7 @@ module _ {g : Network} {P s₀ : List ℕ} {inner outer q k : ℕ} (c : CanSettl
           in
           let area = d .progress .area in
           o
-          (stops ok (e .marks) q k u (h .label) (d .progress .searched .exact u (h .label) at)
+          (stops g (e .marks) (one g q) k u (h .label) (d .progress .searched .exact u (h .label) at)
           (closed-nearer ok second-on sound-on (d .whole) parent-inside
           (omega (arith, at .is, area .low u parent-inside (omega (arith, at .is)), area .counted, ok .few))
           (closed-part inner parent-inside (c .rows) (h .closed))))
@@ -519,11 +520,11 @@ module _ {g : Network} {P s₀ : List ℕ} {inner outer q k : ℕ} (c : CanSettl
     pub can-close : (secondBase (nodeCount g) k ≤ length (settledAs (nodeCount g) xs outer settled v l)) × (v < nodeCount g)
     can-close = (omega (arith, kept-settled .size, fits-come, inner-low, c .rows), a .took .inside)
 
-    closed-beaten : Closed P (nodeCount g) (settledAs (nodeCount g) xs outer settled v l) k v l → Unbeaten g (e .marks) q k v → ⊥
+    closed-beaten : Closed P (nodeCount g) (settledAs (nodeCount g) xs outer settled v l) k v l → Unbeaten g (e .marks) (one g q) k v → ⊥
     closed-beaten h o =
         let inside = a .took .inside in
         o
-        (stops ok (e .marks) q k v l (λ n. took-exact ok (a .progress .area) (a .progress .searched) (a .took) (leads ok (e .marks) q k) n)
+        (stops g (e .marks) (one g q) k v l (λ n. took-exact ok (a .progress .area) (a .progress .searched) (a .took) (leads ok (e .marks) q k) n)
         (closed-nearer ok (e .second) (e .sound) (a .whole) inside (omega (arith, took-small ok (a .progress) (a .took)))
         (rw (part-same moved-same) at (closed-part inner inside (c .rows) h))))
 

@@ -53,7 +53,7 @@ Whole P M = (p : ℕ) → marked M p ≡ true → lockers P p ≤ lockers M p
 
 -- the search between two entries: M are the points settled
 pub record Discovering (g : Network) (P M : List ℕ) (q k : ℕ) (xs : List ℕ) (b f settled len : ℕ) : Type 0 where
-  pub progress : Progress g (one g q) (Unbeaten g M q k) (Unbeaten g M q k) xs b settled len
+  pub progress : Progress g (one g q) (Unbeaten g M (one g q) k) (Unbeaten g M (one g q) k) xs b settled len
   pub tells : Tells g P M q k xs f
   pub size : length M ≡ nodeCount g
   pub part : Part M P
@@ -67,7 +67,7 @@ pub record Arrived (g : Network) (P M : List ℕ) (q k : ℕ) (ys : List ℕ) (b
   pub before : List ℕ
   pub len : ℕ
   pub parent : ℕ
-  pub progress : Progress g (one g q) (Unbeaten g M q k) (Unbeaten g M q k) before b settled len
+  pub progress : Progress g (one g q) (Unbeaten g M (one g q) k) (Unbeaten g M (one g q) k) before b settled len
   pub took : Took (nodeCount g) before ys b len left l v parent
   pub tells : Tells g P M q k ys f
   pub size : length M ≡ nodeCount g
@@ -90,8 +90,8 @@ joins-other j x n = ap (ltb 0) (j .others x n)
 pub joins-here : {P M M′ : List ℕ} {v : ℕ} → Joins P M M′ v → marked M′ v ≡ marked P v
 joins-here j = ap (ltb 0) (j .own)
 
-pub leads : {g : Network} → Accepted g → (M : List ℕ) (q k : ℕ) → Leads g (one g q) (Unbeaten g M q k) (Unbeaten g M q k)
-leads ok M q k = closed-leads (one-lawful ok q) (unbeaten-closed ok M q k)
+pub leads : {g : Network} → Accepted g → (M : List ℕ) (q k : ℕ) → Leads g (one g q) (Unbeaten g M (one g q) k) (Unbeaten g M (one g q) k)
+leads ok M q k = closed-leads (one-lawful ok q) (unbeaten-closed ok (one-lawful ok q) M k)
 
 -- flags that are the same words
 pub tells-same : {g : Network} {P M : List ℕ} {q k f : ℕ} {xs ys : List ℕ} → ((i : ℕ) → i < f + nodeCount g → getD ys i 0 ≡ getD xs i 0) → Tells g P M q k xs f → Tells g P M q k ys f
@@ -153,10 +153,10 @@ module _ {g : Network} (ok : Accepted g) {P : List ℕ} {q k b f : ℕ} (low : f
     pub took-unverified : marked M v ≡ false
     took-unverified = ⊎-elim (λ m. absurd (omega (arith, d .come v (t .inside) m, took-waited ok (d .progress .area) (d .progress .searched) t))) (λ m. m) (bool-cases (marked M v))
 
-    pub label-exact : Unbeaten g M q k v → l ≡ dist g q v
+    pub label-exact : Unbeaten g M (one g q) k v → l ≡ dist g q v
     label-exact o = took-exact ok (d .progress .area) (d .progress .searched) t (leads ok M q k) o
 
-    pub label-least : (x : ℕ) → x < nodeCount g → getD xs (b + x) 0 ≤ nodeCount g → Unbeaten g M q k x → l ≤ dist g q x
+    pub label-least : (x : ℕ) → x < nodeCount g → getD xs (b + x) 0 ≤ nodeCount g → Unbeaten g M (one g q) k x → l ≤ dist g q x
     label-least x h z o =
         elim (ℕ-discrete (dist g q x) NONE) [
           | yes e ↦ omega (arith, took-small ok (d .progress) t)
@@ -171,7 +171,7 @@ module _ {g : Network} (ok : Accepted g) {P : List ℕ} {q k b f : ℕ} (low : f
     dropped-tells : Tells g P M q k ys f
     dropped-tells = tells-same (λ i h. t .popped .frame .before i (omega (arith, low))) (d .tells)
 
-    pub discovering-dropped : (Unbeaten g M q k v → ⊥) ⊎ (Unbeaten g M q k u → ⊥) → Discovering g P M q k ys b f settled left
+    pub discovering-dropped : (Unbeaten g M (one g q) k v → ⊥) ⊎ (Unbeaten g M (one g q) k u → ⊥) → Discovering g P M q k ys b f settled left
     discovering-dropped closed =
         record {
           progress =
@@ -190,12 +190,12 @@ module _ {g : Network} (ok : Accepted g) {P : List ℕ} {q k b f : ℕ} (low : f
           came = came-took ok (d .progress) t (d .came);
         }
       where
-        becomes : (x m : ℕ) → AndOne (nodeCount g) ys b left v l x m → AfterStep (Unbeaten g M q k) (Unbeaten g M q k) (LabelAt (nodeCount g) ys b) (HeldAt (nodeCount g) ys b left) x m
+        becomes : (x m : ℕ) → AndOne (nodeCount g) ys b left v l x m → AfterStep (Unbeaten g M (one g q) k) (Unbeaten g M (one g q) k) (LabelAt (nodeCount g) ys b) (HeldAt (nodeCount g) ys b left) x m
         becomes x m (inl h) = waits m (omega arith) h
         becomes x m (inr e) =
             ⊎-elim
             (λ n. not-seen (rw (e .0) n))
-            (λ n. not-seen (rw (e .0) (parent-seen ok (d .progress) t (d .came) (leads ok M q k) (unbeaten-closed ok M q k) n)))
+            (λ n. not-seen (rw (e .0) (parent-seen ok (d .progress) t (d .came) (leads ok M q k) (unbeaten-closed ok (one-lawful ok q) M k) n)))
             closed
 
     -- ---- Its node is verified, where it is a point.
@@ -232,8 +232,8 @@ module _ {g : Network} (ok : Accepted g) {P : List ℕ} {q k b f : ℕ} (low : f
             | no n ↦ omega (arith, j .others x n, d .whole x (sym (joins-other j x n) ∙ m))
           ]
 
-      pub shrinks : (x : ℕ) → Unbeaten g M′ q k x → Unbeaten g M q k x
-      shrinks x = unbeaten-part g M M′ q k x joins-grow
+      pub shrinks : (x : ℕ) → Unbeaten g M′ (one g q) k x → Unbeaten g M (one g q) k x
+      shrinks x = unbeaten-part g M M′ (one g q) k x joins-grow
 
       -- the flags then: only v's own changes, and is right
       pub tells-joined : {zs : List ℕ} → ((p : ℕ) → p < nodeCount g → p ≢ v → getD zs (f + p) 0 ≡ getD xs (f + p) 0)
@@ -288,7 +288,7 @@ module _ {g : Network} (ok : Accepted g) {P : List ℕ} {q k b f : ℕ} (low : f
               came = came-beside new (came-took ok (d .progress) t (d .came));
             }
           where
-            shrunk : {ws : List ℕ} → Progress g (one g q) (Unbeaten g M q k) (Unbeaten g M q k) ws b settled len → Progress g (one g q) (Unbeaten g M′ q k) (Unbeaten g M′ q k) ws b settled len
+            shrunk : {ws : List ℕ} → Progress g (one g q) (Unbeaten g M (one g q) k) (Unbeaten g M (one g q) k) ws b settled len → Progress g (one g q) (Unbeaten g M′ (one g q) k) (Unbeaten g M′ (one g q) k) ws b settled len
             shrunk p = record { area = p .area; searched = monotone shrinks shrinks (p .searched) }
 
   -- ---- The node is settled; the search stops behind it or follows its arcs.
@@ -309,7 +309,7 @@ module _ {g : Network} (ok : Accepted g) {P : List ℕ} {q k b f : ℕ} (low : f
       other : (p : ℕ) → p < nodeCount g → p ≢ v → getD (settledAs (nodeCount g) ys b settled v l) (b + p) 0 ≡ getD ys (b + p) 0
       other = others-settle area v l (a .took .inside) free
 
-      next : {more : ℕ} → Progress g (one g q) (Unbeaten g M q k) (Unbeaten g M q k) ws b (settled + 1) more → AllCame g q ws b more
+      next : {more : ℕ} → Progress g (one g q) (Unbeaten g M (one g q) k) (Unbeaten g M (one g q) k) ws b (settled + 1) more → AllCame g q ws b more
           → Discovering g P M q k ws b f (settled + 1) more
       next p all =
           record {
@@ -342,7 +342,7 @@ module _ {g : Network} (ok : Accepted g) {P : List ℕ} {q k b f : ℕ} (low : f
               ]
 
     -- the search stops behind the node
-    pub discovering-stopped : (Unbeaten g M q k v → ⊥) → Discovering g P M q k (settledAs (nodeCount g) ys b settled v l) b f (settled + 1) left
+    pub discovering-stopped : (Unbeaten g M (one g q) k v → ⊥) → Discovering g P M q k (settledAs (nodeCount g) ys b settled v l) b f (settled + 1) left
     discovering-stopped closed =
         next moved-same (progress-stopped ok (a .progress) (a .took) (leads ok M q k) closed) (came-stopped ok (a .progress) (a .took) (a .came))
 
@@ -362,7 +362,7 @@ module _ {g : Network} (ok : Accepted g) {P : List ℕ} {q k b f : ℕ} (low : f
         by false e =
             let s = listed-parts g P q k p .0 a in
             let w =
-            search-finished ok (d .progress .area) (d .progress .searched) z (leads ok M q k) p (lazy-open g P M q k p a (d .part) e)
+            search-finished ok (d .progress .area) (d .progress .searched) z (leads ok M q k) p (lazy-open ok P M q k p a (d .part) e)
             (omega (arith, s .reach, dist-symmetric ok q p))
             in absurd (false≢true (sym e ∙ d .met p h (s .mark) (omega (arith, w .is))))
 

@@ -13,6 +13,7 @@ use expansion::labels;
 use expansion::step;
 use expansion::step::Taken;
 use expansion::verify;
+use expansion::verify::Site;
 use expansion::words;
 use network::arcs::wide;
 use network::points::lockers_at;
@@ -96,7 +97,7 @@ fn discover(
         &mut s[..b],
         a,
         node,
-        q,
+        Site::One { q },
         k,
     );
     let settled = v.settled;

@@ -7,6 +7,7 @@ ghost use Prim.Native.Nat.{_+_, _≤_, _<_};
 ghost use lib.ListN.{length};
 ghost use Rattle.network.specs.Network.{network};
 ghost use Rattle.network.specs.Points.{marked};
+ghost use Rattle.expansion.specs.declared.verify.Site.the-variants.{One};
 ghost use Rattle.expansion.specs.Visited.{CanVisit};
 ghost use Rattle.lazy_searches.specs.Second.{secondBase};
 ghost use Rattle.lazy_searches.specs.Lazy.{SearchLeft};
@@ -16,6 +17,7 @@ use expansion::labels;
 use expansion::step;
 use expansion::step::Taken;
 use expansion::verify;
+use expansion::verify::Site;
 use expansion::words;
 use network::arcs::wide;
 use network::distance::Distance;
@@ -58,11 +60,12 @@ fn verify_point(
     v: u32,
     q: u32,
 )
-    requires { ⌜ CanVisit (network (now starts) (now neighbours) (now weights)) (now points) (now f) inner v q ⌝ }
+    requires { ⌜ CanVisit (network (now starts) (now neighbours) (now weights)) (now points) (now f) inner v (One q) ⌝ }
     requires { ⌜ (length (now starts) ≤ inner + 1) × (marked (now points) v ≡ true) ⌝ }
     ensures { λ _. ⌜ PointVerified (network (now (starts .entry)) (now (neighbours .entry)) (now (weights .entry))) (now (points .entry)) q k v (now (f .entry)) (now (f .exit)) ⌝ }
 {
-    let yes = verify::verify(starts, neighbours, weights, points, f, inner, v, q, k);
+    let site = Site::One { q };
+    let yes = verify::verify(starts, neighbours, weights, points, f, inner, v, site, k);
     if yes {
         let at = wide(v);
         f[at] = 1;

@@ -23,8 +23,8 @@ use Rattle.network.proofs.Rank.{marked-inside}
 use Rattle.expansion.specs.Area.{Wiped}
 use Rattle.searches.specs.Flags.{flagsEnd, Flags, Looked}
 use Rattle.expansion.proofs.AreaLaws.{kept-same}
-use Rattle.searches.proofs.Listed.{listed-parts}
-use Rattle.searches.proofs.FlagLaws.{listed-verified, verified-listed, changed-grows, changed-flags}
+use Rattle.searches.proofs.Listed.{listed-parts, listed-verified, verified-listed}
+use Rattle.searches.proofs.FlagLaws.{changed-grows, changed-flags}
 use Rattle.query.specs.Query.{Grown, CanDecide, Decided, Way, CanVerifyWord, WordVerified, CanVerifyRow, Ways, ToldAll, RowVerified, Exact, CanLookByRow, LookedByRow}
 use Rattle.query.proofs.RowNearest.{listed-at-once, row-count, row-stands, row-way}
 
@@ -120,7 +120,7 @@ module _ {g : Network} {P dists : List ℕ} {q k K : ℕ} {xs : List ℕ} (c : C
               grows = changed-grows g p xs ws inside other keeps;
             }
 
-        changed : (dists ≡ tableDistances g P K → Way g p q sum → Flags g P q k xs → getD ws (nodeCount g + p) 0 ≢ 0 → isListed g P q k p ≡ true)
+        changed : (dists ≡ tableDistances g P K → Way g p q sum → Flags g (isListed g P q k) xs → getD ws (nodeCount g + p) 0 ≢ 0 → isListed g P q k p ≡ true)
             → (isListed g P q k p ≡ true → getD ws (nodeCount g + p) 0 ≢ 0) → WordVerified g P dists q k K xs ws p sum
         changed sound told =
             record {
@@ -174,7 +174,7 @@ pub record RowUpto (g : Network) (P dists : List ℕ) (q k K : ℕ) (xs ys zs ws
   pub few : i ≤ k
   pub grown : Grown g P xs ys
   pub less : (j : ℕ) → j < i → getD ws j 0 < l
-  pub right : dists ≡ tableDistances g P K → Ways g q k zs ws l → Flags g P q k xs → ToldAll g P q k zs ys i
+  pub right : dists ≡ tableDistances g P K → Ways g q k zs ws l → Flags g (isListed g P q k) xs → ToldAll g P q k zs ys i
 
 module _ {g : Network} {P dists : List ℕ} {q k K : ℕ} {xs zs ws : List ℕ} (c : CanVerifyRow g P dists q k K xs zs ws) (l : ℕ) where
   pub row-start : RowUpto g P dists q k K xs xs zs ws l 0
@@ -207,7 +207,7 @@ module _ {g : Network} {P dists : List ℕ} {q k K : ℕ} {xs zs ws : List ℕ} 
           right = right;
         }
       where
-        right : dists ≡ tableDistances g P K → Ways g q k zs ws l → Flags g P q k xs → ToldAll g P q k zs us (i + 1)
+        right : dists ≡ tableDistances g P K → Ways g q k zs ws l → Flags g (isListed g P q k) xs → ToldAll g P q k zs us (i + 1)
         right e w f =
             let o = r .right e w f in
             let t = v .right e (w i h m) (o .flags) in
@@ -251,7 +251,7 @@ module _ {g : Network} {P ids dists : List ℕ} {q k K : ℕ} {xs : List ℕ} {v
     dist-at : (j : ℕ) → j < k → getD (part (v * K) (v * K + K) dists) j 0 ≡ getD dists (v * K + j) 0
     dist-at j h = mid-at (v * K) ((v * K + K) - v * K) dists j (omega (arith, c .verify .asked .few))
 
-    looked : IsTable g P K ids dists → Walk g q v l → Exact g P q k v l → Flags g P q k xs → Looked g P q k xs ys v l r
+    looked : IsTable g P K ids dists → Walk g q v l → Exact g P q k v l → Flags g (isListed g P q k) xs → Looked g P (isListed g P q k) k xs ys v l r
     looked t walk exact f =
         record {
           size = w .grown .size;

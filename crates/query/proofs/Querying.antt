@@ -23,7 +23,7 @@ use Rattle.expansion.specs.Tags.{tagOf}
 use Rattle.expansion.specs.NodeQueue.{PushedNode}
 use Rattle.expansion.specs.Area.{queueBase, LabelAt, Area, Blank, Moved, Took, Followed}
 use Rattle.expansion.specs.Expand.{CanExpand}
-use Rattle.expansion.proofs.Origins.{one}
+use Rattle.expansion.proofs.Origins.{one, one-lawful}
 use Rattle.expansion.proofs.Search.{Leads}
 use Rattle.expansion.proofs.AreaLaws.{moved-same, settledAs, frame-settle}
 use Rattle.expansion.proofs.AreaSearch.{label-back, took-area, took-word, took-moved, took-exact, search-finished, settle-marks}
@@ -32,7 +32,7 @@ use Rattle.expansion.proofs.Beside.{Beside, beside-first, beside-label-at, prog
 use Rattle.searches.specs.Flags.{flagsEnd, Flags, Looked}
 use Rattle.searches.specs.Eager.{isFound}
 use Rattle.searches.proofs.Beaten.{Beaten, Unbeaten, stops}
-use Rattle.searches.proofs.Finds.{Met, met-leads}
+use Rattle.searches.proofs.Finds.{Met, met-leads, site-receives}
 use Rattle.searches.proofs.Answers.{listed-flagged}
 use Rattle.network.proofs.Lends.{first-part}
 use Rattle.searches.proofs.LookLaws.{flags-same}
@@ -43,14 +43,14 @@ use Rattle.query.specs.Query.{Only, Grown, CanLookByRow, LookedByRow, Ca
 
 -- the nodes whose arcs it follows, and those that it answers for
 abbrev pub Follows : Type 0 → Network → List ℕ → ℕ → ℕ → ℕ → Type 0
-Follows T g P q k v = T × Unbeaten g P q k v
+Follows T g P q k v = T × Unbeaten g P (one g q) k v
 
 abbrev pub Meets : Type 0 → Network → List ℕ → ℕ → ℕ → ℕ → Type 0
-Meets T g P q k v = T × Met g P q k v
+Meets T g P q k v = T × Met g P (one g q) k v
 
 pub follows-lead : (T : Type 0) {g : Network} → Accepted g → (P : List ℕ) (q k : ℕ) → 1 ≤ k → Leads g (one g q) (Follows T g P q k) (Meets T g P q k)
 follows-lead T ok P q k some =
-    let l = met-leads ok P q k some in
+    let l = met-leads ok (one-lawful ok q) P k some in
     record {
       start = λ v e m. (m .0, l .start v e (m .1));
       through = λ v m ne n. let r = l .through v (m .1) ne n in record { last = r .last; is-open = (m .0, r .is-open); is-seen = (m .0, r .is-seen) };
@@ -58,7 +58,7 @@ follows-lead T ok P q k some =
 
 -- the found flags where T holds: as eager's
 pub record Answering (g : Network) (P : List ℕ) (q k : ℕ) (xs : List ℕ) (b : ℕ) : Type 0 where
-  pub flags : Flags g P q k xs
+  pub flags : Flags g (isListed g P q k) xs
   pub told :
       (v l p : ℕ) → LabelAt (nodeCount g) xs b v l → Near g P v l k p → isListed g P q k p ≡ true
       → getD xs (nodeCount g + p) 0 ≢ 0
@@ -120,7 +120,7 @@ module _ {g : Network} {P ids dists s₀ : List ℕ} {b q k K : ℕ} (c : CanExp
         right =
             λ _.
             record {
-              flags = flags-same (λ i h. word i (omega (arith, low))) (no-flags g P q k (c .blank));
+              flags = flags-same (λ i h. word i (omega (arith, low))) (no-flags g (isListed g P q k) (c .blank));
               told =
                   λ v l p h near a.
                   absurd (omega (arith, label-back (progress-begun ok can-expand t) v l h .is, c .blank .zero (b + v) (omega (arith, low))));
@@ -193,7 +193,7 @@ module _ {g : Network} {P ids dists s₀ : List ℕ} {b q k K : ℕ} (c : CanExp
       grows : (p : ℕ) → p < nodeCount g → getD xs (nodeCount g + p) 0 ≢ 0 → getD (zs ++ drop b xs) (nodeCount g + p) 0 ≢ 0
       grows p h n = rw (set (nodeCount g + p) (omega (arith, low))) (grown .grows p h (rw (front (nodeCount g + p) (omega (arith, low))) n))
 
-      seen : T → Looked g P q k (take b ys) zs v l r
+      seen : T → Looked g P (isListed g P q k) k (take b ys) zs v l r
       seen y =
           look .right y (took-walk ok (e .progress) t)
           (λ f. took-exact ok (e .progress .area) (e .progress .searched) t leads (y, inl (λ b. omega arith)))
@@ -237,9 +237,9 @@ module _ {g : Network} {P ids dists s₀ : List ℕ} {b q k K : ℕ} (c : CanExp
   -- ---- The node is settled; the search stops behind it or follows its arcs.
   module _ {ys : List ℕ} {settled left l v r : ℕ} (a : Arrived (IsTable g P K ids dists) g P q k ys b settled left l v r) where
     -- k points were found: the node is beaten
-    many-beaten : T → k ≤ r → Beaten g P q k v
+    many-beaten : T → k ≤ r → Beaten g P (one g q) k v
     many-beaten y h =
-        stops ok P q k v l
+        stops g P (one g q) k v l
         (λ o. took-exact ok (a .querying .progress .area) (a .querying .progress .searched) (a .took) leads (y, inl o))
         (omega (arith, a .found y .count, nearest-length g P v l k))
 
@@ -291,9 +291,9 @@ module _ {g : Network} {P ids dists s₀ : List ℕ} {b q k K : ℕ} (c : CanExp
 
     listed-flag : T → (p : ℕ) → p < nodeCount g → isListed g P q k p ≡ true → getD xs (nodeCount g + p) 0 ≢ 0
     listed-flag y =
-        listed-flagged ok P q k (LabelAt (nodeCount g) xs b)
+        listed-flagged ok (one-lawful ok q) P k (LabelAt (nodeCount g) xs b)
         (λ v m r. search-finished ok (e .progress .area) (e .progress .searched) z leads v (y, m) r)
-        (λ p. getD xs (nodeCount g + p) 0 ≢ 0) (e .right y .told)
+        (isListed g P q k) (λ p. getD xs (nodeCount g + p) 0 ≢ 0) (site-receives ok P q k) (e .right y .told)
 
     pub ended-found : IsTable g P K ids dists → (p : ℕ) → p < nodeCount g → isFound (nodeCount g) xs p ≡ isListed g P q k p
     ended-found y p h =

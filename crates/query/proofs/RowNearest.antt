@@ -21,9 +21,9 @@ use Rattle.network.specs.Rows.{tableIds, tableDistances, IsTable}
 use Rattle.network.proofs.Counts.{member-at}
 use Rattle.network.proofs.Distances.{dist-at-most, dist-walk, dist-self, dist-symmetric, dist-triangle}
 use Rattle.network.proofs.Ordered.{AllIn, below, below-most, same-below, take-all-in, take-ordered, take-few, at-above, at-below}
-use Rattle.network.proofs.Rank.{before-mono, before-up, count-before, others-less}
+use Rattle.network.proofs.Rank.{before-mono, before-up, count-before, nearer-mono, others-less}
 use Rattle.network.proofs.Rows.{nearest-ordered, nearest-small, nearest-below, nearest-length, listed-near}
-use Rattle.expansion.proofs.VisitLaws.{nearer-mono, nearer-none}
+use Rattle.expansion.proofs.VisitLaws.{nearer-none}
 use Rattle.searches.proofs.Listed.{verified-parts}
 use Rattle.searches.proofs.LookLaws.{place-of}
 use Rattle.rows.specs.Flat.{place}

@@ -16,6 +16,7 @@ use Rattle.network.specs.Points.{marked, countNearer, verified, isListed, liste
 use Rattle.network.specs.Rows.{tableDistances, IsTable}
 use Rattle.network.specs.Answers.{answered, SomePoints}
 use Rattle.expansion.specs.Area.{queueBase, Blank, Wiped}
+use Rattle.expansion.specs.declared.verify.Site.the-variants.{One}
 use Rattle.expansion.specs.Visited.{CanVisit}
 use Rattle.searches.specs.Flags.{flagsEnd, Flags, Grows, Looked}
 use Rattle.searches.specs.Eager.{isFound}
@@ -54,7 +55,7 @@ pub record Grown (g : Network) (P xs ys : List ℕ) : Type 0 where
 -- the other points' distances stand behind p's own place. p is listed at once where its k-th other point is no nearer than a way to the site, of
 -- the given sum; else the rule is tried
 pub record CanDecide (g : Network) (P others xs : List ℕ) (p q k : ℕ) : Type 0 where
-  pub visit : CanVisit g P xs (flagsEnd g) p q
+  pub visit : CanVisit g P xs (flagsEnd g) p (One q)
   pub some : 1 ≤ k
   pub few : k ≤ length others
 
@@ -73,12 +74,12 @@ pub record CanVerifyWord (g : Network) (P dists : List ℕ) (q k K : ℕ) (xs : 
   pub front : QueryFront g P xs
 
 pub record Told (g : Network) (P : List ℕ) (q k : ℕ) (ys : List ℕ) (p : ℕ) : Type 0 where
-  pub flags : Flags g P q k ys
+  pub flags : Flags g (isListed g P q k) ys
   pub told : isListed g P q k p ≡ true → getD ys (nodeCount g + p) 0 ≢ 0
 
 pub record WordVerified (g : Network) (P dists : List ℕ) (q k K : ℕ) (xs ys : List ℕ) (p sum : ℕ) : Type 0 where
   pub grown : Grown g P xs ys
-  pub right : dists ≡ tableDistances g P K → Way g p q sum → Flags g P q k xs → Told g P q k ys p
+  pub right : dists ≡ tableDistances g P K → Way g p q sum → Flags g (isListed g P q k) xs → Told g P q k ys p
 
 -- the points of a row, its ids zs and its distances ws, that are nearer than l, cut after the first k
 pub record CanVerifyRow (g : Network) (P dists : List ℕ) (q k K : ℕ) (xs zs ws : List ℕ) : Type 0 where
@@ -93,7 +94,7 @@ pub record NearerPlaces (ws : List ℕ) (l k r : ℕ) : Type 0 where
   pub stop : r < k → l ≤ getD ws r 0
 
 pub record ToldAll (g : Network) (P : List ℕ) (q k : ℕ) (zs ys : List ℕ) (r : ℕ) : Type 0 where
-  pub flags : Flags g P q k ys
+  pub flags : Flags g (isListed g P q k) ys
   pub told : (i : ℕ) → i < r → isListed g P q k (getD zs i 0) ≡ true → getD ys (nodeCount g + getD zs i 0) 0 ≢ 0
 
 -- each place of the row that is nearer than l says the end of a way to the site
@@ -103,7 +104,7 @@ Ways g q k zs ws l = (i : ℕ) → i < k → getD ws i 0 < l → Way g (getD zs 
 pub record RowVerified (g : Network) (P dists : List ℕ) (q k K : ℕ) (xs ys zs ws : List ℕ) (l r : ℕ) : Type 0 where
   pub grown : Grown g P xs ys
   pub nearer : NearerPlaces ws l k r
-  pub right : dists ≡ tableDistances g P K → Ways g q k zs ws l → Flags g P q k xs → ToldAll g P q k zs ys r
+  pub right : dists ≡ tableDistances g P K → Ways g q k zs ws l → Flags g (isListed g P q k) xs → ToldAll g P q k zs ys r
 
 -- the label of v is its distance, where fewer than k lockers are nearer to it than the site
 abbrev pub Exact : Network → List ℕ → ℕ → ℕ → ℕ → ℕ → Type 0
@@ -117,7 +118,7 @@ pub record CanLookByRow (g : Network) (P ids dists : List ℕ) (q k K : ℕ) (xs
 
 pub record LookedByRow (g : Network) (P ids dists : List ℕ) (q k K : ℕ) (xs ys : List ℕ) (v l r : ℕ) : Type 0 where
   pub grown : Grown g P xs ys
-  pub right : IsTable g P K ids dists → Walk g q v l → Exact g P q k v l → Flags g P q k xs → Looked g P q k xs ys v l r
+  pub right : IsTable g P K ids dists → Walk g q v l → Exact g P q k v l → Flags g (isListed g P q k) xs → Looked g P (isListed g P q k) k xs ys v l r
 
 -- no flag is set, and all words are 0
 pub record CanExploreQuery (g : Network) (P ids dists xs : List ℕ) (b q k K : ℕ) : Type 0 where

@@ -10,6 +10,7 @@ ghost use Rattle.query.specs.Query.{CanDecide, Decided, CanVerifyWord, W
 use expansion::step;
 use expansion::step::Taken;
 use expansion::verify;
+use expansion::verify::Site;
 use expansion::words;
 use network::arcs::wide;
 use searches::flags;
@@ -43,7 +44,8 @@ fn decide(
         return true;
     }
     let b = 2 * (starts.len() - 1);
-    verify::verify(starts, neighbours, weights, points, f, b, p, q, k)
+    let site = Site::One { q };
+    verify::verify(starts, neighbours, weights, points, f, b, p, site, k)
 }
 
 // Verifies a point, where the word is one and was not verified before, and flags it where it is listed.

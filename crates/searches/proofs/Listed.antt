@@ -1,6 +1,6 @@
 -- The test that lists a point, in its parts, and what it says of a search that prunes by some of the marks.
 -- Assumes nothing.
-use Prim.Native.Nat.{ℕ, _≤_, _<_}
+use Prim.Native.Nat.{ℕ, _<_}
 use mathlib.Core.Path.{_≡_, sym, ap, _∙_}
 use mathlib.Core.Bool.{true, false, not, false≢true}
 use mathlib.Core.Logic.{_≢_, _↔_}
@@ -8,14 +8,14 @@ use mathlib.Core.List.{List}
 use native.Mathlib.Omega.{arith}
 use lib.Dec.{eqb}
 use borrow.Author.Tests.{ltb-true, lt-ltb, eqb-false, ne-eqb, not-true}
-use Rattle.network.specs.Network.{Network, nodeCount}
+use Rattle.network.specs.Network.{Network}
 use Rattle.network.specs.Accepted.{Accepted}
 use Rattle.network.specs.Distance.{NONE, dist}
 use Rattle.network.proofs.Tests.{and-parts, and-intro}
-use Rattle.network.proofs.Distances.{dist-self}
-use Rattle.network.specs.Points.{lockers, marked, isNearer, countNearer, othersNearer, verified, isListed}
-use Rattle.network.proofs.Totals.{sum-none}
+use Rattle.network.proofs.Distances.{dist-symmetric}
+use Rattle.network.specs.Points.{lockers, marked, othersNearer, verified, isListed}
 use Rattle.network.proofs.Rank.{others-part}
+use Rattle.expansion.proofs.Origins.{one}
 use Rattle.searches.proofs.Beaten.{Unbeaten, Part, part-marked}
 
 -- the parts of the test
@@ -53,28 +53,27 @@ listed-parts g P q k p = (
   λ h. and-intro (marked P p) _ (h .mark) (verified-parts g P p q k .1 (h .other, h .reach, h .few)),
 )
 
+-- the rule of a marked point
+module _ (g : Network) (P : List ℕ) (q k p : ℕ) where
+  pub listed-verified : isListed g P q k p ≡ true → verified g P p q k ≡ true
+  unfolding isListed
+  listed-verified e = and-parts (marked P p) _ e .1
+
+  pub verified-listed : marked P p ≡ true → verified g P p q k ≡ true → isListed g P q k p ≡ true
+  unfolding isListed
+  verified-listed m e = and-intro (marked P p) _ m e
+
 -- a listed point that is not among the marks M is not beaten by M
-pub lazy-open : (g : Network) (P M : List ℕ) (q k p : ℕ) → isListed g P q k p ≡ true → Part M P → marked M p ≡ false → Unbeaten g M q k p
-lazy-open g P M q k p e sub un b =
+pub lazy-open : {g : Network} → Accepted g → (P M : List ℕ) (q k p : ℕ) → isListed g P q k p ≡ true → Part M P → marked M p ≡ false → Unbeaten g M (one g q) k p
+lazy-open {g} ok P M q k p e sub un b =
     let h = listed-parts g P q k p .0 e in
+    let s = dist-symmetric ok q p in
     let l =
-    others-part g P p (dist g p q) M p (dist g p q)
+    others-part g P p (dist g p q) M p (dist g q p)
     (λ x r. (
       λ j. false≢true (sym un ∙ ap (marked M) (sym j) ∙ r .point),
       sub x,
-      record { inside = r .inside; point = part-marked M P x sub (r .point); less = r .less },
+      record { inside = r .inside; point = part-marked M P x sub (r .point); less = omega (arith, r .less) },
     ))
     in
     omega (arith, h .few)
-
--- nothing is nearer to q than q
-module _ {g : Network} (ok : Accepted g) (P : List ℕ) (q k : ℕ) (some : 1 ≤ k) where
-  pub own-unbeaten : Unbeaten g P q k q
-  unfolding countNearer isNearer
-  own-unbeaten b =
-      let z = dist-self ok q in
-      omega (
-        arith,
-        sum-none (isNearer g P q (dist g q q)) (lockers P) (nodeCount g)
-            (λ x l a. absurd (omega (arith, ltb-true (dist g q x) (dist g q q) (and-parts (marked P x) _ a .1)))),
-      )

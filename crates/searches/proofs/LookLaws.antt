@@ -3,30 +3,33 @@
 -- Assumes nothing.
 use Prim.Native.Nat.{ℕ, zero, suc, _+_, _-_, _≤_, _<_}
 use mathlib.Core.Path.{_≡_, sym, ap, _∙_}
-use mathlib.Core.Bool.{true}
+use mathlib.Core.Bool.{Bool, true}
 use mathlib.Core.Logic.{_≢_, ⊎-elim}
 use mathlib.Core.List.{List, [], _∷_, List·Memᴰ, List·Memᴰ·cases-cons, List·Memᴰ·not-nil}
 use native.Mathlib.Decide.{decLt}
 use native.Mathlib.Omega.{arith}
+use lib.Dec.{eqb}
 use lib.ListN.{length, getD, replicate, length-replicate}
 use lib.Seq.{getD-drop}
 use borrow.Rule.Slice.PartMut.{midOf, putMid}
 use Rattle.network.specs.Network.{Network, nodeCount}
-use Rattle.network.specs.Points.{isListed}
 use Rattle.network.specs.Distance.{dist}
 use Rattle.network.specs.Nearest.{nearest}
 use Rattle.network.proofs.Rows.{Entry, listed-near}
+use Rattle.expansion.specs.declared.verify.Site.{Site}
+use Rattle.expansion.specs.Visited.{isStop}
 use Rattle.expansion.specs.Found.{CanFind, NodesLeft}
 use Rattle.expansion.specs.declared.nearest.Near.{Near}
 use Rattle.expansion.proofs.Finding.{found-member, member-found}
 use Rattle.expansion.proofs.LentParts.{lent-part, lent-length}
 use Rattle.expansion.proofs.Places.{Next}
 use Rattle.expansion.proofs.Settled.{zero-blank}
-use Rattle.searches.specs.Flags.{flagsEnd, idsBase, Flags, CanVerifyAll, VerifiedAll, CanLook, Looked}
+use Rattle.searches.specs.Flags.{flagsEnd, idsBase, siteLists, Flags, CanVerifyAll, VerifiedAll, CanLook, Looked, LookedAt}
+use Rattle.searches.proofs.FlagLaws.{lists-same}
 use Rattle.network.proofs.Lends.{Returned, returned}
 
 -- the same flags
-pub flags-same : {g : Network} {P : List ℕ} {q k : ℕ} {xs ys : List ℕ} → ((i : ℕ) → i < flagsEnd g → getD ys i 0 ≡ getD xs i 0) → Flags g P q k xs → Flags g P q k ys
+pub flags-same : {g : Network} {L : ℕ → Bool} {xs ys : List ℕ} → ((i : ℕ) → i < flagsEnd g → getD ys i 0 ≡ getD xs i 0) → Flags g L xs → Flags g L ys
 flags-same {g} same f =
     record {
       sound = λ p h n. f .sound p h (rw (same (nodeCount g + p) (omega arith)) at n);
@@ -42,7 +45,7 @@ place-of (x ∷ xs) z m =
     (λ t. let r = place-of xs z t in (suc (r .0), record { low = omega (arith, r .1 .low); is = r .1 .is }))
     (List·Memᴰ·cases-cons m)
 
-module _ {g : Network} {P : List ℕ} {q k : ℕ} {xs : List ℕ} {v : ℕ} (c : CanLook g P q k xs v) where
+module _ {g : Network} {P : List ℕ} {site : Site} {k : ℕ} {xs : List ℕ} {v : ℕ} (c : CanLook g P site k xs v) where
   fits : idsBase g ≤ length xs
   fits = omega (arith, c .front .size)
 
@@ -94,15 +97,21 @@ module _ {g : Network} {P : List ℕ} {q k : ℕ} {xs : List ℕ} {v : ℕ} (c :
         ]
 
     -- what `verify_found` requires
-    pub can-verify-all : CanVerifyAll g P q k (putMid (idsBase g) (length xs - idsBase g) xs zs) (r .found)
+    lent-stops : (x : ℕ) → x < nodeCount g → isStop (putMid (idsBase g) (length xs - idsBase g) xs zs) x ≡ isStop xs x
+    lent-stops x h = ap (λ (w : ℕ). eqb w 2) (back .before x (omega arith))
+
+    same : siteLists g P (putMid (idsBase g) (length xs - idsBase g) xs zs) site k ≡ siteLists g P xs site k
+    same = lists-same g P site k xs (putMid (idsBase g) (length xs - idsBase g) xs zs) lent-stops
+
+    pub can-verify-all : CanVerifyAll g P site k (putMid (idsBase g) (length xs - idsBase g) xs zs) (r .found)
     can-verify-all =
         record {
           front =
               record {
                 accepted = c .front .accepted;
                 points = c .front .points;
-                site = c .front .site;
-                flags = flags-same (λ i h. back .before i (omega arith)) (c .front .flags);
+                inside = c .front .inside;
+                flags = rw same (flags-same (λ i h. back .before i (omega arith)) (c .front .flags));
                 blank = record { zero = λ j h. behind j (omega (arith, found-few)) };
                 size = omega (arith, c .front .size, back .size);
               };
@@ -111,10 +120,10 @@ module _ {g : Network} {P : List ℕ} {q k : ℕ} {xs : List ℕ} {v : ℕ} (c :
           mark = λ i h. rw (id i h) (entry i h .near .nearer .point);
         }
 
-    pub clear-fits : {ws : List ℕ} → VerifiedAll g P q k (putMid (idsBase g) (length xs - idsBase g) xs zs) ws (r .found) → idsBase g + r .found ≤ length ws
+    pub clear-fits : {ws : List ℕ} → VerifiedAll g (siteLists g P (putMid (idsBase g) (length xs - idsBase g) xs zs) site k) (putMid (idsBase g) (length xs - idsBase g) xs zs) ws (r .found) → idsBase g + r .found ≤ length ws
     clear-fits a = omega (arith, a .flagged .size, back .size, c .front .size, found-few)
 
-    module _ {ws us : List ℕ} (a : VerifiedAll g P q k (putMid (idsBase g) (length xs - idsBase g) xs zs) ws (r .found))
+    module _ {ws us : List ℕ} (a : VerifiedAll g (siteLists g P (putMid (idsBase g) (length xs - idsBase g) xs zs) site k) (putMid (idsBase g) (length xs - idsBase g) xs zs) ws (r .found))
         (e : us ≡ replicate (length (midOf (idsBase g) (idsBase g + r .found - idsBase g) ws)) 0) where
       clear : Returned ws (putMid (idsBase g) (idsBase g + r .found - idsBase g) ws us) (idsBase g) (idsBase g + r .found) us
       clear =
@@ -132,22 +141,15 @@ module _ {g : Network} {P : List ℕ} {q k : ℕ} {xs : List ℕ} {v : ℕ} (c :
             | no d ↦ clear .after j (omega arith) ∙ a .flagged .words j (omega arith) ∙ behind j (omega arith)
           ]
 
-      pub looked : Looked g P q k xs (putMid (idsBase g) (idsBase g + r .found - idsBase g) ws us) v l (r .tally)
+      pub looked : LookedAt g P (siteLists g P xs site k) k xs (putMid (idsBase g) (idsBase g + r .found - idsBase g) ws us) v l (r .tally)
       looked =
+          rw (← same)
           record {
-            size = clear .size ∙ a .flagged .size ∙ back .size;
-            stays = λ i h m. clear .before i m ∙ a .flagged .words i h ∙ back .before i m;
-            blank = record { zero = zeros };
-            flags = flags-same (λ i h. clear .before i (omega arith)) (a .flagged .flags);
-            grows =
-                λ p h d.
-                rw (clear .before (nodeCount g + p) (omega arith))
-                (a .flagged .grows p h (rw (back .before (nodeCount g + p) (omega arith)) d));
-            count = n .found-in .count;
-            told = told;
+            looked = all;
+            stops = λ x h. ap (λ (w : ℕ). eqb w 2) (clear .before x (omega arith)) ∙ a .flagged .stops x h ∙ lent-stops x h;
           }
         where
-          told : (p d : ℕ) → List·Memᴰ (p, d) (nearest g P v l k) → isListed g P q k p ≡ true → getD (putMid (idsBase g) (idsBase g + r .found - idsBase g) ws us) (nodeCount g + p) 0 ≢ 0
+          told : (p d : ℕ) → List·Memᴰ (p, d) (nearest g P v l k) → siteLists g P (putMid (idsBase g) (length xs - idsBase g) xs zs) site k p ≡ true → getD (putMid (idsBase g) (idsBase g + r .found - idsBase g) ws us) (nodeCount g + p) 0 ≢ 0
           told p d b t =
               let j = place-of (nearest g P v l k) (p, d) b in
               let i = member-found (n .found-in) (j .0) (j .1 .low) in
@@ -156,3 +158,18 @@ module _ {g : Network} {P : List ℕ} {q k : ℕ} {xs : List ℕ} {v : ℕ} (c :
               let low : getD zs (i .0) 0 < nodeCount g = entry (i .0) (i .1) .near .nearer .inside in
               rw (clear .before (nodeCount g + p) (omega arith))
               (rw s at (a .told (i .0) (i .1) (rw s t)))
+
+          all : Looked g P (siteLists g P (putMid (idsBase g) (length xs - idsBase g) xs zs) site k) k xs (putMid (idsBase g) (idsBase g + r .found - idsBase g) ws us) v l (r .tally)
+          all =
+              record {
+                size = clear .size ∙ a .flagged .size ∙ back .size;
+                stays = λ i h m. clear .before i m ∙ a .flagged .words i h ∙ back .before i m;
+                blank = record { zero = zeros };
+                flags = flags-same (λ i h. clear .before i (omega arith)) (a .flagged .flags);
+                grows =
+                    λ p h d.
+                    rw (clear .before (nodeCount g + p) (omega arith))
+                    (a .flagged .grows p h (rw (back .before (nodeCount g + p) (omega arith)) d));
+                count = n .found-in .count;
+                told = told;
+              }

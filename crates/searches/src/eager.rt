@@ -5,13 +5,12 @@ ghost use mathlib.Core.Path.{_≡_};
 ghost use mathlib.Core.Bool.{true, false};
 ghost use Rattle.network.specs.Network.{network};
 ghost use Rattle.expansion.specs.Area.{Wiped};
-ghost use Rattle.searches.specs.Flags.{CanVerifyOnce, VerifiedOnce, CanVerifyAll, VerifiedAll, CanLook, Looked};
 ghost use Rattle.searches.specs.Eager.{CanSearch, HasPlaces, CanExploreEager, EagerExplored, CanWipe, CanFinish, FinishLeft, LimitedLeft, VisitsLeft};
 use crate::flags;
-use expansion::nearest;
+use crate::look;
 use expansion::step;
 use expansion::step::Taken;
-use expansion::verify;
+use expansion::verify::Site;
 use expansion::words;
 use network::arcs::wide;
 
@@ -55,92 +54,6 @@ impl End {
     }
 }
 
-// Verifies a point, where it was not verified before, and flags it where it is listed.
-fn verify_once(
-    starts: &[u32],
-    neighbours: &[u32],
-    weights: &[u32],
-    points: &[u8],
-    f: &mut [u32],
-    p: u32,
-    q: u32,
-    k: usize,
-)
-    requires { ⌜ CanVerifyOnce (network (now starts) (now neighbours) (now weights)) (now points) q k (now f) p ⌝ }
-    ensures { λ _. ⌜ VerifiedOnce (network (now (starts .entry)) (now (neighbours .entry)) (now (weights .entry))) (now (points .entry)) q k (now (f .entry)) (now (f .exit)) p ⌝ }
-{
-    let n = starts.len() - 1;
-    let at = wide(p);
-    let seen = f[at];
-    if seen != 0 {
-        return;
-    }
-    f[at] = 1;
-    let b = 4 * n;
-    let yes = verify::verify(starts, neighbours, weights, points, f, b, p, q, k);
-    if yes {
-        f[n + at] = 1;
-    }
-}
-
-// Verifies the points of the found nodes.
-fn verify_found(
-    starts: &[u32],
-    neighbours: &[u32],
-    weights: &[u32],
-    points: &[u8],
-    f: &mut [u32],
-    found: usize,
-    q: u32,
-    k: usize,
-)
-    requires { ⌜ CanVerifyAll (network (now starts) (now neighbours) (now weights)) (now points) q k (now f) found ⌝ }
-    ensures { λ _. ⌜ VerifiedAll (network (now (starts .entry)) (now (neighbours .entry)) (now (weights .entry))) (now (points .entry)) q k (now (f .entry)) (now (f .exit)) found ⌝ }
-{
-    let a = 3 * (starts.len() - 1);
-    let mut i = 0;
-    while i < found {
-        let p = f[a + i];
-        verify_once(starts, neighbours, weights, points, f, p, q, k);
-        i += 1;
-    }
-}
-
-// Finds the nodes with the k nearest lockers that are nearer to a node than its label, and verifies them. Returns how many lockers, cut at k.
-fn look(
-    starts: &[u32],
-    neighbours: &[u32],
-    weights: &[u32],
-    points: &[u8],
-    f: &mut [u32],
-    node: u32,
-    label: u32,
-    q: u32,
-    k: usize,
-) -> usize
-    requires { ⌜ CanLook (network (now starts) (now neighbours) (now weights)) (now points) q k (now f) node ⌝ }
-    ensures { λ r. ⌜ Looked (network (now (starts .entry)) (now (neighbours .entry)) (now (weights .entry))) (now (points .entry)) q k (now (f .entry)) (now (f .exit)) node label r ⌝ }
-{
-    let n = starts.len() - 1;
-    let a = 3 * n;
-    let near = nearest::nodes(
-        starts,
-        neighbours,
-        weights,
-        points,
-        &mut f[a..],
-        n,
-        node,
-        label,
-        k,
-    );
-    let found = near.found;
-    verify_found(starts, neighbours, weights, points, f, found, q, k);
-    let e = a + found;
-    words::zero(&mut f[a..e]);
-    near.tally
-}
-
 // Settles nodes by rising distance from the site, and looks at each. Where fewer than k lockers are found, it counts the node against the limit,
 // follows its arcs, and keeps it as the next of the visits.
 fn explore(
@@ -175,7 +88,8 @@ fn explore(
             return End::complete(settled, count);
         };
         let f = &mut s[..b];
-        let tally = look(starts, neighbours, weights, points, f, node, label, q, k);
+        let site = Site::One { q };
+        let tally = look::look(starts, neighbours, weights, points, f, node, label, site, k);
         if tally < k && count == limit {
             return End::beyond(settled, left, count);
         }

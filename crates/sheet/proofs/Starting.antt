@@ -1,9 +1,9 @@
 -- The nodes with a site are put in, one after the other: each waits at label 0, and no others wait.
 -- Assumes nothing.
-use Prim.Native.Nat.{ℕ, zero, suc, _+_, _≤_, _<_}
+use Prim.Native.Nat.{ℕ, _+_, _<_}
 use mathlib.Core.Path.{_≡_, refl, sym, ap, _∙_}
 use mathlib.Core.Bool.{true, false, not, _&&_}
-use mathlib.Core.Logic.{_≢_, inl, inr}
+use mathlib.Core.Logic.{_≢_, inl}
 use mathlib.Core.List.{List}
 use native.Mathlib.Decide.{ℕ-discrete, decLt}
 use native.Mathlib.Omega.{arith}
@@ -14,12 +14,13 @@ use Rattle.network.specs.Network.{Network, nodeCount}
 use Rattle.network.specs.Points.{marked}
 use Rattle.network.proofs.Tests.{and-right}
 use Rattle.network.proofs.Counts.{select-same}
-use Rattle.expansion.specs.Queue.{keyOf, keyAt, Holds}
+use Rattle.expansion.specs.Queue.{keyOf}
 use Rattle.expansion.specs.Tags.{tagOf, nodeOf}
 use Rattle.expansion.specs.NodeQueue.{Free, PushedNode}
-use Rattle.expansion.specs.Area.{queueBase, queueOf}
+use Rattle.expansion.specs.Area.{queueBase}
 use Rattle.expansion.specs.Expand.{isWaiting, nodesWaiting}
 use Rattle.expansion.proofs.AreaLaws.{area-blank, area-pushed, key-own}
+use Rattle.expansion.proofs.Waiting.{pushed-waits}
 use Rattle.sheet.specs.Sources.{CanStart, Started}
 use Rattle.sheet.specs.Sheet.{siteNodes}
 
@@ -69,32 +70,6 @@ module _ {n : ℕ} {T xs ys : List ℕ} {at len : ℕ} (s : Started n T xs ys at
 
   -- a node with a site is put in
   module _ (h : at < n) {zs : List ℕ} (p : PushedNode n ys zs 0 (queueBase n 0) len (keyOf 0 (tagOf at at))) where
-    node : nodeOf (keyOf 0 (tagOf at at)) ≡ at
-    node = let low : at < 65536 = omega (arith, s .area .queue .few) in key-own 0 at at low low
-
-    -- who has an entry waits
-    held-waits : (k : ℕ) → Holds (queueOf n zs 0) (len + 1) k → (v : ℕ) → nodeOf k ≡ v → getD zs (0 + v) 0 ≢ 0
-    held-waits k x v e z =
-        omega (arith, p .queue .seat (x .index) (x .inside), ap (λ (i : ℕ). getD zs (0 + i) 0) (ap nodeOf (x .is) ∙ e))
-
-    others : (v : ℕ) → v < n → v ≢ at → (w : ℕ) → getD ys (0 + v) 0 ≡ w → isWaiting zs 0 v ≡ isWaiting ys 0 v
-    others v l d zero e =
-        ap (λ (w : ℕ). not (eqb w 0)) (p .frame .free v l (λ i. d (i ∙ node)) (inl e))
-    others v l d (suc i) e =
-        let low : getD ys (0 + v) 0 ≤ n = unsettled v l in
-        let q = s .area .queue .waits v i l e (omega arith) in
-        let k = keyAt (queueOf n ys 0) i in
-        let x = p .holds k .1 (inl (record { index = i; inside = q .0; is = refl })) in
-        ap not (ne-eqb (getD zs (0 + v) 0) 0 (held-waits k x v (q .1)))
-        ∙ sym (ap not (ne-eqb (getD ys (0 + v) 0) 0 (omega arith)))
-      where
-        unsettled : (v : ℕ) → v < n → getD ys (0 + v) 0 ≤ n
-        unsettled v l =
-            elim (decLt n (getD ys (0 + v) 0)) [
-              | yes m ↦ absurd (omega (arith, s .area .labelled v l m .low))
-              | no m ↦ omega arith
-            ]
-
     pub started-pushed : marked T at ≡ true → Started n T xs zs (at + 1) (len + 1)
     started-pushed m =
         record {
@@ -102,12 +77,10 @@ module _ {n : ℕ} {T xs ys : List ℕ} {at len : ℕ} (s : Started n T xs ys at
           area = area-pushed (s .area) h (next-free h) p;
           waits =
               λ v l.
-              elim (ℕ-discrete v at) [
-                | yes e ↦
-                    rw (e, m, lt-ltb at (at + 1) (omega arith))
-                    (ap not (ne-eqb (getD zs (0 + at) 0) 0 (held-waits (keyOf 0 (tagOf at at)) (p .holds (keyOf 0 (tagOf at at)) .1 (inr refl)) at node)))
-                | no d ↦
-                    others v l d (getD ys (0 + v) 0) refl ∙ s .waits v l ∙ ap (λ b. b && marked T v) (sym (turn v at d))
+              pushed-waits (s .area) h p v l
+              ∙ elim (ℕ-discrete v at) [
+                | yes e ↦ rw (e, m, eq-eqb at at refl, lt-ltb at (at + 1) (omega arith))
+                | no d ↦ rw (ne-eqb v at d) (s .waits v l ∙ ap (λ b. b && marked T v) (sym (turn v at d)))
               ];
         }
 

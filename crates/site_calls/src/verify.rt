@@ -4,6 +4,7 @@ ghost use mathlib.Core.Path.{_≡_};
 ghost use Rattle.network.specs.Network.{network};
 ghost use Rattle.site_calls.specs.Verify.{verifyOutcome};
 use conditions::answers::Rule;
+use expansion::verify::Site;
 use expansion::words;
 use network::arcs::wide;
 
@@ -35,7 +36,7 @@ pub fn answer(
         scratch,
         0,
         p,
-        q,
+        Site::One { q },
         wide(k),
     );
     Rule::Answer(yes)

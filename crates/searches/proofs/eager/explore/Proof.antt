@@ -21,8 +21,8 @@ use Rattle.expansion.proofs.AreaLaws.{moved-same, settledAs}
 use Rattle.expansion.proofs.AreaSearch.{took-area}
 use Rattle.expansion.proofs.Progress.{took-place, took-fits, took-follow, frame-settled}
 use Rattle.searches.specs.Eager.{VisitsKept}
-use Rattle.searches.proofs.Finds.{met-leads}
-use Rattle.searches.proofs.Exploring.{can-expand, Exploring, exploring-start, few-counted, few-visits, can-look, beside-old, looked-took, looked-exploring, looked-visited, looked-told, few-expanded, many-beaten, beyond, next-visit, visited-kept, exploring-stopped, exploring-opened, exploring-kept, visited-more, count-all, found-all}
+use Rattle.searches.proofs.Searching.{leads, can-look, beside-old, looked-took, looked-told, many-beaten, found-all}
+use Rattle.searches.proofs.Exploring.{can-expand, from-site, Exploring, exploring-start, few-counted, few-visits, looked-exploring, looked-visited, few-expanded, beyond, next-visit, visited-kept, exploring-stopped, exploring-opened, exploring-kept, visited-more, count-all}
 use Rattle.searches.proofs.eager.explore.Statement.{statement}
 use Rattle.searches.proofs.eager.explore.Tie as tie
 
@@ -61,7 +61,7 @@ took c = rw (c .taken .given .1) at (c .before .before .before .before .next .en
 -- the flags that `look` set, as if before the entry was taken
 flags-set : (k : tie.After-look Inv-loop μ-loop)
     → Beside (loop-of (taken-of k) .loop .s) (k .look .last .1 .1 .1 .1 .0 ++ drop (start-of (loop-of (taken-of k)) .args .b) (loop-of (taken-of k) .loop .s)) (start-of (loop-of (taken-of k)) .args .b)
-flags-set k = let l = loop-of (taken-of k) in beside-old (start-of l .pre) (l .loop .inv .1) (took (taken-of k)) (k .look .ensures)
+flags-set k = let l = loop-of (taken-of k) in beside-old (from-site (start-of l .pre)) (l .loop .inv .1 .searching) (took (taken-of k)) (k .look .ensures)
 
 exploring : (k : tie.After-look Inv-loop μ-loop)
     → let l = loop-of (taken-of k) in
@@ -75,7 +75,7 @@ took-after : (k : tie.After-look Inv-loop μ-loop)
     let b = start-of l .args .b in
     Took (nodeCount (G l)) (k .look .last .1 .1 .1 .1 .0 ++ drop b (l .loop .s)) (k .look .last .1 .1 .1 .1 .0 ++ drop b (c .before .before .before .before .next .last .0)) b
     (l .loop .len) (c .taken .given .0 .1 .1 .1 .0) (c .taken .given .0 .0) (c .taken .given .0 .1 .0) (c .taken .given .0 .1 .1 .0)
-took-after k = let l = loop-of (taken-of k) in looked-took (start-of l .pre) (l .loop .inv .1) (took (taken-of k)) (k .look .ensures)
+took-after k = let l = loop-of (taken-of k) in looked-took (from-site (start-of l .pre)) (l .loop .inv .1 .searching) (took (taken-of k)) (k .look .ensures)
 
 told : (k : tie.After-look Inv-loop μ-loop)
     → let c = taken-of k in
@@ -83,7 +83,7 @@ told : (k : tie.After-look Inv-loop μ-loop)
     let a = start-of l .args in
     (p : _) → Near (G l) (a .points .now) (c .taken .given .0 .1 .0) (c .taken .given .0 .0) (a .k) p → isListed (G l) (a .points .now) (a .q) (a .k) p ≡ true
     → getD (k .look .last .1 .1 .1 .1 .0 ++ drop (a .b) (l .loop .s)) (nodeCount (G l) + p) 0 ≢ 0
-told k = let l = loop-of (taken-of k) in looked-told (start-of l .pre) (l .loop .inv .1) (took (taken-of k)) (k .look .ensures)
+told k = let l = loop-of (taken-of k) in looked-told (from-site (start-of l .pre)) (l .loop .inv .1 .searching) (took (taken-of k)) (k .look .ensures)
 
 visited : (k : tie.After-look Inv-loop μ-loop)
     → let l = loop-of (taken-of k) in
@@ -133,7 +133,7 @@ loop-holds c =
 next-requires : tie.Need-next-requires Inv-loop μ-loop
 next-requires c κs =
     let l = c .before in
-    l .loop .inv .1 .progress .area .queue
+    l .loop .inv .1 .searching .progress .area .queue
 
 enum-known-taken : tie.Need-enum-known-taken Inv-loop μ-loop
 enum-known-taken c = search needs
@@ -158,10 +158,10 @@ returns c =
     (rw (t .1)
     (record {
       size = l .loop .inv .0 ∙ l .before .before .before .start .ensures .frame .size;
-      area = rw (t .0) at (e .progress .area);
-      blank = e .blank;
+      area = rw (t .0) at (e .searching .progress .area);
+      blank = e .searching .blank;
       few = few-counted (start-of l .pre) e;
-      complete = λ a. record { count = all; within = rw (← all) (e .within); found = found-all (start-of l .pre) e (t .0); visited = l .loop .inv .2 };
+      complete = λ a. record { count = all; within = rw (← all) (e .within); found = found-all (from-site (start-of l .pre)) (e .searching) (t .0); visited = l .loop .inv .2 };
       beyond = λ a. absurd (false≢true a);
     }))
 
@@ -172,12 +172,12 @@ slice-aggregate-f : tie.Need-slice-aggregate-f Inv-loop μ-loop
 slice-aggregate-f c =
     let t = c .before .before in
     let l = loop-of t in
-    sym (length-take-le (start-of l .args .b) (t .before .before .before .before .next .last .0) (omega (arith, l .loop .inv .1 .progress .area .queue .room, took t .popped .frame .size)))
+    sym (length-take-le (start-of l .args .b) (t .before .before .before .before .next .last .0) (omega (arith, l .loop .inv .1 .searching .progress .area .queue .room, took t .popped .frame .size)))
 
 look-requires : tie.Need-look-requires Inv-loop μ-loop
 look-requires c κs =
     let t = c .before .before in
-    can-look (start-of (loop-of t) .pre) (loop-of t .loop .inv .1) (took t)
+    can-look (from-site (start-of (loop-of t) .pre)) (loop-of t .loop .inv .1 .searching) (took t)
 
 beyond-requires : tie.Need-beyond-requires Inv-loop μ-loop
 beyond-requires c κs = search needs
@@ -194,15 +194,15 @@ returns-2 c =
     rw (c .beyond .ensures)
     record {
       size = t .popped .frame .size ∙ flags-set k .size ∙ l .loop .inv .0 ∙ l .before .before .before .start .ensures .frame .size;
-      area = took-area (start-of l .pre .search .accepted) (e .progress .area) (e .progress .searched) t;
-      blank = λ j h m. t .popped .frame .before j m ∙ e .blank j h m;
+      area = took-area (start-of l .pre .search .accepted) (e .searching .progress .area) (e .searching .progress .searched) t;
+      blank = λ j h m. t .popped .frame .before j m ∙ e .searching .blank j h m;
       few = few-counted (start-of l .pre) e;
       complete = λ a. absurd (true≢false a);
       beyond =
           λ a.
           omega (
             arith,
-            beyond (start-of l .pre) e t (few-expanded (start-of l .pre) e t (k .look .ensures .count) (c .before .before .if1 .taken)),
+            beyond (start-of l .pre) e t (few-expanded (start-of l .pre) e t (k .look .ensures .looked .count) (c .before .before .if1 .taken)),
             eqb-true (l .loop .count) (start-of l .args .limit) (c .before .if2 .taken),
           );
     }
@@ -211,19 +211,19 @@ settle-requires : tie.Need-settle-requires Inv-loop μ-loop
 settle-requires c κs =
     let k = c .before .before .before .before in
     let l = loop-of (taken-of k) in
-    took-fits (start-of l .pre .search .accepted) (exploring k .progress) (took-after k)
+    took-fits (start-of l .pre .search .accepted) (exploring k .searching .progress) (took-after k)
 
 add-settled : tie.Need-add-settled Inv-loop μ-loop
 add-settled c =
     let k = look-of (c .before .before) in
     let ok = start-of (loop-of (taken-of k)) .pre .search .accepted in
-    record { fits = omega (arith, took-place ok (exploring k .progress) (took-after k), ok .few) }
+    record { fits = omega (arith, took-place ok (exploring k .searching .progress) (took-after k), ok .few) }
 
 loop-less : tie.Need-loop-less Inv-loop μ-loop
 loop-less c =
     let k = look-of (c .before .before .before) in
     let l = loop-of (taken-of k) in
-    omega (arith, took-place (start-of l .pre .search .accepted) (exploring k .progress) (took-after k))
+    omega (arith, took-place (start-of l .pre .search .accepted) (exploring k .searching .progress) (took-after k))
 
 loop-again : tie.Need-loop-again Inv-loop μ-loop
 loop-again c =
@@ -233,7 +233,7 @@ loop-again c =
     let e = exploring k in
     let t = took-after k in
     let x =
-    exploring-stopped (start-of l .pre) e t (told k) (many-beaten (start-of l .pre) e t (k .look .ensures .count) (c .if3 .taken))
+    exploring-stopped (start-of l .pre) e t (told k) (many-beaten (from-site (start-of l .pre)) (e .searching) t (k .look .ensures .looked .count) (c .if3 .taken))
     in (
       rw (s .settle .ensures) (simp length-set (t .popped .frame .size ∙ flags-set k .size ∙ l .loop .inv .0)),
       rw (s .settle .ensures) x,
@@ -244,7 +244,7 @@ open-requires : tie.Need-open-requires Inv-loop μ-loop
 open-requires c κs =
     let s = c .before .before .before .before in
     let k = look-of s in
-    rw (s .settle .ensures) (took-follow (start-of (loop-of (taken-of k)) .pre .search .accepted) (exploring k .progress) (took-after k))
+    rw (s .settle .ensures) (took-follow (start-of (loop-of (taken-of k)) .pre .search .accepted) (exploring k .searching .progress) (took-after k))
 
 -- the place of the visit
 abbrev open-of : tie.After-wide Inv-loop μ-loop → tie.After-open Inv-loop μ-loop
@@ -261,7 +261,7 @@ place w =
     let e = exploring k in
     let t = took-after k in
     let few = o .before .before .if3 .left in
-    (w .wide .ensures, omega (arith, few-visits p (beyond p e t (few-expanded p e t (k .look .ensures .count) few))))
+    (w .wide .ensures, omega (arith, few-visits p (beyond p e t (few-expanded p e t (k .look .ensures .looked .count) few))))
 
 wide-requires : tie.Need-wide-requires Inv-loop μ-loop
 wide-requires c κs = search needs
@@ -281,8 +281,8 @@ slice-write-s c =
     let k = look-of (settle-of (open-of c)) in
     let l = loop-of (taken-of k) in
     let p = start-of l .pre in
-    let size = frame-settled (p .search .accepted) (exploring k .progress) (took-after k) (met-leads (p .search .accepted) _ _ _ (p .search .some)) (followed (open-of c)) .size in
-    omega (arith, place c .0, place c .1, size, flags-set k .size, l .loop .inv .1 .progress .area .queue .room, p .base)
+    let size = frame-settled (p .search .accepted) (exploring k .searching .progress) (took-after k) (leads (from-site p)) (followed (open-of c)) .size in
+    omega (arith, place c .0, place c .1, size, flags-set k .size, l .loop .inv .1 .searching .progress .area .queue .room, p .base)
 
 add-count : tie.Need-add-count Inv-loop μ-loop
 add-count c =
@@ -294,7 +294,7 @@ loop-less-2 c =
     let k = look-of (settle-of (open-of c)) in
     let l = loop-of (taken-of k) in
     let p = start-of l .pre in
-    omega (arith, took-place (p .search .accepted) (exploring k .progress) (took-after k))
+    omega (arith, took-place (p .search .accepted) (exploring k .searching .progress) (took-after k))
 
 loop-again-2 : tie.Need-loop-again-2 Inv-loop μ-loop
 loop-again-2 c =
@@ -306,11 +306,11 @@ loop-again-2 c =
     let e = exploring k in
     let t = took-after k in
     let few = o .before .before .if3 .left in
-    let y = few-expanded p e t (k .look .ensures .count) few in
+    let y = few-expanded p e t (k .look .ensures .looked .count) few in
     let x = exploring-opened p e t (told k) y (below s few) (followed o) in
     let v = visited-kept p e t (followed o .frame) (visited k) in
     let at = place c in (
-      simp length-set (frame-settled (p .search .accepted) (e .progress) t (met-leads (p .search .accepted) _ _ _ (p .search .some)) (followed o) .size ∙ flags-set k .size ∙ l .loop .inv .0),
+      simp length-set (frame-settled (p .search .accepted) (e .searching .progress) t (leads (from-site p)) (followed o) .size ∙ flags-set k .size ∙ l .loop .inv .0),
       rw (at .0) (exploring-kept p x (l .loop .count) _ (at .1)),
       rw (at .0) (visited-more p x (l .loop .count) _ (at .1) v (next-visit p e t y)),
     )

@@ -1,10 +1,10 @@
--- `searches::eager::look` meets its contract: the words from the found nodes on are lent, the found points verified, and their words cleared.
+-- `searches::look::look` meets its contract: the words from the found nodes on are lent, the found points verified, and their words cleared.
 -- Assumes nothing.
 use native.Mathlib.Omega.{arith}
 use Rattle.searches.proofs.LookLaws.{can-find, can-verify-all, found-few, clear-fits, looked}
 use borrow.Author.Needs.{needs}
-use Rattle.searches.proofs.eager.look.Statement.{statement}
-use Rattle.searches.proofs.eager.look.Tie as tie
+use Rattle.searches.proofs.look.look.Statement.{statement}
+use Rattle.searches.proofs.look.look.Tie as tie
 
 abbrev start-of : tie.After-nodes → tie.Start
 start-of n = n .before .before .before .before .before .before .before

@@ -1,21 +1,21 @@
--- `searches::eager::verify_found` meets its contract. The loop's invariant: the found points before the i-th are verified, and the words behind the
+-- `searches::look::verify_found` meets its contract. The loop's invariant: the found points before the i-th are verified, and the words behind the
 -- flags are as they were. The measure is what is left of them.
 -- Assumes nothing.
-use mathlib.Core.Path.{_≡_}
+use mathlib.Core.Path.{_≡_, refl}
 use Prim.Native.Nat.{_-_, _≤_}
 use native.Mathlib.Omega.{arith}
 use Rattle.network.specs.Network.{network}
-use Rattle.searches.specs.Flags.{VerifiedAll}
+use Rattle.searches.specs.Flags.{siteLists, VerifiedAll}
 use Rattle.searches.proofs.FlagLaws.{can-verify, all-more}
 use borrow.Author.Needs.{needs}
-use Rattle.searches.proofs.eager.verify_found.Statement.{statement}
-use Rattle.searches.proofs.eager.verify_found.Tie as tie
+use Rattle.searches.proofs.look.verify_found.Statement.{statement}
+use Rattle.searches.proofs.look.verify_found.Tie as tie
 
 abbrev Inv-loop : tie.InvT-loop
-Inv-loop starts neighbours weights points f₀ found q k a i₀ f i = (i ≤ found) × VerifiedAll (network starts neighbours weights) points q k f₀ f i
+Inv-loop starts neighbours weights points f₀ found site k a i₀ f i = (i ≤ found) × VerifiedAll (network starts neighbours weights) (siteLists (network starts neighbours weights) points f₀ site k) f₀ f i
 
 abbrev μ-loop : tie.MeasureT-loop
-μ-loop starts neighbours weights points f₀ found q k a i₀ f i = found - i
+μ-loop starts neighbours weights points f₀ found site k a i₀ f i = found - i
 
 abbrev start-of : tie.At-loop Inv-loop μ-loop → tie.Start Inv-loop μ-loop
 start-of l = l .before .before .before .before .before .before
@@ -27,7 +27,14 @@ mul-a : tie.Need-mul-a Inv-loop μ-loop
 mul-a c = search needs
 
 loop-holds : tie.Need-loop-holds Inv-loop μ-loop
-loop-holds c = search needs
+loop-holds c =
+    let f = c .before .before .before .before .before .pre .front in (
+      omega arith,
+      record {
+        flagged = record { size = refl; words = λ i h. refl; stops = λ v h. refl; flags = f .flags; grows = λ x h n. n };
+        told = λ i h e. absurd (omega arith);
+      },
+    )
 
 add-p : tie.Need-add-p Inv-loop μ-loop
 add-p c = search needs

@@ -1,14 +1,15 @@
--- `searches::eager::verify_once` meets its contract: the point was verified before, or only its own flags change, as `verify` says.
+-- `searches::look::verify_once` meets its contract: the point was verified before, or only its own flags change, as `verify` says.
 -- Assumes nothing.
 use native.Mathlib.Omega.{arith}
-use lib.ListN.{set, length-set}
+use mathlib.Core.Path.{_≡_}
+use lib.ListN.{getD, set, length-set}
 use Rattle.network.specs.Network.{network}
 use Rattle.expansion.specs.Visited.{VerifyLeft}
 use Rattle.searches.specs.Flags.{innerBase}
 use Rattle.searches.proofs.FlagLaws.{verified-seen, can-visit, left-size, verified-yes, verified-no}
 use borrow.Author.Needs.{needs}
-use Rattle.searches.proofs.eager.verify_once.Statement.{statement}
-use Rattle.searches.proofs.eager.verify_once.Tie as tie
+use Rattle.searches.proofs.look.verify_once.Statement.{statement}
+use Rattle.searches.proofs.look.verify_once.Tie as tie
 
 abbrev start-of : tie.After-wide → tie.Start
 start-of w = w .before .before .before .before .before .before
@@ -16,10 +17,14 @@ start-of w = w .before .before .before .before .before .before
 abbrev wide-of : tie.After-verify → tie.After-wide
 wide-of v = v .before .before .before .before
 
+-- it was not verified before
+new : (v : tie.After-verify) → getD (start-of (wide-of v) .args .f .now) (start-of (wide-of v) .args .p) 0 ≡ 0
+new v = rw (wide-of v .wide .ensures) at (v .before .before .if1 .left)
+
 verified : (v : tie.After-verify)
     → let a = start-of (wide-of v) .args in
     let g = network (a .starts .now) (a .neighbours .now) (a .weights .now) in
-    VerifyLeft g (a .points .now) (a .p) (a .q) (a .k) (set (a .f .now) (a .p) 1) (v .verify .last .1 .1 .1 .1 .0) (innerBase g) (v .verify .result)
+    VerifyLeft g (a .points .now) (a .p) (a .site) (a .k) (set (a .f .now) (a .p) 1) (v .verify .last .1 .1 .1 .1 .0) (innerBase g) (v .verify .result)
 verified v = rw (wide-of v .wide .ensures) at (v .verify .ensures)
 
 sub-n : tie.Need-sub-n
@@ -63,28 +68,28 @@ slice-write-f-2 : tie.Need-slice-write-f-2
 slice-write-f-2 c =
     let v = c .before .before .before in
     let w = wide-of v in
-    omega (arith, left-size (start-of w .pre) (verified v), start-of w .pre .front .size, start-of w .pre .inside, w .wide .ensures)
+    omega (arith, left-size (start-of w .pre) (new v) (verified v), start-of w .pre .front .size, start-of w .pre .inside, w .wide .ensures)
 
 same-length : tie.Need-same-length
 same-length c =
     let v = c .before .before .before in
-    simp length-set (left-size (start-of (wide-of v) .pre) (verified v))
+    simp length-set (left-size (start-of (wide-of v) .pre) (new v) (verified v))
 
 returns-2 : tie.Need-returns-2
 returns-2 c =
     let v = c .before .before .before in
     let w = wide-of v in
-    rw (w .wide .ensures) (verified-yes (start-of w .pre) (verified v) (c .if2 .taken))
+    rw (w .wide .ensures) (verified-yes (start-of w .pre) (new v) (verified v) (c .if2 .taken))
 
 same-length-2 : tie.Need-same-length-2
 same-length-2 c =
     let v = c .before .before .before in
-    left-size (start-of (wide-of v) .pre) (verified v)
+    left-size (start-of (wide-of v) .pre) (new v) (verified v)
 
 returns-3 : tie.Need-returns-3
 returns-3 c =
     let v = c .before .before .before in
-    verified-no (start-of (wide-of v) .pre) (verified v) (c .if2 .left)
+    verified-no (start-of (wide-of v) .pre) (new v) (verified v) (c .if2 .left)
 
 pub verify-once-spec : {M : Type 1} → statement M
 verify-once-spec =
