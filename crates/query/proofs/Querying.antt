@@ -3,7 +3,7 @@
 -- answers for no node, and only points have found flags.
 -- Assumes nothing.
 use Prim.Native.Nat.{ℕ, _+_, _≤_, _<_}
-use mathlib.Core.Path.{_≡_, sym, _∙_}
+use mathlib.Core.Path.{_≡_, sym, ap, _∙_}
 use mathlib.Core.Bool.{true}
 use mathlib.Core.Logic.{_≢_, inl, ⊎-elim}
 use mathlib.Core.List.{List, _++_}
@@ -14,7 +14,8 @@ use lib.Seq.{getD-take, length-take-le}
 use Rattle.network.specs.Network.{Network, nodeCount, neighboursOf}
 use Rattle.network.specs.Accepted.{Accepted}
 use Rattle.network.specs.Distance.{dist}
-use Rattle.network.specs.Points.{isListed}
+use Rattle.network.specs.Points.{countNearer, isListed}
+use Rattle.network.proofs.Distances.{dist-symmetric}
 use Rattle.network.specs.Nearest.{nearest}
 use Rattle.network.proofs.Rank.{Near}
 use Rattle.network.proofs.Rows.{nearest-length, near-listed}
@@ -196,7 +197,7 @@ module _ {g : Network} {P ids dists s₀ : List ℕ} {b q k K : ℕ} (c : CanExp
       seen : T → Looked g P (isListed g P q k) k (take b ys) zs v l r
       seen y =
           look .right y (took-walk ok (e .progress) t)
-          (λ f. took-exact ok (e .progress .area) (e .progress .searched) t leads (y, inl (λ b. omega arith)))
+          (λ f. took-exact ok (e .progress .area) (e .progress .searched) t leads (y, inl (λ b. omega (arith, ap (countNearer g P v) (dist-symmetric ok q v)))))
           (flags-same (λ i h. front i (omega (arith, low))) (e .right y .flags))
 
       pub arrived-size : length (zs ++ drop b ys) ≡ length xs

@@ -107,7 +107,7 @@ fn explore(
 }
 
 // Clears the words before the found nodes, and the outer area.
-fn wipe(s: &mut [u32], n: usize, b: usize, settled: usize, len: usize)
+pub fn wipe(s: &mut [u32], n: usize, b: usize, settled: usize, len: usize)
     requires { ⌜ CanWipe n (now s) b settled len ⌝ }
     ensures { λ _. ⌜ Wiped (now (s .entry)) (now (s .exit)) 0 ⌝ }
 {

@@ -1,0 +1,157 @@
+-- The nodes of a route are put in, one after the other: each has its mark and waits at label 0, once.
+-- Assumes nothing.
+use Prim.Native.Nat.{ℕ, zero, suc, _+_, _<_}
+use mathlib.Core.Path.{_≡_, refl, sym, ap, _∙_}
+use mathlib.Core.Bool.{Bool, true, false, not, _||_, false≢true}
+use mathlib.Core.Logic.{_≢_, inl, ⊎-elim}
+use mathlib.Core.List.{List, [], _∷_}
+use native.Mathlib.Decide.{ℕ-discrete}
+use native.Mathlib.Omega.{arith}
+use native.Mathlib.Numerals.{add-one}
+use lib.Dec.{eqb}
+use lib.ListN.{length, getD, set, take, length-set}
+use lib.Seq.{getD-set-same, getD-set-other}
+use borrow.Author.Tests.{eq-eqb, ne-eqb, eqb-true, not-false}
+use Rattle.network.specs.Routes.{onRoute}
+use Rattle.network.proofs.Tests.{bool-cases}
+use Rattle.network.proofs.Counts.{member-at}
+use Rattle.network.proofs.Routes.{on-member}
+use Rattle.expansion.specs.Queue.{keyOf}
+use Rattle.expansion.specs.Tags.{tagOf, nodeOf}
+use Rattle.expansion.specs.NodeQueue.{Free, NodeQueue, PushedNode}
+use Rattle.expansion.specs.Area.{queueBase}
+use Rattle.expansion.specs.Expand.{isWaiting}
+use Rattle.expansion.proofs.AreaLaws.{area-blank, area-pushed, key-own}
+use Rattle.expansion.proofs.Beside.{Beside, area-beside}
+use Rattle.expansion.proofs.Waiting.{pushed-waits}
+use Rattle.routes.specs.Route.{stopWord, CanStartRoute, RouteStarted}
+
+-- a node more of a list
+or-swap : (a b c : Bool) → (a || (b || c)) ≡ (b || (a || c))
+or-swap true true c = refl
+or-swap true false c = refl
+or-swap false true c = refl
+or-swap false false c = refl
+
+on-next : (v : ℕ) (R : List ℕ) (i : ℕ) → i < length R → onRoute (take (suc i) R) v ≡ (eqb v (getD R i 0) || onRoute (take i R) v)
+unfolding onRoute
+on-next v [] i h = absurd (omega arith)
+on-next v (r ∷ rs) zero h = refl
+on-next v (r ∷ rs) (suc i) h =
+    ap (λ b. eqb v r || b) (on-next v rs i (omega arith)) ∙ or-swap (eqb v r) (eqb v (getD rs i 0)) (onRoute (take i rs) v)
+
+on-more : (R : List ℕ) (i v : ℕ) → i < length R → onRoute (take (i + 1) R) v ≡ (eqb v (getD R i 0) || onRoute (take i R) v)
+on-more R i v h = ap (λ (j : ℕ). onRoute (take j R) v) (add-one i) ∙ on-next v R i h
+
+-- a node of a list is on it
+pub on-place : (R : List ℕ) (i : ℕ) → i < length R → onRoute R (getD R i 0) ≡ true
+on-place R i h = on-member R (getD R i 0) .1 (member-at 0 R i h)
+
+pub started-none : {n : ℕ} {R xs : List ℕ} {b : ℕ} → CanStartRoute n R xs b → RouteStarted n [] xs xs b 0
+unfolding onRoute
+started-none {xs = xs} {b} c =
+    record {
+      size = refl;
+      area = area-blank (record { zero = λ j h. c .blank .zero j (omega arith) }) (c .room) (c .few);
+      marks = λ v h. c .blank .zero v (omega arith);
+      rest = λ j h l. c .blank .zero j (omega arith);
+      waits = λ v h. ap not (eq-eqb (getD xs (b + v) 0) 0 (c .blank .zero (b + v) (omega arith)));
+    }
+
+-- lists with the same nodes
+started-same : {n : ℕ} {R T xs ys : List ℕ} {b len : ℕ} → ((v : ℕ) → onRoute T v ≡ onRoute R v) → RouteStarted n R xs ys b len → RouteStarted n T xs ys b len
+started-same same s =
+    record {
+      size = s .size;
+      area = s .area;
+      marks = λ v h. s .marks v h ∙ ap stopWord (sym (same v));
+      rest = s .rest;
+      waits = λ v h. s .waits v h ∙ sym (same v);
+    }
+
+module _ {n : ℕ} {R xs ys : List ℕ} {b i len : ℕ} (c : CanStartRoute n R xs b) (s : RouteStarted n (take i R) xs ys b len) (h : i < length R) where
+  abbrev node : ℕ
+  node = getD R i 0
+
+  pub inside : node < n
+  inside = c .inside node (on-place R i h)
+
+  pub mark-fits : node < length ys
+  mark-fits = omega (arith, inside, s .area .queue .room)
+
+  -- what the mark says
+  marked-on : getD ys node 0 ≢ 0 → onRoute (take i R) node ≡ true
+  marked-on m =
+      ⊎-elim
+      (λ e. e)
+      (λ e. absurd (m (s .marks node inside ∙ ap stopWord e)))
+      (bool-cases (onRoute (take i R) node))
+
+  -- the node was put in before
+  pub started-again : getD ys node 0 ≢ 0 → RouteStarted n (take (i + 1) R) xs ys b len
+  started-again m = started-same same s
+    where
+      same : (v : ℕ) → onRoute (take (i + 1) R) v ≡ onRoute (take i R) v
+      same v =
+          on-more R i v h
+          ∙ elim (ℕ-discrete v node) [
+            | yes e ↦ rw (e, eq-eqb node node refl) (sym (marked-on m))
+            | no d ↦ rw (ne-eqb v node d)
+          ]
+
+  -- it is put in now
+  module _ (new : getD ys node 0 ≡ 0) where
+    not-on : onRoute (take i R) node ≡ false
+    not-on =
+        ⊎-elim
+        (λ e. absurd (omega (arith, new, s .marks node inside, ap stopWord e)))
+        (λ e. e)
+        (bool-cases (onRoute (take i R) node))
+
+    beside : Beside ys (set ys node 2) b
+    beside = record { size = length-set ys node 2; words = λ j l. getD-set-other ys node j 2 0 (omega (arith, inside, c .before)) }
+
+    seat : getD (set ys node 2) (b + node) 0 ≡ 0
+    seat =
+        beside .words (b + node) (omega arith)
+        ∙ eqb-true (getD ys (b + node) 0) 0 (not-false (eqb (getD ys (b + node) 0) 0) (s .waits node inside ∙ not-on))
+
+    -- what `push` requires
+    pub queue-marked : NodeQueue n (set ys node 2) b (queueBase n b) len
+    queue-marked = area-beside beside (s .area) .queue
+
+    pub can-push : (tag : ℕ) → tag ≡ tagOf node node → (nodeOf (keyOf 0 tag) < n) × Free n (set ys node 2) b (nodeOf (keyOf 0 tag))
+    can-push tag e =
+        let low : node < 65536 = omega (arith, inside, c .few) in
+        rw (e, key-own 0 node node low low) (inside, inl seat)
+
+    module _ {zs : List ℕ} (p : PushedNode n (set ys node 2) zs b (queueBase n b) len (keyOf 0 (tagOf node node))) where
+      front : (j : ℕ) → j < b → getD zs j 0 ≡ getD (set ys node 2) j 0
+      front j l = p .frame .before j l
+
+      waits : (v : ℕ) → v < n → isWaiting zs b v ≡ onRoute (take (i + 1) R) v
+      waits v l =
+          pushed-waits (area-beside beside (s .area)) inside p v l
+          ∙ ap (λ (w : ℕ). eqb v node || not (eqb w 0)) (beside .words (b + v) (omega arith))
+          ∙ ap (λ w. eqb v node || w) (s .waits v l)
+          ∙ sym (on-more R i v h)
+
+      marks : (v : ℕ) → v < n → getD zs v 0 ≡ stopWord (onRoute (take (i + 1) R) v)
+      marks v l =
+          front v (omega (arith, c .before))
+          ∙ elim (ℕ-discrete v node) [
+            | yes e ↦
+                rw (e, on-more R i node h, eq-eqb node node refl) (getD-set-same ys node 2 0 mark-fits)
+            | no d ↦
+                rw (on-more R i v h, ne-eqb v node d) (getD-set-other ys node v 2 0 d ∙ s .marks v l)
+          ]
+
+      pub started-more : RouteStarted n (take (i + 1) R) xs zs b (len + 1)
+      started-more =
+          record {
+            size = p .frame .size ∙ length-set ys node 2 ∙ s .size;
+            area = area-pushed (area-beside beside (s .area)) inside seat p;
+            marks = marks;
+            rest = λ j l m. front j m ∙ getD-set-other ys node j 2 0 (omega (arith, inside)) ∙ s .rest j l m;
+            waits = waits;
+          }

@@ -1,0 +1,149 @@
+-- `routes::start` meets its contract. The invariant: the nodes before the present place have their mark and wait (`RouteStarted`). The measure is what is left of
+-- the list.
+-- Assumes nothing.
+use Prim.Native.Nat.{_-_, _≤_, _<_}
+use mathlib.Core.Path.{_≡_, refl}
+use native.Mathlib.Omega.{arith}
+use lib.ListN.{length, getD, set, take}
+use lib.Seq.{take-length}
+use Rattle.routes.specs.Route.{RouteStarted}
+use Rattle.routes.proofs.Starting.{started-none, inside, mark-fits, started-again, queue-marked, can-push, started-more}
+use borrow.Author.Needs.{needs}
+use Rattle.routes.proofs.start.Statement.{statement}
+use Rattle.routes.proofs.start.Tie as tie
+
+abbrev Inv-loop : tie.InvT-loop
+Inv-loop route s₀ b n len₀ i₀ s len i = (i ≤ length route) × RouteStarted n (take i route) s₀ s b len
+
+abbrev μ-loop : tie.MeasureT-loop
+μ-loop route s₀ b n len₀ i₀ s len i = length route - i
+
+-- the places: where the loop begins, and the node at hand
+abbrev start-of : tie.At-loop Inv-loop μ-loop → tie.Start Inv-loop μ-loop
+start-of l = l .before .before .before
+
+abbrev in-of : tie.After-wide Inv-loop μ-loop → tie.In-loop Inv-loop μ-loop
+in-of w = w .before .before
+
+abbrev loop-of : tie.After-wide Inv-loop μ-loop → tie.At-loop Inv-loop μ-loop
+loop-of w = in-of w .before
+
+-- its mark can be read
+fits : (w : tie.After-wide Inv-loop μ-loop) → w .wide .result < length (loop-of w .loop .s)
+fits w =
+    let l = loop-of w in
+    omega (arith, w .wide .ensures, mark-fits (start-of l .pre) (l .loop .inv .1) (in-of w .loop-test .taken))
+
+small : (w : tie.After-wide Inv-loop μ-loop) → w .wide .result < 65536
+small w =
+    let l = loop-of w in
+    omega (arith, w .wide .ensures, inside (start-of l .pre) (l .loop .inv .1) (in-of w .loop-test .taken), start-of l .pre .few)
+
+-- it was not put in before
+new : (t : tie.Then1 Inv-loop μ-loop)
+    → let l = loop-of (t .before .before) in
+    getD (l .loop .s) (getD (start-of l .args .route .now) (l .loop .i) 0) 0 ≡ 0
+new t = rw (t .before .before .wide .ensures) at (t .if1 .taken)
+
+loop-holds : tie.Need-loop-holds Inv-loop μ-loop
+loop-holds c = (omega arith, started-none (c .before .before .pre))
+
+mul-node : tie.Need-mul-node Inv-loop μ-loop
+mul-node c = search needs
+
+shared-slice-read-node : tie.Need-shared-slice-read-node Inv-loop μ-loop
+shared-slice-read-node c = search needs
+
+add-i : tie.Need-add-i Inv-loop μ-loop
+add-i c = search needs
+
+wide-requires : tie.Need-wide-requires Inv-loop μ-loop
+wide-requires c κs = search needs
+
+mul-mark : tie.Need-mul-mark Inv-loop μ-loop
+mul-mark c = record { fits = omega (arith, small c) }
+
+slice-read-mark : tie.Need-slice-read-mark Inv-loop μ-loop
+slice-read-mark c = fits (c .before)
+
+mul-s : tie.Need-mul-s Inv-loop μ-loop
+mul-s c = record { fits = omega (arith, small (c .before .before)) }
+
+slice-write-s : tie.Need-slice-write-s Inv-loop μ-loop
+slice-write-s c = fits (c .before .before)
+
+tag-of-requires : tie.Need-tag-of-requires Inv-loop μ-loop
+tag-of-requires c κs =
+    let w = c .before .before in
+    (omega (arith, small w, w .wide .ensures), omega (arith, small w, w .wide .ensures))
+
+push-requires : tie.Need-push-requires Inv-loop μ-loop
+push-requires c κs =
+    let t = c .before in
+    let m = t .before in
+    let w = m .before .before in
+    let l = loop-of w in
+    let p = start-of l .pre in
+    let i = l .loop .inv .1 in
+    let h = in-of w .loop-test .taken in
+    rw (w .wide .ensures) (queue-marked p i h (new m), can-push p i h (new m) (t .tag-of .result) (t .tag-of .ensures))
+
+add-len : tie.Need-add-len Inv-loop μ-loop
+add-len c = search needs
+
+loop-less : tie.Need-loop-less Inv-loop μ-loop
+loop-less c = search needs
+
+loop-again : tie.Need-loop-again Inv-loop μ-loop
+loop-again c =
+    let p = c .before .before in
+    let t = p .before .before in
+    let m = t .before in
+    let w = m .before .before in
+    let l = loop-of w in
+    let h = in-of w .loop-test .taken in
+    (omega (arith, h), started-more (start-of l .pre) (l .loop .inv .1) h (new m) (rw (t .tag-of .ensures, w .wide .ensures) at (p .push .ensures)))
+
+loop-less-2 : tie.Need-loop-less-2 Inv-loop μ-loop
+loop-less-2 c = search needs
+
+loop-again-2 : tie.Need-loop-again-2 Inv-loop μ-loop
+loop-again-2 c =
+    let w = c .before .before in
+    let l = loop-of w in
+    let h = in-of w .loop-test .taken in
+    (omega (arith, h), started-again (start-of l .pre) (l .loop .inv .1) h (rw (w .wide .ensures) at (c .if1 .left)))
+
+same-length : tie.Need-same-length Inv-loop μ-loop
+same-length c = search needs
+
+returns : tie.Need-returns Inv-loop μ-loop
+returns c =
+    let l = c .before in
+    let e : l .loop .i ≡ length (start-of l .args .route .now) = omega (arith, l .loop .inv .0, c .loop-test .left) in
+    rw (e, take-length (start-of l .args .route .now)) at (l .loop .inv .1)
+
+pub start-spec : {M : Type 1} → statement M
+start-spec =
+    tie.close
+    (tie.spec
+    Inv-loop
+    μ-loop
+    loop-holds
+    mul-node
+    shared-slice-read-node
+    add-i
+    wide-requires
+    mul-mark
+    slice-read-mark
+    mul-s
+    slice-write-s
+    tag-of-requires
+    push-requires
+    add-len
+    loop-less
+    loop-again
+    loop-less-2
+    loop-again-2
+    same-length
+    returns)
