@@ -1,5 +1,5 @@
-// Network N of document 01 through every public call, with its cases P1 to P10, the lease list, sites against a rival's and the
-// twelve refusals.
+// Network N of document 01 through every public call, with its cases P1 to P10, the lease list, sites against a rival's, routes and
+// the twelve refusals.
 use network_n::refusals;
 use network_n::text::put;
 
@@ -7,6 +7,7 @@ mod cases;
 mod lease;
 mod queries;
 mod rivals;
+mod streets;
 mod updates;
 
 fn show_network() {
@@ -39,6 +40,7 @@ fn main() {
     lease::show();
     rivals::show_households();
     rivals::show_nearer_rows();
+    streets::show_routes();
     refusals::show_networks();
     refusals::show_arguments();
     refusals::show_short_answers();

@@ -166,6 +166,20 @@ pub fn sheet(households: &[u8; 6], answers: &mut [u32; 6]) -> u32 {
     )
 }
 
+pub fn route(route: &[u32], k: u32, answers: &mut [u32; 6]) -> Listing {
+    let mut scratch = [0; SCRATCH];
+    overlap::overlap_route(
+        &STARTS,
+        &NEIGHBOURS,
+        &WEIGHTS,
+        &POINTS,
+        route,
+        k,
+        &mut scratch,
+        answers,
+    )
+}
+
 pub fn build(places: u32, ids: &mut [u32], distances: &mut [u32]) -> u32 {
     build_of(&POINTS, places, ids, distances)
 }

@@ -17,6 +17,7 @@ ghost use Rattle.table_calls.specs.Updated.{Arrays, ChangeExported};
 ghost use Rattle.site_calls.specs.Exported.{NearestExported, VerifyExported, SearchExported, EagerExported};
 ghost use Rattle.household_calls.specs.Households.{householdsOutcome};
 ghost use Rattle.household_calls.specs.Sheet.{sheetOutcome};
+ghost use Rattle.route_calls.specs.Route.{routeOutcome};
 ghost use Rattle.nearer_row.specs.Nearer.{rowNumber, rowOutcome};
 ghost use Rattle.nearer_row.specs.Part.{PartReturned};
 pub use conditions::answers::Listing;
@@ -29,6 +30,7 @@ use conditions::answers::verdict_of;
 use conditions::kind::Kind;
 use household_calls::entries;
 use household_calls::list;
+use route_calls::call;
 use site_calls::distances;
 use site_calls::eager;
 use site_calls::lazy;
@@ -468,6 +470,38 @@ pub extern "C" fn overlap_sheet(
         scratch,
         answers,
     )
+}
+
+// The lockers that a route touches. Lent: the network, points, the route as a list of nodes, of any length, scratch of S entries with m = k, and an array for
+// n answers. Returned: number 0 and the length of the list, or 1 to 5, 6, 7 of each node of the route, 9, 10, 14. Accepted: the answers are the listed nodes,
+// ascending, then the old entries, and the whole scratch is zero. Refused: nothing is written. Document 02: 'Listed is the union of what the single nodes
+// receive, without the points that stand on the route itself.'
+#[no_mangle]
+pub extern "C" fn overlap_route(
+    starts: &[u32],
+    neighbours: &[u32],
+    weights: &[u32],
+    points: &[u8],
+    route: &[u32],
+    k: u32,
+    scratch: &mut [u32],
+    answers: &mut [u32],
+) -> Listing
+    ensures { λ r.
+        let g = network (now (starts .entry)) (now (neighbours .entry)) (now (weights .entry)) in
+        let outcome = routeOutcome g (now (points .entry)) (now (route .entry)) k (now (scratch .entry)) (now (answers .entry)) in
+        ⌜ SearchExported outcome r (now (scratch .exit)) (now (answers .exit)) ⌝ }
+{
+    listing_of(call::answer(
+        starts,
+        neighbours,
+        weights,
+        points,
+        route,
+        k,
+        scratch,
+        answers,
+    ))
 }
 
 // The number of the nearer row. Lent: the network, the junction, one K, and both tables of any contents, and nothing is written. Returned: 0, or 1 to 5, 7,
