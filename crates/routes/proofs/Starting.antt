@@ -40,8 +40,11 @@ on-next v (r ∷ rs) zero h = refl
 on-next v (r ∷ rs) (suc i) h =
     ap (λ b. eqb v r || b) (on-next v rs i (omega arith)) ∙ or-swap (eqb v r) (eqb v (getD rs i 0)) (onRoute (take i rs) v)
 
-on-more : (R : List ℕ) (i v : ℕ) → i < length R → onRoute (take (i + 1) R) v ≡ (eqb v (getD R i 0) || onRoute (take i R) v)
-on-more R i v h = ap (λ (j : ℕ). onRoute (take j R) v) (add-one i) ∙ on-next v R i h
+on-more : (R : List ℕ) (i v x : ℕ) → i < length R → x ≡ getD R i 0 → onRoute (take (i + 1) R) v ≡ (eqb v x || onRoute (take i R) v)
+on-more R i v x h is =
+    ap (λ (j : ℕ). onRoute (take j R) v) (add-one i)
+    ∙ on-next v R i h
+    ∙ ap (λ (y : ℕ). eqb v y || onRoute (take i R) v) (sym is)
 
 -- a node of a list is on it
 pub on-place : (R : List ℕ) (i : ℕ) → i < length R → onRoute R (getD R i 0) ≡ true
@@ -69,89 +72,82 @@ started-same same s =
       waits = λ v h. s .waits v h ∙ sym (same v);
     }
 
-module _ {n : ℕ} {R xs ys : List ℕ} {b i len : ℕ} (c : CanStartRoute n R xs b) (s : RouteStarted n (take i R) xs ys b len) (h : i < length R) where
-  abbrev node : ℕ
-  node = getD R i 0
-
-  pub inside : node < n
-  inside = c .inside node (on-place R i h)
-
-  pub mark-fits : node < length ys
+-- a node x of the list has its turn
+module _ (i : ℕ) {n : ℕ} {R xs ys : List ℕ} {b len : ℕ} (c : CanStartRoute n R xs b) (s : RouteStarted n (take i R) xs ys b len) {x : ℕ} (inside : x < n) where
+  pub mark-fits : x < length ys
   mark-fits = omega (arith, inside, s .area .queue .room)
 
   -- what the mark says
-  marked-on : getD ys node 0 ≢ 0 → onRoute (take i R) node ≡ true
+  marked-on : getD ys x 0 ≢ 0 → onRoute (take i R) x ≡ true
   marked-on m =
       ⊎-elim
       (λ e. e)
-      (λ e. absurd (m (s .marks node inside ∙ ap stopWord e)))
-      (bool-cases (onRoute (take i R) node))
+      (λ e. absurd (m (s .marks x inside ∙ ap stopWord e)))
+      (bool-cases (onRoute (take i R) x))
 
-  -- the node was put in before
-  pub started-again : getD ys node 0 ≢ 0 → RouteStarted n (take (i + 1) R) xs ys b len
-  started-again m = started-same same s
+  -- it was put in before
+  pub started-again : i < length R → x ≡ getD R i 0 → getD ys x 0 ≢ 0 → RouteStarted n (take (i + 1) R) xs ys b len
+  started-again h is m = started-same same s
     where
       same : (v : ℕ) → onRoute (take (i + 1) R) v ≡ onRoute (take i R) v
       same v =
-          on-more R i v h
-          ∙ elim (ℕ-discrete v node) [
-            | yes e ↦ rw (e, eq-eqb node node refl) (sym (marked-on m))
-            | no d ↦ rw (ne-eqb v node d)
+          on-more R i v x h is
+          ∙ elim (ℕ-discrete v x) [
+            | yes e ↦ rw (e, eq-eqb x x refl) (sym (marked-on m))
+            | no d ↦ rw (ne-eqb v x d)
           ]
 
   -- it is put in now
-  module _ (new : getD ys node 0 ≡ 0) where
-    not-on : onRoute (take i R) node ≡ false
+  module _ (new : getD ys x 0 ≡ 0) where
+    not-on : onRoute (take i R) x ≡ false
     not-on =
         ⊎-elim
-        (λ e. absurd (omega (arith, new, s .marks node inside, ap stopWord e)))
+        (λ e. absurd (omega (arith, new, s .marks x inside, ap stopWord e)))
         (λ e. e)
-        (bool-cases (onRoute (take i R) node))
+        (bool-cases (onRoute (take i R) x))
 
-    beside : Beside ys (set ys node 2) b
-    beside = record { size = length-set ys node 2; words = λ j l. getD-set-other ys node j 2 0 (omega (arith, inside, c .before)) }
+    beside : Beside ys (set ys x 2) b
+    beside = record { size = length-set ys x 2; words = λ j l. getD-set-other ys x j 2 0 (omega (arith, inside, c .before)) }
 
-    seat : getD (set ys node 2) (b + node) 0 ≡ 0
+    seat : getD (set ys x 2) (b + x) 0 ≡ 0
     seat =
-        beside .words (b + node) (omega arith)
-        ∙ eqb-true (getD ys (b + node) 0) 0 (not-false (eqb (getD ys (b + node) 0) 0) (s .waits node inside ∙ not-on))
+        beside .words (b + x) (omega arith)
+        ∙ eqb-true (getD ys (b + x) 0) 0 (not-false (eqb (getD ys (b + x) 0) 0) (s .waits x inside ∙ not-on))
 
     -- what `push` requires
-    pub queue-marked : NodeQueue n (set ys node 2) b (queueBase n b) len
+    pub queue-marked : NodeQueue n (set ys x 2) b (queueBase n b) len
     queue-marked = area-beside beside (s .area) .queue
 
-    pub can-push : (tag : ℕ) → tag ≡ tagOf node node → (nodeOf (keyOf 0 tag) < n) × Free n (set ys node 2) b (nodeOf (keyOf 0 tag))
+    pub can-push : (tag : ℕ) → tag ≡ tagOf x x → (nodeOf (keyOf 0 tag) < n) × Free n (set ys x 2) b (nodeOf (keyOf 0 tag))
     can-push tag e =
-        let low : node < 65536 = omega (arith, inside, c .few) in
-        rw (e, key-own 0 node node low low) (inside, inl seat)
+        let low : x < 65536 = omega (arith, inside, c .few) in
+        rw (e, key-own 0 x x low low) (inside, inl seat)
 
-    module _ {zs : List ℕ} (p : PushedNode n (set ys node 2) zs b (queueBase n b) len (keyOf 0 (tagOf node node))) where
-      front : (j : ℕ) → j < b → getD zs j 0 ≡ getD (set ys node 2) j 0
+    module _ (h : i < length R) (is : x ≡ getD R i 0) {zs : List ℕ} (p : PushedNode n (set ys x 2) zs b (queueBase n b) len (keyOf 0 (tagOf x x))) where
+      front : (j : ℕ) → j < b → getD zs j 0 ≡ getD (set ys x 2) j 0
       front j l = p .frame .before j l
 
       waits : (v : ℕ) → v < n → isWaiting zs b v ≡ onRoute (take (i + 1) R) v
       waits v l =
           pushed-waits (area-beside beside (s .area)) inside p v l
-          ∙ ap (λ (w : ℕ). eqb v node || not (eqb w 0)) (beside .words (b + v) (omega arith))
-          ∙ ap (λ w. eqb v node || w) (s .waits v l)
-          ∙ sym (on-more R i v h)
+          ∙ ap (λ (w : ℕ). eqb v x || not (eqb w 0)) (beside .words (b + v) (omega arith))
+          ∙ ap (λ w. eqb v x || w) (s .waits v l)
+          ∙ sym (on-more R i v x h is)
 
       marks : (v : ℕ) → v < n → getD zs v 0 ≡ stopWord (onRoute (take (i + 1) R) v)
       marks v l =
           front v (omega (arith, c .before))
-          ∙ elim (ℕ-discrete v node) [
-            | yes e ↦
-                rw (e, on-more R i node h, eq-eqb node node refl) (getD-set-same ys node 2 0 mark-fits)
-            | no d ↦
-                rw (on-more R i v h, ne-eqb v node d) (getD-set-other ys node v 2 0 d ∙ s .marks v l)
+          ∙ elim (ℕ-discrete v x) [
+            | yes e ↦ rw (e, on-more R i x x h is, eq-eqb x x refl) (getD-set-same ys x 2 0 mark-fits)
+            | no d ↦ rw (on-more R i v x h is, ne-eqb v x d) (getD-set-other ys x v 2 0 d ∙ s .marks v l)
           ]
 
       pub started-more : RouteStarted n (take (i + 1) R) xs zs b (len + 1)
       started-more =
           record {
-            size = p .frame .size ∙ length-set ys node 2 ∙ s .size;
+            size = p .frame .size ∙ length-set ys x 2 ∙ s .size;
             area = area-pushed (area-beside beside (s .area)) inside seat p;
             marks = marks;
-            rest = λ j l m. front j m ∙ getD-set-other ys node j 2 0 (omega (arith, inside)) ∙ s .rest j l m;
+            rest = λ j l m. front j m ∙ getD-set-other ys x j 2 0 (omega (arith, inside)) ∙ s .rest j l m;
             waits = waits;
           }

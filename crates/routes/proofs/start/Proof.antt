@@ -1,13 +1,15 @@
 -- `routes::start` meets its contract. The invariant: the nodes before the present place have their mark and wait (`RouteStarted`). The measure is what is left of
 -- the list.
 -- Assumes nothing.
-use Prim.Native.Nat.{_-_, _≤_, _<_}
-use mathlib.Core.Path.{_≡_, refl}
+use Prim.Native.Nat.{ℕ, _-_, _≤_, _<_}
+use mathlib.Core.Path.{_≡_, sym, ap, _∙_}
 use native.Mathlib.Omega.{arith}
-use lib.ListN.{length, getD, set, take}
+use lib.ListN.{length, take}
 use lib.Seq.{take-length}
+use Rattle.network.specs.Routes.{onRoute}
+use Rattle.expansion.specs.Tags.{tagOf}
 use Rattle.routes.specs.Route.{RouteStarted}
-use Rattle.routes.proofs.Starting.{started-none, inside, mark-fits, started-again, queue-marked, can-push, started-more}
+use Rattle.routes.proofs.Starting.{on-place, started-none, mark-fits, started-again, queue-marked, can-push, started-more}
 use borrow.Author.Needs.{needs}
 use Rattle.routes.proofs.start.Statement.{statement}
 use Rattle.routes.proofs.start.Tie as tie
@@ -28,22 +30,27 @@ in-of w = w .before .before
 abbrev loop-of : tie.After-wide Inv-loop μ-loop → tie.At-loop Inv-loop μ-loop
 loop-of w = in-of w .before
 
+-- it is a node of the list
+inside : (w : tie.After-wide Inv-loop μ-loop) → w .wide .result < start-of (loop-of w) .args .n
+inside w =
+    let l = loop-of w in
+    let R = start-of l .args .route .now in
+    start-of l .pre .inside _ (ap (onRoute R) (w .wide .ensures) ∙ on-place R _ (omega (arith, in-of w .loop-test .taken)))
+
 -- its mark can be read
 fits : (w : tie.After-wide Inv-loop μ-loop) → w .wide .result < length (loop-of w .loop .s)
-fits w =
-    let l = loop-of w in
-    omega (arith, w .wide .ensures, mark-fits (start-of l .pre) (l .loop .inv .1) (in-of w .loop-test .taken))
+fits w = let l = loop-of w in mark-fits (l .loop .i) (start-of l .pre) (l .loop .inv .1) (inside w)
 
 small : (w : tie.After-wide Inv-loop μ-loop) → w .wide .result < 65536
-small w =
-    let l = loop-of w in
-    omega (arith, w .wide .ensures, inside (start-of l .pre) (l .loop .inv .1) (in-of w .loop-test .taken), start-of l .pre .few)
+small w = omega (arith, inside w, start-of (loop-of w) .pre .few)
 
--- it was not put in before
-new : (t : tie.Then1 Inv-loop μ-loop)
-    → let l = loop-of (t .before .before) in
-    getD (l .loop .s) (getD (start-of l .args .route .now) (l .loop .i) 0) 0 ≡ 0
-new t = rw (t .before .before .wide .ensures) at (t .if1 .taken)
+-- the tag of its entry
+own : (t : tie.After-tag-of Inv-loop μ-loop)
+    → let x = t .before .before .before .wide .result in
+    t .tag-of .result ≡ tagOf x x
+own t =
+    let w = t .before .before .before in
+    t .tag-of .ensures ∙ ap (λ (x : ℕ). tagOf x x) (sym (w .wide .ensures))
 
 loop-holds : tie.Need-loop-holds Inv-loop μ-loop
 loop-holds c = (omega arith, started-none (c .before .before .pre))
@@ -85,8 +92,7 @@ push-requires c κs =
     let l = loop-of w in
     let p = start-of l .pre in
     let i = l .loop .inv .1 in
-    let h = in-of w .loop-test .taken in
-    rw (w .wide .ensures) (queue-marked p i h (new m), can-push p i h (new m) (t .tag-of .result) (t .tag-of .ensures))
+    (queue-marked (l .loop .i) p i (inside w) (m .if1 .taken), can-push (l .loop .i) p i (inside w) (m .if1 .taken) (t .tag-of .result) (own t))
 
 add-len : tie.Need-add-len Inv-loop μ-loop
 add-len c = search needs
@@ -102,7 +108,11 @@ loop-again c =
     let w = m .before .before in
     let l = loop-of w in
     let h = in-of w .loop-test .taken in
-    (omega (arith, h), started-more (start-of l .pre) (l .loop .inv .1) h (new m) (rw (t .tag-of .ensures, w .wide .ensures) at (p .push .ensures)))
+    let e = p .push .ensures in (
+      omega (arith, h),
+      -- the node put in is the one at the present place: must-fail/first_node_only is refused here
+      started-more (l .loop .i) (start-of l .pre) (l .loop .inv .1) (inside w) (m .if1 .taken) h (w .wide .ensures) (rw (own t) at e),
+    )
 
 loop-less-2 : tie.Need-loop-less-2 Inv-loop μ-loop
 loop-less-2 c = search needs
@@ -112,7 +122,7 @@ loop-again-2 c =
     let w = c .before .before in
     let l = loop-of w in
     let h = in-of w .loop-test .taken in
-    (omega (arith, h), started-again (start-of l .pre) (l .loop .inv .1) h (rw (w .wide .ensures) at (c .if1 .left)))
+    (omega (arith, h), started-again (l .loop .i) (start-of l .pre) (l .loop .inv .1) (inside w) h (w .wide .ensures) (c .if1 .left))
 
 same-length : tie.Need-same-length Inv-loop μ-loop
 same-length c = search needs

@@ -1,7 +1,8 @@
 -- `searches::look::verify_once` meets its contract: the point was verified before, or only its own flags change, as `verify` says.
 -- Assumes nothing.
 use native.Mathlib.Omega.{arith}
-use mathlib.Core.Path.{_≡_}
+use Prim.Native.Nat.{ℕ}
+use mathlib.Core.Path.{_≡_, ap}
 use lib.ListN.{getD, set, length-set}
 use Rattle.network.specs.Network.{network}
 use Rattle.expansion.specs.Visited.{VerifyLeft}
@@ -17,9 +18,11 @@ start-of w = w .before .before .before .before .before .before
 abbrev wide-of : tie.After-verify → tie.After-wide
 wide-of v = v .before .before .before .before
 
--- it was not verified before
+-- it was not verified before, and is not on the route: must-fail/route_point_verified is refused here
 new : (v : tie.After-verify) → getD (start-of (wide-of v) .args .f .now) (start-of (wide-of v) .args .p) 0 ≡ 0
-new v = rw (wide-of v .wide .ensures) at (v .before .before .if1 .left)
+new v =
+    let w = wide-of v in
+    omega (arith, v .before .before .if1 .left, ap (λ (i : ℕ). getD (start-of w .args .f .now) i 0) (w .wide .ensures))
 
 verified : (v : tie.After-verify)
     → let a = start-of (wide-of v) .args in
@@ -42,7 +45,7 @@ slice-read-seen c = search needs
 returns : tie.Need-returns
 returns c =
     let w = c .before .before in
-    verified-seen (start-of w .pre) (rw (w .wide .ensures) at (c .if1 .taken))
+    verified-seen (start-of w .pre) (omega (arith, c .if1 .taken, ap (λ (i : ℕ). getD (start-of w .args .f .now) i 0) (w .wide .ensures)))
 
 mul-f : tie.Need-mul-f
 mul-f c = search needs
