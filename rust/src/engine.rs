@@ -426,6 +426,46 @@ impl Engine {
         Ok(answers)
     }
 
+    /// The lockers that any stop of a route touches. Document 02 (Ask 7): "The input is a list of nodes,
+    /// each joined by a road to the one after it. Listed is the union of what the single nodes receive,
+    /// without the points that stand on the route itself."
+    ///
+    /// What a single node receives is the list that [`eager`](Self::eager) gives, and on a route of one
+    /// node this is that list. The route may come to a node several times.
+    ///
+    /// ```
+    /// use overlap::{Engine, Network, Points, Refusal};
+    ///
+    /// # fn main() -> Result<(), Refusal> {
+    /// // Network N of document 01.
+    /// let roads = [(0, 1, 4), (0, 3, 5), (1, 2, 3), (2, 4, 7), (3, 4, 3)];
+    /// let network = Network::from_roads(6, &roads)?;
+    /// let points = Points::on(&network, [2, 4, 5])?;
+    /// let mut engine = Engine::new(&network);
+    ///
+    /// // For k = 1 a site on node 3 receives 4, one on 0 or 1 receives 2.
+    /// assert_eq!(engine.route(&points, &[3, 0, 1], 1)?, [2, 4]);
+    /// assert_eq!(engine.route(&points, &[0], 1)?, [2]);
+    ///
+    /// // To the junction of a locker and back: it stands on the route itself.
+    /// assert_eq!(engine.route(&points, &[0, 1, 2, 1], 1)?, [4]);
+    ///
+    /// // No road joins 0 and 2.
+    /// assert_eq!(engine.route(&points, &[1, 0, 2], 1), Err(Refusal::Route));
+    /// # Ok(())
+    /// # }
+    /// ```
+    ///
+    /// # Errors
+    ///
+    /// The first condition met of 6, 7, 9 and 14.
+    pub fn route(&mut self, points: &Points, route: &[u32], k: u32) -> Result<&[u32], Refusal> {
+        let (scratch, answers) = self.buffers.both(&self.network, Words::S(k));
+        let (network, marks) = (self.network.lend(), points.marks());
+        let listing = calls::route(network, marks, route, k, scratch, answers);
+        Ok(self.listed(listing)?.points)
+    }
+
     /// The list that a search has put into the answers.
     fn listed(&self, listing: Listing) -> Result<Listed<'_>, Refusal> {
         let Listing { count, length, .. } = listing.accepted()?;

@@ -5,17 +5,17 @@
 //! proved: each call of it meets a contract that says what document 01, the requirements of the
 //! build, says, with what document 02 changed: several lockers at one junction (Ask 8), less scratch
 //! for eager, verify and the short query (Ask 5), eager's visits (Ask 4), no locker on the list of a
-//! site at its own junction (Ask 6), the households that a site wins against a rival's (Ask 1), and
-//! the two nearest for the short query (Ask 10). Each item of this crate quotes the sentence that it
-//! is.
+//! site at its own junction (Ask 6), the households that a site wins against a rival's (Ask 1), the two
+//! nearest for the short query (Ask 10), and the lockers that any stop of a route touches (Ask 7). Each
+//! item of this crate quotes the sentence that it is.
 //!
 //! | Type | What it is |
 //! |---|---|
 //! | [`Network`] | junctions and roads; only networks that the network check accepts exist |
 //! | [`Points`] | the lockers: how many stand on each node, 0 to 15; households and sites as well |
-//! | [`Engine`] | the calls without a table, on one network: [distances](Engine::distances), [nearest](Engine::nearest), [verify](Engine::verify), [eager](Engine::eager), [the short query](Engine::short_query), [lazy](Engine::lazy), [lazy-EP](Engine::lazy_ep), [households](Engine::households), [the sheet](Engine::sheet) |
+//! | [`Engine`] | the calls without a table, on one network: [distances](Engine::distances), [nearest](Engine::nearest), [verify](Engine::verify), [eager](Engine::eager), [the short query](Engine::short_query), [lazy](Engine::lazy), [lazy-EP](Engine::lazy_ep), [households](Engine::households), [the sheet](Engine::sheet), [routes](Engine::route) |
 //! | [`Table`] | the K nearest points of each node, with the points that it stands for: [build](Table::build), [insert](Table::insert), [remove](Table::remove), [query](Table::query), [check](Table::check), [the nearer row](Table::nearer_row) |
-//! | [`Refusal`] | why a call was refused: one case for each of document 01's numbers |
+//! | [`Refusal`] | why a call was refused: one case for each number of document 01, and of document 02 |
 //!
 //! [`road_list`] reads a network and its points from plain text, with messages that name the line,
 //! and [`calls`] has each call over slices that the caller owns, as `overlap.h` has them for C. The
@@ -53,6 +53,10 @@
 //! let sites = Points::on(&network, [2, 4])?;
 //! assert_eq!(engine.households(&households, &sites, 2, 1)?, [0, 1]);
 //! assert_eq!(engine.sheet(&households, &sites)?, [0, 0, 3, 0, 1, 0]);
+//!
+//! // A van that stops at 3, 0 and 1 touches the locker on 4 from 3, and the one on 2 from 0 and 1.
+//! let points = Points::on(&network, [2, 4, 5])?;
+//! assert_eq!(engine.route(&points, &[3, 0, 1], 1)?, [2, 4]);
 //!
 //! // N has no node 6.
 //! assert_eq!(table.query(6, 1), Err(Refusal::Node));

@@ -3,7 +3,8 @@
 use std::error::Error;
 use std::fmt;
 
-/// A refused call: the first condition of document 01's table of refusals that it met.
+/// A refused call: the first condition that it met, of document 01's table of refusals and of those that
+/// document 02 adds.
 ///
 /// Document 01: "Conditions are tried from 1 upward, those whose subject the call has; the first
 /// met is returned, and a number is returned only then."
@@ -36,7 +37,7 @@ pub enum Refusal {
     /// 6: points (or households, or sites) has not n entries, or a byte above 15. Document 02 (Ask 8):
     /// "6 allows bytes up to 15". (Ask 1): "6 covers each byte array".
     Points = 6,
-    /// 7: "a node given is n or more".
+    /// 7: "a node given is n or more". Document 02 (Ask 7): "7 for each node of the list", of a route.
     Node = 7,
     /// 8: "K not 2 to 17, or a table array not n × K long". Document 02 (Ask 1): "8 each table, in the
     /// order lent."
@@ -54,18 +55,21 @@ pub enum Refusal {
     Mark = 11,
     /// 12: "eager: the expanded count would exceed the limit".
     Limit = 12,
+    /// 14: a route is no list of nodes "each joined by a road to the one after it". Document 02 (Ask 7):
+    /// "14, after 12, if the list is empty or two nodes in sequence have no road."
+    Route = 14,
 }
 
 impl Refusal {
-    /// All of them, by number.
+    /// All of them, by number. 13 is the number of a request that has not landed.
     ///
     /// ```
     /// use overlap::Refusal;
     ///
     /// let numbers: Vec<u32> = Refusal::ALL.iter().map(|refusal| refusal.number()).collect();
-    /// assert!(numbers.into_iter().eq(1..=12));
+    /// assert!(numbers.into_iter().eq((1..=12).chain([14])));
     /// ```
-    pub const ALL: [Self; 12] = [
+    pub const ALL: [Self; 13] = [
         Self::StartsLength,
         Self::Starts,
         Self::Neighbours,
@@ -78,14 +82,16 @@ impl Refusal {
         Self::Short,
         Self::Mark,
         Self::Limit,
+        Self::Route,
     ];
 
-    /// The refusal of this number, or nothing where document 01 has no such number.
+    /// The refusal of this number, or nothing where no call returns it.
     ///
     /// ```
     /// use overlap::Refusal;
     ///
     /// assert_eq!(Refusal::from_number(12), Some(Refusal::Limit));
+    /// assert_eq!(Refusal::from_number(14), Some(Refusal::Route));
     /// assert_eq!(Refusal::from_number(0), None);
     /// assert_eq!(Refusal::from_number(13), None);
     /// ```
@@ -96,7 +102,7 @@ impl Refusal {
             .find(|refusal| refusal.number() == number)
     }
 
-    /// The number of document 01.
+    /// The number of document 01, or of document 02 for those that it adds.
     ///
     /// ```
     /// assert_eq!(overlap::Refusal::Mark.number(), 11);
@@ -107,7 +113,8 @@ impl Refusal {
     }
 
     /// The condition, in the wording of document 01, for 10 with the length of Ask 5 and the array of
-    /// Ask 4, for 6 and 11 with the bounds of Ask 8, for 6 with the arrays of Ask 1.
+    /// Ask 4, for 6 and 11 with the bounds of Ask 8, for 6 with the arrays of Ask 1; of 14 in that of
+    /// Ask 7.
     ///
     /// ```
     /// assert_eq!(overlap::Refusal::Node.condition(), "a node given is n or more");
@@ -135,6 +142,7 @@ impl Refusal {
             }
             Self::Mark => "insert at 15 lockers; remove or verify at none",
             Self::Limit => "eager: the expanded count would exceed the limit",
+            Self::Route => "route: the list is empty or two nodes in sequence have no road",
         }
     }
 }

@@ -177,7 +177,7 @@ impl EngineCalls {
 #[test]
 fn the_calls_are_the_same_in_all_three() {
     let header = header::calls();
-    assert_eq!(header.len(), 17);
+    assert_eq!(header.len(), 18);
     assert_eq!(rust::calls(WRAPPER), header);
     assert_eq!(EngineCalls::read().exported, header);
 }

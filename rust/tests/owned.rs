@@ -840,22 +840,22 @@ mod refusals {
     use super::*;
 
     #[test]
-    fn are_the_numbers_1_to_12() {
-        for (number, refusal) in (1..).zip(Refusal::ALL) {
+    fn are_the_numbers_1_to_12_and_14() {
+        for (number, refusal) in (1..=12).chain([14]).zip(Refusal::ALL) {
             assert_eq!(refusal.number(), number);
             assert_eq!(Refusal::from_number(number), Some(refusal));
             let message = format!("refused by number {number}: {}", refusal.condition());
             assert_eq!(refusal.to_string(), message);
         }
-        for number in [0, 13, u32::MAX] {
+        for number in [0, 13, 15, u32::MAX] {
             assert_eq!(Refusal::from_number(number), None);
         }
     }
 
     /// The column "Condition" of document 01's table of refusals, 10 with the length of Ask 5 and the
-    /// array of Ask 4, 6 and 11 with the bounds of Ask 8, 6 with the arrays of Ask 1.
+    /// array of Ask 4, 6 and 11 with the bounds of Ask 8, 6 with the arrays of Ask 1; 14 of Ask 7.
     #[test]
-    fn have_the_wording_of_document_01() {
+    fn have_the_wording_of_the_documents() {
         let conditions = [
             "starts has fewer than 2 or more than 65,536 entries",
             "starts doesn't begin with 0, falls, or doesn't end with A; neighbours and weights differ in length; A above 524,288",
@@ -869,6 +869,7 @@ mod refusals {
             "scratch shorter than S (eager, verify and the short query: than 12 × n), or an array for answers (eager: or the visits) shorter than n (nearest: than k)",
             "insert at 15 lockers; remove or verify at none",
             "eager: the expanded count would exceed the limit",
+            "route: the list is empty or two nodes in sequence have no road",
         ];
         assert_eq!(Refusal::ALL.map(Refusal::condition), conditions);
     }

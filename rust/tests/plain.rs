@@ -394,7 +394,7 @@ mod answers {
 
     #[test]
     fn another_number_is_a_refusal() {
-        for number in 1..=12 {
+        for number in (1..=12).chain([14]) {
             let refusal = accepted(number).unwrap_err();
             assert_eq!(refusal.number(), number);
             assert!(refusal.to_string().contains(meaning(number)));
@@ -415,10 +415,10 @@ mod answers {
 
     /// No call returns such a number.
     #[test]
-    fn a_number_that_document_01_has_not_is_none() {
-        for number in [13, u32::MAX] {
+    fn another_number_is_none_of_a_call() {
+        for number in [13, 15, u32::MAX] {
             assert!(std::panic::catch_unwind(|| accepted(number)).is_err());
-            assert_eq!(meaning(number), "not a number of document 01");
+            assert_eq!(meaning(number), "no call returns this number");
         }
     }
 }

@@ -477,4 +477,23 @@ extern "C" {
         rival_distances: *const u32,
         rival_distances_len: usize,
     ) -> RowPart;
+
+    /// Writes `scratch` and `answers`.
+    pub(crate) fn overlap_route(
+        starts: *const u32,
+        starts_len: usize,
+        neighbours: *const u32,
+        neighbours_len: usize,
+        weights: *const u32,
+        weights_len: usize,
+        points: *const u8,
+        points_len: usize,
+        route: *const u32,
+        route_len: usize,
+        k: u32,
+        scratch: *mut u32,
+        scratch_len: usize,
+        answers: *mut u32,
+        answers_len: usize,
+    ) -> Listing;
 }

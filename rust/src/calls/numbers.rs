@@ -20,31 +20,32 @@ use crate::Refusal;
 ///
 /// # Panics
 ///
-/// Where the number is above 12. No call returns such a number.
+/// Where no call returns such a number: [`Refusal::ALL`] has those that they return.
 pub fn accepted(number: u32) -> Result<(), Refusal> {
     if number == 0 {
         return Ok(());
     }
     let refusal = Refusal::from_number(number);
-    Err(refusal.unwrap_or_else(|| panic!("{number} is not a number of document 01")))
+    Err(refusal.unwrap_or_else(|| panic!("no call returns the number {number}")))
 }
 
 /// The condition that a number stands for, as [`Refusal::condition`] words it.
 ///
-/// 0 stands for an accepted call. A number above 12 is no number of document 01.
+/// 0 stands for an accepted call. A number that is none of [`Refusal::ALL`] no call returns.
 ///
 /// ```
 /// use overlap::calls::meaning;
 ///
 /// assert_eq!(meaning(0), "accepted");
 /// assert_eq!(meaning(4), "a weight is 0 or above 65,535");
-/// assert_eq!(meaning(13), "not a number of document 01");
+/// assert_eq!(meaning(14), "route: the list is empty or two nodes in sequence have no road");
+/// assert_eq!(meaning(15), "no call returns this number");
 /// ```
 #[must_use]
 pub fn meaning(number: u32) -> &'static str {
     match (number, Refusal::from_number(number)) {
         (0, _) => "accepted",
         (_, Some(refusal)) => refusal.condition(),
-        (_, None) => "not a number of document 01",
+        (_, None) => "no call returns this number",
     }
 }
