@@ -12,6 +12,7 @@ use common::inputs::{
 use common::network::{accepted, network_n, N_NODES, N_POINTS, N_ROADS};
 use common::plain::plain_check;
 use common::random::Random;
+use common::route::some_route;
 use common::searches::assert_site;
 use common::shapes::{belt, grid, random_network, weight_by_product, weighted};
 use common::table::PlainTable;
@@ -498,6 +499,70 @@ mod engine {
         assert_buffers(&engine, network.scratch_len(1), 0);
         for k in 1..=16 {
             assert!(engine.households(&points, &points, 0, k).is_ok());
+            assert_buffers(&engine, network.scratch_len(k), 0);
+        }
+    }
+
+    /// Ask 7: compares the list of a route with the plain calculation and with the thin call, and that of
+    /// one node with eager's.
+    #[test]
+    fn and_plain_calculation_agree_on_routes() {
+        for seed in 0..2_000 {
+            let mut random = Random::new(seed);
+            let arrays = random_network(&mut random);
+            let pairs = AllPairs::of(arrays.lend());
+            let network = accepted(&arrays).unwrap();
+            let mut engine = Engine::new(&network);
+            for _ in 0..8 {
+                let marks = some_points(&arrays, &mut random);
+                let points = Points::from_marks(&network, marks).unwrap();
+                let (route, k) = (some_route(&arrays, &mut random), some_k(&mut random));
+                assert_route(&mut engine, &pairs, &points, &route, k);
+                let list = engine.route(&points, &route[..1], k).unwrap().to_vec();
+                let by_eager = engine.eager(&points, route[0], k, 65_535).unwrap();
+                assert_eq!(by_eager.points, list);
+            }
+        }
+    }
+
+    fn assert_route(engine: &mut Engine, pairs: &AllPairs, points: &Points, route: &[u32], k: u32) {
+        let (network, marks) = (engine.network().clone(), points.marks());
+        let list = pairs.plain_touched(marks, route, k);
+        assert_eq!(engine.route(points, route, k), Ok(&list[..]));
+        let by_call = thin(&network, network.scratch_len(k), |s, a| {
+            calls::route(network.lend(), marks, route, k, s, a)
+        });
+        assert_eq!(by_call, (Ok(()), list, 0));
+    }
+
+    /// In this order they are met: 6, 7, 9, 14.
+    #[test]
+    fn refuses_routes_that_the_thin_call_refuses() {
+        let (network, points) = n_and_points();
+        let mut engine = Engine::new(&network);
+        let foreign = Points::none(&Network::from_roads(5, &[]).unwrap());
+        let mut refusal = |points: &Points, route: &[u32], k| engine.route(points, route, k).err();
+        assert_eq!(refusal(&foreign, &[0, 0, 6], 0), Some(Refusal::Points));
+        for no_route in [&[][..], &[0, 0], &[0, 2], &[3, 0, 1, 4], &[5, 0]] {
+            let with_6 = [no_route, &[6]].concat();
+            assert_eq!(refusal(&points, &with_6, 0), Some(Refusal::Node));
+            for k in [0, 17, u32::MAX] {
+                assert_eq!(refusal(&points, no_route, k), Some(Refusal::K));
+            }
+            for k in [1, 16] {
+                assert_eq!(refusal(&points, no_route, k), Some(Refusal::Route));
+            }
+        }
+        assert_eq!(refusal(&points, &[3, 0, 1], 1), None);
+    }
+
+    /// "m is the k of a search".
+    #[test]
+    fn has_scratch_of_s_for_routes() {
+        let (network, points) = n_and_points();
+        let mut engine = Engine::new(&network);
+        for k in 1..=16 {
+            assert!(engine.route(&points, &[3, 0, 1], k).is_ok());
             assert_buffers(&engine, network.scratch_len(k), 0);
         }
     }

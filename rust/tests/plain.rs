@@ -9,7 +9,8 @@ use common::nearest_rows::NearestRows;
 use common::network::{marks, network_n, OwnedNetwork, N_NODES, N_POINTS};
 use common::numbers::plain_scratch_len;
 use common::random::Random;
-use common::rows::{relaxed_row, row_of};
+use common::route::some_route;
+use common::rows::{relaxed_row, relaxed_row_of, row_of};
 use common::shapes::random_network;
 use common::table::PlainTable;
 use overlap::calls::{accepted, eager_scratch_len, meaning, scratch_len};
@@ -241,6 +242,61 @@ mod households {
     }
 }
 
+/// Ask 7, one locker and one node of the route after another.
+mod routes {
+    use super::*;
+
+    /// Whether a locker on p is listed for some node of the route, and stands on none.
+    fn is_touched(pairs: &AllPairs, points: &[u8], route: &[u32], p: u32, k: u32) -> bool {
+        let far = pairs.plain_distances(p);
+        let others = |q: u32| {
+            let is_nearer = |&t: &usize| far[t] < far[q as usize];
+            let nearer = (0..points.len()).filter(is_nearer);
+            nearer.map(|t| usize::from(points[t])).sum::<usize>() - 1
+        };
+        let reaches = |q: u32| far[q as usize] != NONE && others(q) < k as usize;
+        !route.contains(&p) && route.iter().any(|&q| reaches(q))
+    }
+
+    #[test]
+    fn give_the_lists() {
+        let (mut longer, mut on_route) = (0, 0);
+        for seed in 0..4_000 {
+            let mut random = Random::new(seed);
+            let network = random_network(&mut random);
+            let pairs = AllPairs::of(network.lend());
+            let points = some_points(&network, &mut random);
+            let (route, k) = (some_route(&network, &mut random), some_k(&mut random));
+            let marked = (0..points.len() as u32).filter(|&p| points[p as usize] > 0);
+            let list: Vec<u32> = marked
+                .filter(|&p| is_touched(&pairs, &points, &route, p, k))
+                .collect();
+            assert_eq!(pairs.plain_touched(&points, &route, k), list);
+            let of_first = pairs.plain_listed(&points, route[0], k);
+            longer += usize::from(list.len() > of_first.len());
+            on_route += usize::from(of_first.iter().any(|p| route.contains(p)));
+        }
+        assert!(longer >= 200 && on_route >= 800, "{longer}, {on_route}");
+    }
+
+    /// Network N, by hand: for k = 1 node 3 receives 4, nodes 0, 1 and 4 receive 2, node 2 receives 4.
+    #[test]
+    fn of_network_n() {
+        let (pairs, points) = (AllPairs::of(network_n().lend()), marks(N_NODES, &N_POINTS));
+        let list = |route: &[u32], k| pairs.plain_touched(&points, route, k);
+        assert_eq!(list(&[3, 0, 1], 1), [2, 4]);
+        assert_eq!([list(&[0], 1), list(&[0], 2)], [vec![2], vec![2, 4]]);
+        assert_eq!(
+            [list(&[0, 1, 2], 1), list(&[1, 2, 4], 1)],
+            [vec![4], vec![]]
+        );
+        assert_eq!(
+            [list(&[1, 0, 3, 0], 1), list(&[5], 16)],
+            [vec![2, 4], vec![]]
+        );
+    }
+}
+
 /// The distances of one node.
 mod rows {
     use super::*;
@@ -254,6 +310,22 @@ mod rows {
                 let row = relaxed_row(network.lend(), node);
                 assert_eq!(row, *pairs.row(node), "{network:?}");
                 assert_eq!(row, row_of(&pairs.plain_distances(node)));
+            }
+        }
+    }
+
+    /// The nearest of several nodes.
+    #[test]
+    fn of_several_nodes_are_the_least_of_their_rows() {
+        for seed in 0..2_000 {
+            let mut random = Random::new(seed);
+            let network = random_network(&mut random);
+            let pairs = AllPairs::of(network.lend());
+            let nodes = some_route(&network, &mut random);
+            let row = relaxed_row_of(network.lend(), &nodes);
+            for (to, &entry) in row.iter().enumerate() {
+                let least = nodes.iter().filter_map(|&node| pairs.row(node)[to]).min();
+                assert_eq!(entry, least, "{network:?}");
             }
         }
     }
@@ -284,6 +356,10 @@ mod nearest_rows {
             let households = some_points(&network, &mut random);
             let list = nearest.households(pairs.row(q), &households, k);
             assert_eq!(list, pairs.plain_households(&households, &points, q, k));
+            let route = some_route(&network, &mut random);
+            let list = pairs.plain_touched(&points, &route, k);
+            assert_eq!(nearest.touched(network.lend(), &route, k), list);
+            assert_eq!(nearest.touched_together(network.lend(), &route, k), list);
         }
     }
 }

@@ -54,7 +54,7 @@ mod numbers {
 
     /// The numbers of all calls that are lent points but those that 11 can refuse. What the table
     /// holds is no condition.
-    fn of_others(points: &[u8]) -> [u32; 12] {
+    fn of_others(points: &[u8]) -> [u32; 13] {
         let network = network_n();
         let (lent, mut s, mut a) = (network.lend(), vec![0; network.scratch_len(2)], [0; 6]);
         let small = network.eager_scratch_len();
@@ -83,6 +83,7 @@ mod numbers {
         let of_sites = calls::households(lent, good, points, 0, 2, s, a).number;
         let sheet = calls::sheet(lent, points, good, s, a);
         let sheet_of_sites = calls::sheet(lent, good, points, s, a);
+        let route = calls::route(lent, points, &[0, 1], 2, s, a).number;
         [
             nearest,
             eager,
@@ -96,6 +97,7 @@ mod numbers {
             of_sites,
             sheet,
             sheet_of_sites,
+            route,
         ]
     }
 
@@ -132,7 +134,7 @@ mod numbers {
                 15 => (0, [0, 11, 0]),
                 _ => (6, [6; 3]),
             };
-            assert_eq!(of_others(&points), [others; 12], "byte {byte}");
+            assert_eq!(of_others(&points), [others; 13], "byte {byte}");
             assert_eq!(on_node_3(&points), verify_insert_remove, "byte {byte}");
         }
     }
@@ -392,6 +394,7 @@ mod two_nodes {
                 assert_eq!((listed.points, listed.visits), (&list[..], &visits[..]));
                 assert_eq!(engine.lazy(&points, q, k), Ok(&list[..]));
                 assert_eq!(engine.lazy_ep(&points, q, k), Ok(&list[..]));
+                assert_eq!(engine.route(&points, &[q], k), Ok(&list[..]));
                 for p in points.iter() {
                     let yes = list.contains(&p);
                     assert_eq!(engine.verify(&points, p, q, k), Ok(yes));

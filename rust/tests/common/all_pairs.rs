@@ -4,6 +4,7 @@
 use super::rows::{distances_in, expanded_in, household_in, in_order, nearest_in, verify_in};
 use super::rows::{Near, Row};
 use overlap::calls::Network;
+use std::collections::BTreeSet;
 
 /// The row of each node.
 pub struct AllPairs {
@@ -86,6 +87,15 @@ impl AllPairs {
             _ => counted(households, &self.plain_households(households, sites, q, k)),
         };
         self.nodes().map(entry).collect()
+    }
+
+    /// Ask 7: "Listed is the union of what the single nodes receive, without the points that stand on the
+    /// route itself." What a node receives is the list of a site there.
+    pub fn plain_touched(&self, points: &[u8], route: &[u32], k: u32) -> Vec<u32> {
+        let stops: BTreeSet<u32> = route.iter().copied().collect();
+        let received = stops.iter().map(|&q| self.plain_listed(points, q, k));
+        let union: BTreeSet<u32> = received.flatten().collect();
+        union.difference(&stops).copied().collect()
     }
 
     fn nodes(&self) -> std::ops::Range<u32> {

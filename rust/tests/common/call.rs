@@ -113,7 +113,7 @@ pub trait Call: Clone + 'static {
 
     fn scratch_mut(&mut self) -> &mut Lent;
 
-    /// The arrays that the call may write, each with its name, scratch first.
+    /// The arrays that the call may write, each with its name, scratch first; and the route.
     fn arrays(&self) -> Vec<(&'static str, &Lent)>;
 
     /// The numbers asked for, in words, for the message of a failed test.

@@ -1,4 +1,4 @@
-//! Arrays that a call may write.
+//! Arrays that a call may write, and the route.
 
 use super::random::Random;
 
@@ -17,6 +17,11 @@ impl Lent {
         Self {
             words: junk(length + 2 * Self::MARGIN, random),
         }
+    }
+
+    /// An array of these words, with junk on both sides.
+    pub fn of(words: &[u32], random: &mut Random) -> Self {
+        Self::junk(words.len(), random).with_answer(words)
     }
 
     pub fn len(&self) -> usize {

@@ -1,5 +1,5 @@
 //! What the test programs and the benchmarks share. All of it is written from document 01, with what
-//! Asks 1, 4, 5, 6, 8 and 10 of document 02 change, and knows nothing of how the engine works.
+//! Asks 1, 4, 5, 6, 7, 8 and 10 of document 02 change, and knows nothing of how the engine works.
 
 // Each program uses a part of this.
 #![allow(dead_code)]
@@ -21,6 +21,7 @@ pub mod network;
 pub mod numbers;
 pub mod plain;
 pub mod random;
+pub mod route;
 pub mod rows;
 pub mod searches;
 pub mod shapes;
@@ -29,3 +30,4 @@ pub mod table;
 pub mod table_damage;
 pub mod tally;
 pub mod verify;
+pub mod walks;

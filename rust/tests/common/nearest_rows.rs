@@ -1,10 +1,10 @@
 //! The nearest points of each node of a network that may be too large for all pairs, and by them the
-//! lists of document 01, the visits of Ask 4 and the households of Ask 1.
+//! lists of document 01, the visits of Ask 4, the households of Ask 1 and the routes of Ask 7.
 
-use super::rows::{in_order, Row};
+use super::rows::{in_order, relaxed_row, relaxed_row_of, Row};
 use overlap::calls::Network;
 use std::cmp::Reverse;
-use std::collections::BinaryHeap;
+use std::collections::{BTreeSet, BinaryHeap};
 
 /// A distance and the point that is so far.
 pub type Far = (u64, u32);
@@ -103,6 +103,23 @@ impl NearestRows {
             households[h as usize] > 0 && nearer.is_some_and(|sites| sites < k as usize)
         };
         self.nodes().filter(is_listed).collect()
+    }
+
+    /// Ask 7: "the union of what the single nodes receive, without the points that stand on the route
+    /// itself", by the row of each node.
+    pub fn touched(&self, network: Network<'_>, route: &[u32], k: u32) -> Vec<u32> {
+        let stops: BTreeSet<u32> = route.iter().copied().collect();
+        let received = stops
+            .iter()
+            .map(|&q| self.listed(&relaxed_row(network, q), k));
+        let union: BTreeSet<u32> = received.flatten().collect();
+        union.difference(&stops).copied().collect()
+    }
+
+    /// The same by one row for all nodes together, which Ask 7 says it is: "One search from all nodes
+    /// together must equal that union". A node is as far as the nearest of the route.
+    pub fn touched_together(&self, network: Network<'_>, route: &[u32], k: u32) -> Vec<u32> {
+        self.listed(&relaxed_row_of(network, route), k)
     }
 
     /// How many lockers of the node's row are nearer than the bound.

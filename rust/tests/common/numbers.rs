@@ -136,6 +136,39 @@ pub fn sheet_number(network: Network<'_>, bytes: [&[u8]; 2], lengths: (usize, us
     }
 }
 
+/// Route: the conditions 1 to 7, 9, 10 and 14. Ask 7: "7 for each node of the list; 14, after 12, if the
+/// list is empty or two nodes in sequence have no road." Scratch and answers are given by their lengths.
+pub fn route_number(
+    network: Network<'_>,
+    points: &[u8],
+    (route, k): (&[u32], u32),
+    lengths: (usize, usize),
+) -> u32 {
+    let of_points = points_number(network, points);
+    if of_points != 0 {
+        of_points
+    } else if route.iter().any(|&node| is_no_node(network, node)) {
+        7
+    } else if is_no_k(k) {
+        9
+    } else {
+        match short_number(network, k, lengths) {
+            0 if is_no_route(network, route) => 14,
+            number => number,
+        }
+    }
+}
+
+/// 14: "the list is empty or two nodes in sequence have no road". Its nodes are nodes of the network.
+fn is_no_route(network: Network<'_>, route: &[u32]) -> bool {
+    let has_road = |a: usize, b: u32| {
+        let arcs = network.starts[a] as usize..network.starts[a + 1] as usize;
+        network.neighbours[arcs].contains(&b)
+    };
+    let mut pairs = route.windows(2);
+    route.is_empty() || pairs.any(|pair| !has_road(pair[0] as usize, pair[1]))
+}
+
 /// The first condition met of 1 to 6, or 0. Ask 1: "6 covers each byte array, [...] in the order lent."
 fn bytes_number(network: Network<'_>, [households, sites]: [&[u8]; 2]) -> u32 {
     match points_number(network, households) {

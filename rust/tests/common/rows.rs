@@ -121,9 +121,16 @@ fn nearer_nodes<'a>(
 /// The row of a node of an accepted network that may be too large for all pairs, by repeated
 /// relaxation: an entry that becomes smaller is handed on to its neighbours, until none does.
 pub fn relaxed_row(network: Network<'_>, node: u32) -> Row {
+    relaxed_row_of(network, &[node])
+}
+
+/// The same of several nodes: the distance to the nearest of them.
+pub fn relaxed_row_of(network: Network<'_>, nodes: &[u32]) -> Row {
     let mut row = vec![None; network.starts.len() - 1];
-    row[node as usize] = Some(0);
-    let mut smaller = VecDeque::from([node as usize]);
+    for &node in nodes {
+        row[node as usize] = Some(0);
+    }
+    let mut smaller: VecDeque<usize> = nodes.iter().map(|&node| node as usize).collect();
     while let Some(a) = smaller.pop_front() {
         for arc in network.starts[a] as usize..network.starts[a + 1] as usize {
             let b = network.neighbours[arc] as usize;

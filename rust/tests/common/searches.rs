@@ -1,11 +1,11 @@
-//! All four searches and the short query, for one site.
+//! All four searches, the short query and the route of one node, for one site.
 
 use super::eager::SHORT_K;
 use overlap::{Engine, Refusal, Table};
 
 /// Sees that all four searches give this list for q and k, and eager these visits, as many as its count
 /// and no more than its limit; for the k of the short query that it gives the list and the count as
-/// well. The points are the table's.
+/// well. So does a route of q alone give the list (Ask 7). The points are the table's.
 pub fn assert_site(
     engine: &mut Engine,
     table: &mut Table,
@@ -23,6 +23,7 @@ pub fn assert_site(
     assert_eq!(beyond, Err(Refusal::Limit), "{story}");
     assert_eq!(engine.lazy(points, q, k), Ok(list), "lazy, {story}");
     assert_eq!(engine.lazy_ep(points, q, k), Ok(list), "lazy-EP, {story}");
+    assert_eq!(engine.route(points, &[q], k), Ok(list), "route, {story}");
     if k == SHORT_K {
         let short = engine.short_query(points, q).unwrap();
         let (is, count) = (short.points, short.expanded);
