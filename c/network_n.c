@@ -5,8 +5,8 @@
  *     cc -std=c11 -Wall -Wextra -Wpedantic -Werror -Iinclude c/network_n.c target/staticlib/liboverlap.a -o target/network_n
  *     target/network_n
  *
- * The gate compares the output with network_n.expected, which is worked out from document 01 and Asks 1, 4, 6, 8 and 10 of
- * document 02.
+ * The gate compares the output with network_n.expected, which is worked out from document 01 and Asks 1, 4, 6, 7, 8 and 10
+ * of document 02.
  *
  * What a caller lends, by the names of overlap.h. n is the number of nodes, A that of arcs; a road is two arcs, one from each end:
  *
@@ -16,8 +16,9 @@
  *     households, sites     n bytes each, laid out as points
  *     scratch               SCRATCH_LEN (below) words or more, for eager, verify and the short query EAGER_SCRATCH_LEN, of any contents; a call
  *                           that is accepted leaves them all 0
- *     answers               n words or more; the list stands in the first `length`, without the points on q itself, though with the
- *                           households on q; distances and the sheet fill n
+ *     route                 any number of words: nodes, each joined by a road to the one after it; a node may come several times
+ *     answers               n words or more; the list stands in the first `length`, without the points on q itself or on a node of the route,
+ *                           though with the households on q; distances and the sheet fill n
  *     visits                n words or more; the nodes that eager's count counts stand in the first `count`, by distance from q and then by
  *                           node
  *     ids, distances        of nearest k words each or more; of a table n x K words each, row i from i x K on, and `places` is K; a node with
@@ -43,6 +44,7 @@
  *         visits) shorter than n (nearest: than k)
  *     11  insert at 15 lockers; remove or verify at none
  *     12  eager: the expanded count would exceed the limit
+ *     14  route: the list is empty or two nodes in sequence have no road
  *
  * Insert, remove and table query don't test the table that they are lent: lend one that build has written and insert and remove have
  * changed, with the same points, or ask the table check first. Nor does the nearer row, of whose tables the first distances alone decide.
@@ -345,6 +347,37 @@ static void print_nearer_rows(void)
     }
 }
 
+/* A route of up to four nodes, and a k. */
+typedef struct {
+    uint32_t nodes[4];
+    size_t length;
+    uint32_t k;
+} route_asked;
+
+static void print_route(route_asked asked)
+{
+    uint32_t answers[NODES];
+    printf("route ");
+    print_words(asked.nodes, asked.length);
+    printf(", k %u: ", (unsigned)asked.k);
+    print_list(overlap_route(LEND_NETWORK(n), LEND(n_points), asked.nodes, asked.length, asked.k, LEND_SCRATCH, LEND(answers)), answers);
+    printf("\n");
+}
+
+/* The lockers that any stop of a route touches. */
+static void print_routes(void)
+{
+    printf("\nWhat a route touches\n");
+    print_route((route_asked){ { 3, 0, 1 }, 3, 1 });
+    /* One node: the list is that of P2. */
+    print_route((route_asked){ { 0 }, 1, 2 });
+    /* The points of 2, and then of 4 as well, stand on the route. */
+    print_route((route_asked){ { 1, 2 }, 2, 1 });
+    print_route((route_asked){ { 1, 2, 4 }, 3, 1 });
+    /* There and back. */
+    print_route((route_asked){ { 0, 3, 0, 1 }, 4, 1 });
+}
+
 static void print_number(uint32_t number, const char *example)
 {
     printf("%u: %s\n", (unsigned)number, example);
@@ -401,6 +434,17 @@ static void print_numbers_of_rivals(void)
                  "N, K = 2, 11 ids of the rival's");
 }
 
+/* Ask 7: "7 for each node of the list; 14, after 12, if the list is empty or two nodes in sequence have no road." */
+static void print_numbers_of_routes(void)
+{
+    static const uint32_t no_node[] = { 0, 1, 6 }, no_road[] = { 1, 0, 2 }, to_itself[] = { 0, 0 };
+    uint32_t answers[NODES];
+    print_number(overlap_route(LEND_NETWORK(n), LEND(n_points), LEND(no_node), 1, LEND_SCRATCH, LEND(answers)).number, "N, route 0, 1, 6");
+    print_number(overlap_route(LEND_NETWORK(n), LEND(n_points), LEND(no_road), 1, LEND_SCRATCH, LEND(answers)).number, "N, route 1, 0, 2");
+    print_number(overlap_route(LEND_NETWORK(n), LEND(n_points), LEND(to_itself), 1, LEND_SCRATCH, LEND(answers)).number, "N, route 0, 0");
+    print_number(overlap_route(LEND_NETWORK(n), LEND(n_points), no_road, 0, 1, LEND_SCRATCH, LEND(answers)).number, "N, a route of no node");
+}
+
 int main(void)
 {
     print_picture();
@@ -411,9 +455,11 @@ int main(void)
     print_table();
     print_households();
     print_nearer_rows();
+    print_routes();
     printf("\nNumbers of refusal, by the example of each\n");
     print_network_numbers();
     print_other_numbers();
     print_numbers_of_rivals();
+    print_numbers_of_routes();
     return EXIT_SUCCESS;
 }

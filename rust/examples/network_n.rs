@@ -1,6 +1,6 @@
 //! Network N of document 01 through every call. It prints what `c/network_n.c` prints, and
 //! `tests/network_n.rs` compares the output with `c/network_n.expected`, which is worked out from
-//! document 01 and Asks 1, 4, 6, 8 and 10 of document 02.
+//! document 01 and Asks 1, 4, 6, 7, 8 and 10 of document 02.
 //!
 //! Run it with `cargo run --release --example network_n`.
 
@@ -187,6 +187,26 @@ fn print_rivals(engine: &mut Engine, sites: &Points, out: &mut impl Write) -> Do
     Ok(())
 }
 
+/// The lockers that any stop of a route touches.
+fn print_routes(engine: &mut Engine, points: &Points, out: &mut impl Write) -> Done {
+    writeln!(out, "\nWhat a route touches")?;
+    let asked: [(&[u32], u32); 5] = [
+        (&[3, 0, 1], 1),
+        // One node: the list is that of P2.
+        (&[0], 2),
+        // The points of 2, and then of 4 as well, stand on the route.
+        (&[1, 2], 1),
+        (&[1, 2, 4], 1),
+        // There and back.
+        (&[0, 3, 0, 1], 1),
+    ];
+    for (route, k) in asked {
+        let list = words(engine.route(points, route, k)?);
+        writeln!(out, "route {}, k {k}: {{{list}}}", words(route))?;
+    }
+    Ok(())
+}
+
 /// The number of a call: 0, or that of its refusal.
 fn number<Answer>(answer: Result<Answer, Refusal>) -> u32 {
     answer.err().map_or(0, Refusal::number)
@@ -273,6 +293,22 @@ fn print_numbers_of_rivals(engine: &mut Engine, points: &Points, out: &mut impl 
     Ok(())
 }
 
+/// Ask 7: "7 for each node of the list; 14, after 12, if the list is empty or two nodes in sequence have
+/// no road."
+fn print_numbers_of_routes(engine: &mut Engine, points: &Points, out: &mut impl Write) -> Done {
+    let examples: [(&[u32], &str); 4] = [
+        (&[0, 1, 6], "N, route 0, 1, 6"),
+        (&[1, 0, 2], "N, route 1, 0, 2"),
+        (&[0, 0], "N, route 0, 0"),
+        (&[], "N, a route of no node"),
+    ];
+    for (route, example) in examples {
+        let number = number(engine.route(points, route, 1));
+        writeln!(out, "{number}: {example}")?;
+    }
+    Ok(())
+}
+
 /// Prints all.
 pub fn print(out: &mut impl Write) -> Done {
     let network = network_with(7)?;
@@ -285,10 +321,12 @@ pub fn print(out: &mut impl Write) -> Done {
     print_cases(&mut engine, &points, out)?;
     print_table(&network, &points, out)?;
     print_rivals(&mut engine, &points, out)?;
+    print_routes(&mut engine, &points, out)?;
     writeln!(out, "\nNumbers of refusal, by the example of each")?;
     print_network_numbers(out)?;
     print_other_numbers(&mut engine, &points, out)?;
-    print_numbers_of_rivals(&mut engine, &points, out)
+    print_numbers_of_rivals(&mut engine, &points, out)?;
+    print_numbers_of_routes(&mut engine, &points, out)
 }
 
 fn main() -> Done {

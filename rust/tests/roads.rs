@@ -70,6 +70,22 @@ mod samples {
         assert_eq!(output, (0, expected, String::new()));
     }
 
+    /// The routes of network N for k = 1, by hand, come behind the visits and before the table.
+    #[test]
+    fn network_n_with_routes() {
+        let routes = "\nroute        lockers touched for k = 1\n\
+            3, 0, 1      2, 4\n0            2\n1, 2, 4      none\n0, 3, 0, 1   2, 4\n";
+        let without = include_str!("../examples/data/n.expected");
+        let expected = without.replace("\ntable", &format!("{routes}\ntable"));
+        let options = ["3,0,1", "0", "1, 2, 4", "0,3,0,1"].map(|route| ["--route", route]);
+        let output = run_sample("n", &options.concat());
+        assert_eq!(output, (0, expected.clone(), String::new()));
+        let with_visits = run_sample("n", &[&["--visits"], &options.concat()[..]].concat());
+        assert!(with_visits
+            .1
+            .ends_with(&expected[expected.find(routes).unwrap()..]));
+    }
+
     /// The options that name the households and sites of sample data.
     fn for_sheet(name: &str) -> [String; 4] {
         let file = |kind: &str| data(&format!("{name}.{kind}"));
@@ -188,6 +204,37 @@ mod samples {
         }
     }
 
+    /// A walk to and fro through the town, of each length and for all k, by the plain all-pairs
+    /// calculation.
+    #[test]
+    fn all_lines_of_routes_are_those_of_the_plain_calculation() {
+        let read = |kind: &str| fs::read_to_string(data(&format!("town.{kind}"))).unwrap();
+        let network = read_network(&read("roads")).unwrap();
+        let points = read_points(&read("points"), &network).unwrap();
+        let pairs = AllPairs::of(network.lend());
+        let walk = [0, 8, 9, 2, 9, 10, 4, 5, 4, 3, 2, 1, 8, 0, 7, 6, 9];
+        let routes: Vec<&[u32]> = (1..=walk.len()).map(|length| &walk[..length]).collect();
+        let width = shown(&walk).len();
+        for k in 1..=16 {
+            let heading = format!("\n{:<width$}   lockers touched for k = {k}\n", "route");
+            let line = |route: &&[u32]| {
+                let list = shown(&pairs.plain_touched(points.marks(), route, k));
+                format!("{:<width$}   {list}\n", shown(route))
+            };
+            let lines: String = routes.iter().map(line).collect();
+            let texts = routes.iter().map(|route| shown(route).replace(' ', ""));
+            let options = texts.flat_map(|text| ["--route".to_string(), text]);
+            let options: Vec<String> = options.chain(["--k".into(), k.to_string()]).collect();
+            let options: Vec<&str> = options.iter().map(String::as_str).collect();
+            let (status, out, _) = run_sample("town", &options);
+            assert_eq!(status, 0);
+            assert!(
+                out.contains(&format!("{heading}{lines}\ntable")),
+                "k {k}: {out}"
+            );
+        }
+    }
+
     #[test]
     fn chosen_sites_only() {
         let (status, out, _) = run_sample("n", &["--site", "5", "--site", "0"]);
@@ -283,10 +330,39 @@ mod messages {
         }
     }
 
+    /// A route is named with the junction, or the two, that it is refused for.
+    #[test]
+    fn name_a_route_that_is_refused() {
+        let refused = |route: &str| {
+            let (status, _, err) = run_sample("n", &["--route", "0,1", "--route", route]);
+            assert_eq!(status, 1);
+            err
+        };
+        let node = "refused by number 7: a node given is n or more\n";
+        let road = "refused by number 14: \
+                    route: the list is empty or two nodes in sequence have no road\n";
+        for (route, about, refusal) in [
+            ("0,6", "there is no junction 6: they are 0 to 5", node),
+            (
+                "4294967295",
+                "there is no junction 4294967295: they are 0 to 5",
+                node,
+            ),
+            // 7 is tried before 14.
+            ("0,2,7,6", "there is no junction 7: they are 0 to 5", node),
+            ("1,0,2,5", "no road joins junctions 0 and 2", road),
+            ("5,0", "no road joins junctions 5 and 0", road),
+            ("0,1,1,2", "no road leads from junction 1 to itself", road),
+        ] {
+            let shown = route.replace(',', ", ");
+            assert_eq!(refused(route), format!("route {shown}: {about}; {refusal}"));
+        }
+    }
+
     #[test]
     fn explain_the_command_line() {
         let usage = "usage: roads ROADS POINTS [--site q].. [--k k] [--K K] [--visits] \
-                     [--households FILE --sites FILE]";
+                     [--route a,b,..].. [--households FILE --sites FILE]";
         let assert_usage = |arguments: &[&str], message: &str| {
             assert_message(arguments, 2, &format!("{message}\n{usage}"));
         };
@@ -297,6 +373,20 @@ mod messages {
             let message = format!("--site needs a whole number of 32 bits, not `{value}`");
             assert_usage(&["a", "b", "--site", value], &message);
         }
+        assert_usage(&["a", "b", "--route"], "--route needs junctions");
+        for (value, field) in [
+            ("", ""),
+            ("0,1,", ""),
+            ("0,x,1", "x"),
+            ("0 1", "0 1"),
+            ("0,-1", "-1"),
+            ("4294967296", "4294967296"),
+        ] {
+            let is_none = format!("`{field}` in `{value}` is none");
+            let message = format!("--route needs junctions, as in 8,9,10, and {is_none}");
+            assert_usage(&["a", "b", "--route", value], &message);
+        }
+        assert_usage(&["a", "b", "--routes", "0"], "no option --routes");
         assert_usage(&["a", "b", "-k", "2"], "no option -k");
         for option in ["--households", "--sites"] {
             assert_usage(&["a", "b", option], &format!("{option} needs a file"));

@@ -8,7 +8,7 @@ use std::io::{self, Write};
 use std::path::{Path, PathBuf};
 
 const USAGE: &str = "usage: roads ROADS POINTS [--site q].. [--k k] [--K K] [--visits] \
-                     [--households FILE --sites FILE]";
+                     [--route a,b,..].. [--households FILE --sites FILE]";
 
 const HELP: &str = "
 ROADS    a file of one road a line: a b weight
@@ -18,6 +18,9 @@ POINTS   a file of one locker a line: its junction, which comes up to 15 times
 --k      the k of the lists, 1 to 16; 1 unless it is given
 --K      the places of a row of the table, above k and at most 17; k + 1 unless it is given
 --visits also prints the junctions that eager expands for a site, by distance and then by number
+--route  also prints the lockers that a van touches for k, wherever on its route it stops: junctions with
+         commas between them, as 8,9,10, each joined by a road to the one after it. A locker on the
+         route itself is not listed. Several routes are printed one behind the other
 --households, --sites
          files of one household a line and of one site a line, as POINTS; also prints which households
          a site wins: the sheet, 0 without a site, counts those that have no site nearer, and the list
@@ -31,6 +34,7 @@ struct Asked {
     k: u32,
     places: u32,
     visits: bool,
+    routes: Vec<Vec<u32>>,
     for_the_sheet: Option<[PathBuf; 2]>,
 }
 
@@ -64,7 +68,7 @@ pub fn run(arguments: &[OsString], out: &mut impl Write, err: &mut impl Write) -
 }
 
 fn asked(arguments: &[OsString]) -> Result<Asked, Message> {
-    let (mut files, mut sites) = (Vec::new(), Vec::new());
+    let (mut files, mut sites, mut routes) = (Vec::new(), Vec::new(), Vec::new());
     let (mut k, mut places, mut visits) = (1, None, false);
     let (mut households, mut site_list) = (None, None);
     let mut words = arguments.iter();
@@ -75,6 +79,7 @@ fn asked(arguments: &[OsString]) -> Result<Asked, Message> {
             "--k" => k = number(&text, words.next())?,
             "--K" => places = Some(number(&text, words.next())?),
             "--visits" => visits = true,
+            "--route" => routes.push(junctions(&text, words.next())?),
             "--households" => households = Some(file(&text, words.next())?),
             "--sites" => site_list = Some(file(&text, words.next())?),
             option if option.starts_with('-') => return Err(format!("no option {option}")),
@@ -90,6 +95,7 @@ fn asked(arguments: &[OsString]) -> Result<Asked, Message> {
         // Where k is not 1 to 16, that is what the refusal shall name.
         places: places.unwrap_or(k.clamp(1, 16) + 1),
         visits,
+        routes,
         for_the_sheet: both(households, site_list)?,
     })
 }
@@ -120,6 +126,18 @@ fn number(option: &str, value: Option<&OsString>) -> Result<u32, Message> {
     parsed.map_err(|_| format!("{option} needs a whole number of 32 bits, not `{text}`"))
 }
 
+/// The junctions behind an option, with commas between them.
+fn junctions(option: &str, value: Option<&OsString>) -> Result<Vec<u32>, Message> {
+    let value = value.ok_or_else(|| format!("{option} needs junctions"))?;
+    let text = value.to_string_lossy();
+    let junction = |field: &str| {
+        let is_none = format!("`{field}` in `{text}` is none");
+        let parsed = field.trim().parse();
+        parsed.map_err(|_| format!("{option} needs junctions, as in 8,9,10, and {is_none}"))
+    };
+    text.split(',').map(junction).collect()
+}
+
 fn report(asked: &Asked, out: &mut impl Write) -> Result<(), Message> {
     let roads = read(&asked.roads)?;
     let network = read_network(&roads).map_err(|bad| in_file(&asked.roads, bad))?;
@@ -131,6 +149,9 @@ fn report(asked: &Asked, out: &mut impl Write) -> Result<(), Message> {
     print_lists(asked, &mut table, out)?;
     if asked.visits {
         print_visits(asked, &table, out)?;
+    }
+    if !asked.routes.is_empty() {
+        print_routes(asked, &table, out)?;
     }
     print_table(&table, out).map_err(unwritten)?;
     match for_the_sheet {
@@ -192,7 +213,7 @@ fn print_lists(asked: &Asked, table: &mut Table, out: &mut impl Write) -> Result
     let mut engine = Engine::new(table.network());
     let heading = format!("site   expanded   list for k = {k}");
     print_sites(asked, nodes, &heading, out, |q| {
-        let list = shown(table.query(q, k)?.iter().map(u32::to_string));
+        let list = nodes_text(table.query(q, k)?);
         let expanded = engine.eager(table.points(), q, k, u32::MAX)?.expanded;
         Ok(format!("{q:<6} {expanded:<10} {list}"))
     })
@@ -205,8 +226,56 @@ fn print_visits(asked: &Asked, table: &Table, out: &mut impl Write) -> Result<()
     let heading = format!("site   visits for k = {k}");
     print_sites(asked, nodes, &heading, out, |q| {
         let expansion = engine.eager(table.points(), q, k, u32::MAX)?;
-        let visits = shown(expansion.visits.iter().map(u32::to_string));
+        let visits = nodes_text(expansion.visits);
         Ok(format!("{q:<6} {visits}"))
+    })
+}
+
+/// Prints for each route the lockers that any stop touches.
+fn print_routes(asked: &Asked, table: &Table, out: &mut impl Write) -> Result<(), Message> {
+    let (mut engine, k) = (Engine::new(table.network()), asked.k);
+    let lengths = asked.routes.iter().map(|route| nodes_text(route).len());
+    let width = lengths.fold("route".len(), usize::max);
+    writeln!(out, "\n{:<width$}   lockers touched for k = {k}", "route").map_err(unwritten)?;
+    for route in &asked.routes {
+        let list = engine.route(table.points(), route, k);
+        let list = list.map_err(|refusal| refused_route(route, table.network(), refusal))?;
+        let (route, list) = (nodes_text(route), nodes_text(list));
+        writeln!(out, "{route:<width$}   {list}").map_err(unwritten)?;
+    }
+    Ok(())
+}
+
+/// Says which junction of a route, or which two, the refusal is about.
+fn refused_route(route: &[u32], network: &Network, refusal: Refusal) -> Message {
+    let about = match refusal {
+        Refusal::Node => missing_junction(route, network),
+        Refusal::Route => missing_road(route, network),
+        _ => None,
+    };
+    let about = about.map_or(String::new(), |about| format!("{about}; "));
+    format!("route {}: {about}{refusal}", nodes_text(route))
+}
+
+/// The first junction of a route that the network has not.
+fn missing_junction(route: &[u32], network: &Network) -> Option<Message> {
+    let nodes = network.nodes();
+    let node = route.iter().find(|&&node| node >= nodes)?;
+    let last = nodes - 1;
+    Some(format!("there is no junction {node}: they are 0 to {last}"))
+}
+
+/// The first two junctions of a route in sequence that have no road.
+fn missing_road(route: &[u32], network: &Network) -> Option<Message> {
+    let has_road = |pair: &[u32]| {
+        let mut roads = network.roads_of(pair[0]).into_iter().flatten();
+        roads.any(|(to, _)| to == pair[1])
+    };
+    let pair = route.windows(2).find(|pair| !has_road(pair))?;
+    let (a, b) = (pair[0], pair[1]);
+    Some(match a == b {
+        true => format!("no road leads from junction {a} to itself"),
+        false => format!("no road joins junctions {a} and {b}"),
     })
 }
 
@@ -229,8 +298,7 @@ fn print_sheet(
     let sheet = sheet.map_err(|refusal| refusal.to_string())?.to_vec();
     let heading = format!("site   sheet   households for k = {k}");
     print_sites(asked, network.nodes(), &heading, out, |q| {
-        let list = engine.households(households, sites, q, k)?;
-        let list = shown(list.iter().map(u32::to_string));
+        let list = nodes_text(engine.households(households, sites, q, k)?);
         Ok(format!("{q:<6} {:<7} {list}", sheet[q as usize]))
     })
 }
@@ -283,8 +351,13 @@ fn print_table(table: &Table, out: &mut impl Write) -> io::Result<()> {
 }
 
 /// Nodes as a person reads them.
-fn shown(nodes: impl Iterator<Item = String>) -> String {
-    let texts: Vec<String> = nodes.collect();
+fn nodes_text(nodes: &[u32]) -> String {
+    shown(nodes.iter().map(u32::to_string))
+}
+
+/// Texts with commas between them, or that there is none.
+fn shown(texts: impl Iterator<Item = String>) -> String {
+    let texts: Vec<String> = texts.collect();
     match texts.is_empty() {
         true => "none".to_string(),
         false => texts.join(", "),
