@@ -7,6 +7,7 @@ use super::common::inputs::{no_k, no_node, some_k, some_node, some_places, some_
 use super::common::inputs::{spoil_points, too_short};
 use super::common::network::OwnedNetwork;
 use super::common::random::Random;
+use super::common::route::some_route;
 use super::common::shapes::random_network;
 use super::common::table::PlainTable;
 use super::common::table_damage;
@@ -27,17 +28,42 @@ pub fn try_small_networks(networks: u64) -> (usize, usize) {
         let mut random = Random::new(seed);
         let mut network = random_network(&mut random);
         let points = some_points(&network, &mut random);
-        answers.extend(try_calls(&network, &points, &mut random));
+        let routes: Vec<_> = (0..ROUTES)
+            .map(|_| any_route(&network, &mut random))
+            .collect();
+        answers.extend(try_calls(&network, &points, &routes, &mut random));
         let times = random.pick(&[0, 0, 1, 2]);
         damage(&mut network, times, &mut random);
-        answers.extend(try_calls(&network, &points, &mut random));
+        answers.extend(try_calls(&network, &points, &routes, &mut random));
     }
     let accepted = answers.iter().filter(|answer| answer.0 == 0).count();
     (accepted, answers.len() - accepted)
 }
 
+/// As many routes as the calls of a network are asked about.
+const ROUTES: usize = 4;
+
+/// A list of nodes that is mostly a route.
+fn any_route(network: &OwnedNetwork, random: &mut Random) -> Vec<u32> {
+    let mut route = some_route(network, random);
+    let place = random.index(route.len()).unwrap();
+    match random.below(32) {
+        0 => route.clear(),
+        1 => route[place] = no_node(network, random),
+        2 => route[place] = some_node(network, random),
+        3 => route.insert(place, route[place]),
+        _ => (),
+    }
+    route
+}
+
 /// Tries every call, and the table check on a damaged table as well.
-fn try_calls(network: &OwnedNetwork, points: &[u8], random: &mut Random) -> Vec<Answer> {
+fn try_calls(
+    network: &OwnedNetwork,
+    points: &[u8],
+    routes: &[Vec<u32>],
+    random: &mut Random,
+) -> Vec<Answer> {
     let mut lent = built(network.lend(), points, some_places(random), MOST_M);
     let visits = points.len().saturating_add_signed(random.pick(&MORE));
     lent.written.visits.resize(visits, OLD);
@@ -45,11 +71,11 @@ fn try_calls(network: &OwnedNetwork, points: &[u8], random: &mut Random) -> Vec<
     lend_rivals(&mut lent, random);
     let mut answers = Vec::new();
     for call in calls::ALL {
-        let query = some_query(network, random);
+        let query = some_query(network, routes, random);
         lent.scratch.more = random.pick(&MORE);
         answers.push(assert_same(&mut lent, TWINS, call, query, &before));
     }
-    let query = some_query(network, random);
+    let query = some_query(network, routes, random);
     let damaged = with_a_damaged_table(before, lent.places, random);
     answers.push(assert_same(&mut lent, TWINS, TABLE_CHECK, query, &damaged));
     answers
@@ -88,8 +114,12 @@ fn with_a_damaged_table(written: Written, places: u32, random: &mut Random) -> W
     }
 }
 
-/// A query that is mostly accepted.
-fn some_query(network: &OwnedNetwork, random: &mut Random) -> Query {
+/// A query that is mostly accepted, with one of the routes.
+fn some_query<'a>(
+    network: &OwnedNetwork,
+    routes: &'a [Vec<u32>],
+    random: &mut Random,
+) -> Query<'a> {
     let mut node = || match network.starts.len() {
         0 | 1 => 0,
         _ if random.once_in(16) => no_node(network, random),
@@ -107,5 +137,6 @@ fn some_query(network: &OwnedNetwork, random: &mut Random) -> Query {
         point,
         k,
         limit,
+        route: &routes[random.index(routes.len()).unwrap()],
     }
 }

@@ -31,6 +31,7 @@ pub struct Functions {
     pub households: fn(Network<'_>, &[u8], &[u8], u32, u32, &mut [u32], &mut [u32]) -> Listing,
     pub sheet: fn(Network<'_>, &[u8], &[u8], &mut [u32], &mut [u32]) -> u32,
     pub nearer_row_part: fn(Network<'_>, u32, TwoTables<'_>) -> RowPart,
+    pub route: fn(Network<'_>, &[u8], &[u32], u32, &mut [u32], &mut [u32]) -> Listing,
 }
 
 pub const ENGINE: Functions = Functions {
@@ -52,6 +53,7 @@ pub const ENGINE: Functions = Functions {
     households: overlap::calls::households,
     sheet: overlap::calls::sheet,
     nearer_row_part: overlap::calls::nearer_row_part,
+    route: overlap::calls::route,
 };
 
 pub const PLAIN: Functions = Functions {
@@ -73,19 +75,21 @@ pub const PLAIN: Functions = Functions {
     households: plain::households,
     sheet: plain::sheet,
     nearer_row_part: plain::nearer_row_part,
+    route: plain::route,
 };
 
 /// The engine and its twins.
 pub const TWINS: [&Functions; 2] = [&ENGINE, &PLAIN];
 
-/// What a call is asked: a site, a point, k, and eager's limit. Insert adds a locker to the site,
-/// remove takes one from the point. The site is the junction of the nearer row.
+/// What a call is asked: a site, a point, k, eager's limit, and a route. Insert adds a locker to the
+/// site, remove takes one from the point. The site is the junction of the nearer row.
 #[derive(Clone, Copy, Debug)]
-pub struct Query {
+pub struct Query<'a> {
     pub site: u32,
     pub point: u32,
     pub k: u32,
     pub limit: u32,
+    pub route: &'a [u32],
 }
 
 /// The number, then the list's length, yes, the rows changed or where the nearer row ends, then eager's
@@ -96,10 +100,12 @@ pub type Answer = (u32, usize, u32);
 #[derive(Clone, Copy)]
 pub struct Call {
     pub name: &'static str,
-    pub run: fn(&Functions, &mut Lent<'_>, Query) -> Answer,
+    pub run: Run,
 }
 
-const fn call(name: &'static str, run: fn(&Functions, &mut Lent<'_>, Query) -> Answer) -> Call {
+type Run = fn(&Functions, &mut Lent<'_>, Query<'_>) -> Answer;
+
+const fn call(name: &'static str, run: Run) -> Call {
     Call { name, run }
 }
 
@@ -253,8 +259,23 @@ pub const NEARER_ROW: Call = call("nearer row", |by, lent, query| {
     (part.number, part.start + part.length, part.rival)
 });
 
+/// The most nodes of a route that is timed.
+pub const LONGEST_ROUTE: usize = 300;
+
+pub const ROUTE_1: Call = call("route of 1", |by, lent, query| {
+    route(by, lent, first_of_route(1, query))
+});
+
+pub const ROUTE_10: Call = call("route of 10", |by, lent, query| {
+    route(by, lent, first_of_route(10, query))
+});
+
+pub const ROUTE_300: Call = call("route of 300", |by, lent, query| {
+    route(by, lent, first_of_route(LONGEST_ROUTE, query))
+});
+
 /// Every call of the interface.
-pub const ALL: [Call; 16] = [
+pub const ALL: [Call; 19] = [
     NETWORK_CHECK,
     DISTANCES,
     NEAREST,
@@ -271,10 +292,13 @@ pub const ALL: [Call; 16] = [
     HOUSEHOLDS,
     SHEET,
     NEARER_ROW,
+    ROUTE_1,
+    ROUTE_10,
+    ROUTE_300,
 ];
 
 /// The calls that take a k.
-pub const BY_K: [Call; 7] = [
+pub const BY_K: [Call; 8] = [
     NEAREST,
     VERIFY,
     EAGER,
@@ -282,6 +306,7 @@ pub const BY_K: [Call; 7] = [
     LAZY_EP,
     TABLE_QUERY,
     HOUSEHOLDS,
+    ROUTE_10,
 ];
 
 /// The words of scratch for eager, verify or the short query.
@@ -293,7 +318,26 @@ fn eager_scratch<'a>(
     scratch.of_length((by.eager_scratch)(network))
 }
 
-fn search(search: SearchCall, lent: &mut Lent<'_>, query: Query) -> Answer {
+/// The query with so many nodes of its route, as far as it has them.
+pub fn first_of_route(length: usize, query: Query<'_>) -> Query<'_> {
+    let route = query.route.get(..length).unwrap_or(query.route);
+    Query { route, ..query }
+}
+
+fn route(by: &Functions, lent: &mut Lent<'_>, Query { route, k, .. }: Query<'_>) -> Answer {
+    let (network, w) = (lent.network, &mut lent.written);
+    let scratch = lent.scratch.of(network, k);
+    of_listing((by.route)(
+        network,
+        &w.points,
+        route,
+        k,
+        scratch,
+        &mut w.answers,
+    ))
+}
+
+fn search(search: SearchCall, lent: &mut Lent<'_>, query: Query<'_>) -> Answer {
     let (network, w) = (lent.network, &mut lent.written);
     let scratch = lent.scratch.of(network, query.k);
     of_listing(search(

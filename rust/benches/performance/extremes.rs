@@ -46,6 +46,7 @@ pub fn figure_12_times(budget: Budget) -> Vec<(Call, Pairs)> {
         point: 1,
         k: 1,
         limit: 65_535,
+        route: &[],
     };
     let searches = [EAGER, LAZY, LAZY_EP].into_iter();
     let mut times = |call| (call, measure(call, TWINS, &mut lent, &[query], budget));
@@ -74,6 +75,7 @@ fn time_of(call: Call, network: &OwnedNetwork, points: &[u8], (site, k): (u32, u
         point: 0,
         k,
         limit: 65_535,
+        route: &[],
     };
     let start = Instant::now();
     let answer = (call.run)(&ENGINE, &mut lent, query);

@@ -18,6 +18,7 @@ mod outcome;
 mod plain;
 mod report;
 mod roads;
+mod routes;
 mod settings;
 
 use calls::{Call, TWINS};
@@ -77,6 +78,18 @@ fn measure_networks(settings: &Settings) -> Vec<Measured> {
     let measured =
         |(subject, places)| measure_calls(subject, &calls::ALL, (k, places), settings.budget);
     subjects.into_iter().map(measured).collect()
+}
+
+/// Times routes beside eager on the same networks.
+fn routes_text(measured: &[Measured], settings: &Settings) -> String {
+    let mut rows = Vec::new();
+    for Measured { subject, k, .. } in measured {
+        println!("{}: routes beside eager", subject.name);
+        let longest = settings.longest_beside_eager;
+        let of_network = routes::measure_routes(subject, *k, longest, settings.budget);
+        rows.extend(of_network.into_iter().map(|row| (subject.name, row)));
+    }
+    report::routes_text(&rows)
 }
 
 /// Times build at the limits with tables of more and more places.
@@ -166,6 +179,7 @@ fn main() {
     let settings = Settings::from_arguments();
     let tried = agree::try_small_networks(settings.small_networks);
     let measured = measure_networks(&settings);
+    let routes = routes_text(&measured, &settings);
     let builds = measure_builds(&settings);
     let extremes = extremes_text(&measured[1].subject, &settings);
     write_charts(&settings);
@@ -173,6 +187,7 @@ fn main() {
     text += &report::networks_table(&measured);
     text += &report::calls_tables(&measured);
     text += &report::notes(&measured);
+    text += &routes;
     text += &report::builds_text(&builds);
     text += &extremes;
     println!("{text}");

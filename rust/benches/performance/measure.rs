@@ -94,7 +94,7 @@ pub fn measure(
     call: Call,
     by: [&Functions; 2],
     lent: &mut Lent<'_>,
-    queries: &[Query],
+    queries: &[Query<'_>],
     budget: Budget,
 ) -> Pairs {
     let before = lent.written.clone();
@@ -106,6 +106,20 @@ pub fn measure(
         lent,
         before,
     };
+    let pairs = time_pairs(queries, budget, |query, engine_first| {
+        timed.time_pair(query, engine_first)
+    });
+    timed.lent.written = timed.before;
+    pairs
+}
+
+/// Times the queries in turn. The function times a pair of runs, the engine's first or the other's, and
+/// returns the engine's time and the other's.
+pub fn time_pairs<'a>(
+    queries: &[Query<'a>],
+    budget: Budget,
+    mut time_pair: impl FnMut(Query<'a>, bool) -> (f64, f64),
+) -> Pairs {
     let mut pairs = Pairs {
         engine: Vec::new(),
         other: Vec::new(),
@@ -117,17 +131,16 @@ pub fn measure(
         }
         // a query is timed in the other order when it comes again
         let engine_first = (round + round / queries.len()).is_multiple_of(2);
-        let (engine, other) = timed.time_pair(query, engine_first);
+        let (engine, other) = time_pair(query, engine_first);
         pairs.engine.push(engine);
         pairs.other.push(other);
     }
-    timed.lent.written = timed.before;
     pairs
 }
 
 impl Timed<'_, '_> {
     /// The times of the engine and of the other, one behind the other.
-    fn time_pair(&mut self, query: Query, engine_first: bool) -> (f64, f64) {
+    fn time_pair(&mut self, query: Query<'_>, engine_first: bool) -> (f64, f64) {
         let [engine, other] = self.by;
         let (first, second) = match engine_first {
             true => (engine, other),
@@ -146,7 +159,7 @@ impl Timed<'_, '_> {
     }
 
     /// The time of one run in milliseconds, and its answer. Bringing the table back is not timed.
-    fn time(&mut self, by: &Functions, query: Query) -> (f64, Answer) {
+    fn time(&mut self, by: &Functions, query: Query<'_>) -> (f64, Answer) {
         self.lent.restore(&self.before);
         let start = Instant::now();
         let answer = black_box((self.call.run)(by, self.lent, black_box(query)));

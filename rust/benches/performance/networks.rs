@@ -1,19 +1,20 @@
 //! The networks on which calls are timed, the same in every run.
 
-use super::calls::Query;
+use super::calls::{Query, LONGEST_ROUTE};
 use super::common::network::OwnedNetwork;
 use super::common::random::Random;
 use super::common::shapes::{grid, ring, weighted};
+use super::common::walks::random_walk;
 use super::roads::road_network;
 use overlap::calls::{nearest, scratch_len, Found, NONE};
 use std::collections::BTreeSet;
 
-/// A network, its points and the sites asked about.
+/// A network, its points, and a route from each site asked about, which is its first node.
 pub struct Subject {
     pub name: &'static str,
     pub network: OwnedNetwork,
     pub points: Vec<u8>,
-    sites: Vec<u32>,
+    routes: Vec<Vec<u32>>,
 }
 
 /// A point stands on one node in so many.
@@ -70,7 +71,7 @@ pub fn limits() -> Subject {
 }
 
 impl Subject {
-    /// Chooses points and sites by chance. A site is no point.
+    /// Chooses points and sites by chance, and then the routes. A site is no point.
     fn new(name: &'static str, network: OwnedNetwork, random: &mut Random) -> Self {
         let nodes = network.starts.len() as u32 - 1;
         let mut order: Vec<u32> = (0..nodes).collect();
@@ -80,9 +81,10 @@ impl Subject {
         for &p in marked {
             points[p as usize] = 1;
         }
+        let route = |&site| random_walk(&network, site, LONGEST_ROUTE, random);
         Self {
             name,
-            sites: rest[..SITES].to_vec(),
+            routes: rest[..SITES].iter().map(route).collect(),
             network,
             points,
         }
@@ -105,16 +107,17 @@ impl Subject {
         self.points.iter().copied().map(usize::from).sum()
     }
 
-    /// A query for each site, with the point that is nearest to it.
-    pub fn queries(&self, k: u32) -> Vec<Query> {
+    /// A query for each site, with the point that is nearest to it and a route that begins there.
+    pub fn queries<'a>(&'a self, k: u32) -> Vec<Query<'a>> {
         let mut scratch = vec![0; scratch_len(self.network.lend(), 1)];
-        let mut query = |&site| Query {
-            site,
-            point: self.nearest_point(site, &mut scratch),
+        let query = |route: &'a Vec<u32>| Query {
+            site: route[0],
+            point: self.nearest_point(route[0], &mut scratch),
             k,
             limit: MOST_NODES,
+            route,
         };
-        self.sites.iter().map(&mut query).collect()
+        self.routes.iter().map(query).collect()
     }
 
     fn nearest_point(&self, site: u32, scratch: &mut [u32]) -> u32 {

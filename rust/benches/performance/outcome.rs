@@ -13,6 +13,7 @@ pub fn built<'a>(network: Network<'a>, points: &[u8], places: u32, most_m: u32) 
         point: 0,
         k: 1,
         limit: 0,
+        route: &[],
     };
     (BUILD.run)(&ENGINE, &mut lent, query);
     lent
@@ -23,7 +24,7 @@ pub fn assert_same(
     lent: &mut Lent<'_>,
     by: [&Functions; 2],
     call: Call,
-    query: Query,
+    query: Query<'_>,
     before: &Written,
 ) -> Answer {
     let [one, other] = by.map(|by| outcome(lent, by, call, query, before));
@@ -50,7 +51,7 @@ fn outcome(
     lent: &mut Lent<'_>,
     by: &Functions,
     call: Call,
-    query: Query,
+    query: Query<'_>,
     before: &Written,
 ) -> Outcome {
     lent.written.clone_from(before);

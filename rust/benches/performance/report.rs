@@ -5,6 +5,7 @@ use super::chart::number;
 use super::extremes::{Range, LINE};
 use super::measure::Pairs;
 use super::networks::Subject;
+use super::routes::{Beside, EagerWords};
 use super::Measured;
 use std::fmt::Write;
 use std::fs;
@@ -108,6 +109,33 @@ fn part_of(of_network: &Measured, part: Call, whole: Call) -> String {
     };
     let part = time_of(part.name) / time_of(whole.name);
     format!("{part:.3} ({})", of_network.subject.name)
+}
+
+/// The times of routes beside eager, and the largest ratio of a route of one node in the same scratch.
+pub fn routes_text(rows: &[(&str, (Beside, Pairs))]) -> String {
+    let mut text = String::from(
+        "\n### Routes beside eager\n\n\
+         A route, and eager on each node of its list, the times of these calls added up. Both are the engine's:\n\n\
+         | Network | Nodes | Eager's scratch | Pairs | Route, ms | Eager, ms | Ratio |\n\
+         |---|---|---|---|---|---|---|\n",
+    );
+    let mut largest: f64 = 0.0;
+    for (network, (beside, pairs)) in rows {
+        let words = match beside.words {
+            EagerWords::S => "S",
+            EagerWords::TwelveN => "12 × n",
+        };
+        let name = format!("{network} | {} | {words}", beside.nodes);
+        text += &pairs.row(&name, 3);
+        if beside.words == EagerWords::S {
+            largest = largest.max(pairs.ratio().median);
+        }
+    }
+    let _ = writeln!(
+        text,
+        "\nThe largest median ratio of a route of one node, where eager is lent the same scratch, is {largest:.3}."
+    );
+    text
 }
 
 /// The times of build at the limits, by K.

@@ -1,5 +1,6 @@
 //! How much is measured, and where it is written.
 
+use super::calls::LONGEST_ROUTE;
 use super::measure::Budget;
 use std::path::{Path, PathBuf};
 use std::time::Duration;
@@ -20,6 +21,8 @@ pub struct Settings {
     /// The values of k of the first chart, and the sides of the grids of the second.
     pub ks: Vec<u32>,
     pub sides: Vec<u32>,
+    /// The most nodes of a route that is timed beside eager.
+    pub longest_beside_eager: usize,
     /// The values of k for which it is counted how far the searches go.
     pub reach_ks: Vec<u32>,
     /// How long a call of the tables is measured, and one of the charts.
@@ -50,6 +53,7 @@ impl Settings {
             build_places: vec![2, 5, 9, 17],
             ks: vec![1, 2, 4, 8, 12, 16],
             sides: vec![32, 45, 64, 90, 128, 181, 255],
+            longest_beside_eager: LONGEST_ROUTE,
             reach_ks: vec![1, 2, 4, 16],
             budget: budget(1_500, 11, 64),
             chart_budget: budget(500, 5, 32),
@@ -69,6 +73,7 @@ impl Settings {
             build_places: vec![2, 3],
             ks: vec![1, 4, 16],
             sides: vec![32, 64],
+            longest_beside_eager: 10,
             reach_ks: vec![1, 4],
             budget: budget(50, 3, 16),
             chart_budget: budget(50, 3, 16),

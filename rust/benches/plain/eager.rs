@@ -105,8 +105,9 @@ fn explore(
     visits: &mut [u32],
 ) -> Option<u32> {
     let mut count = 0;
+    let is_site = |_: &[u32], node: usize| node == site.q as usize;
     while let Some(entry) = area.next() {
-        let lockers = looks.look(site, entry);
+        let lockers = looks.look(site, entry, is_site);
         if lockers < site.k && count == limit {
             return None;
         }
@@ -120,17 +121,23 @@ fn explore(
     Some(count)
 }
 
-/// The words that looks share.
-struct Looks<'a> {
-    flags: &'a mut [u32],
-    nodes: &'a mut [u32],
-    inner: &'a mut [u32],
+/// The words that looks share: verified flags n and found flags n, found nodes n, inner area 4 × n.
+pub struct Looks<'a> {
+    pub flags: &'a mut [u32],
+    pub nodes: &'a mut [u32],
+    pub inner: &'a mut [u32],
 }
 
 impl Looks<'_> {
     /// Finds the nodes with the k nearest lockers that are nearer to a node than the site, and verifies
-    /// each once. Returns how many lockers, cut at k.
-    fn look(&mut self, site: Site<'_>, entry: Entry) -> usize {
+    /// each once. The site may be several nodes; whether a node is one is told by the flags. Returns how
+    /// many lockers, cut at k.
+    pub fn look(
+        &mut self,
+        site: Site<'_>,
+        entry: Entry,
+        is_site: impl Fn(&[u32], usize) -> bool,
+    ) -> usize {
         let from = (entry.node() as u32, entry.distance);
         let near = find_nodes(site, from, self.nodes, self.inner);
         let nodes = &mut self.nodes[..near.nodes];
@@ -138,7 +145,8 @@ impl Looks<'_> {
             let at = p as usize;
             if self.flags[at] == 0 {
                 self.flags[at] = 1;
-                self.flags[site.points.len() + at] = u32::from(site.verify(p, self.inner));
+                let yes = site.verify_from(p, self.inner, |node| is_site(self.flags, node));
+                self.flags[site.points.len() + at] = u32::from(yes);
             }
         }
         nodes.fill(0);

@@ -2,8 +2,8 @@
 //! with. Each function has the form of the engine's call, its checks and its answers.
 //!
 //! A call makes all of scratch zero before its work. Behind it distances, nearest, verify, eager,
-//! insert, households and the sheet make zero what they touched, the others the words that they used.
-//! So do the engine's calls, but lazy, which makes the words of lazy-EP zero.
+//! insert, households, the sheet and the route make zero what they touched, the others the words that
+//! they used. So do the engine's calls, but lazy, which makes the words of lazy-EP zero.
 
 // The benchmark and a test use parts of this.
 #![allow(dead_code, unused_imports)]
@@ -19,6 +19,7 @@ mod nearest;
 mod network_check;
 mod node_queue;
 mod queue;
+mod route;
 mod sheet;
 mod site;
 mod table;
@@ -35,6 +36,7 @@ pub use lazy_ep::{lazy_ep, lazy_ep_and_settled};
 pub use nearer_row::nearer_row_part;
 pub use nearest::nearest;
 pub use network_check::network_check;
+pub use route::route;
 pub use sheet::sheet;
 pub use table::{build, insert};
 pub use table_check::table_check;

@@ -66,15 +66,17 @@ impl Site<'_> {
 
     /// The first condition met of 1 to 7, or 0.
     pub fn place_number(self) -> u32 {
-        let of_network = network_check(self.network);
-        if of_network != 0 {
-            of_network
-        } else if !are_points(self.points, self.network) {
-            6
-        } else if self.q as usize >= self.points.len() {
-            7
-        } else {
-            0
+        match self.points_number() {
+            0 if self.q as usize >= self.points.len() => 7,
+            number => number,
+        }
+    }
+
+    /// The first condition met of 1 to 6, or 0.
+    pub fn points_number(self) -> u32 {
+        match network_check(self.network) {
+            0 if !are_points(self.points, self.network) => 6,
+            number => number,
         }
     }
 
@@ -93,14 +95,24 @@ impl Site<'_> {
     /// to p than the site. A point on the site gets no, by the first node. What it settles stays in
     /// the area.
     pub fn visit<'a>(self, p: u32, words: &'a mut [u32]) -> (bool, Area<'a>) {
+        self.visit_from(p, words, |node| node == self.q as usize)
+    }
+
+    /// The same for a site of several nodes, of which it is told whether a node is one.
+    fn visit_from<'a>(
+        self,
+        p: u32,
+        words: &'a mut [u32],
+        is_site: impl Fn(usize) -> bool,
+    ) -> (bool, Area<'a>) {
         let mut area = Area::start(words, self.network, p);
         let (mut label, mut below, mut level) = (0, 0, 0);
         while let Some(entry) = area.next() {
             if entry.distance > label {
                 (label, below, level) = (entry.distance, below + level, 0);
             }
-            if below >= self.k || entry.node() == self.q as usize {
-                return (p != self.q && below < self.k, area);
+            if below >= self.k || is_site(entry.node()) {
+                return (entry.node() != p as usize && below < self.k, area);
             }
             level += self.others_at(entry.node(), p);
             area.settle(entry);
@@ -109,9 +121,14 @@ impl Site<'_> {
         (false, area)
     }
 
-    /// The same, and the area is all zero behind it.
+    /// The same as `visit`, and the area is all zero behind it.
     pub fn verify(self, p: u32, words: &mut [u32]) -> bool {
-        let (yes, area) = self.visit(p, words);
+        self.verify_from(p, words, |node| node == self.q as usize)
+    }
+
+    /// The same for a site of several nodes, of which it is told whether a node is one.
+    pub fn verify_from(self, p: u32, words: &mut [u32], is_site: impl Fn(usize) -> bool) -> bool {
+        let (yes, area) = self.visit_from(p, words, is_site);
         area.clear();
         yes
     }

@@ -10,8 +10,8 @@
 //! Ask 6 changes no form, and answers only where the site is a point. No site is one here, which
 //! `main.rs` sees to, so the answers of a build before it are compared whole.
 //!
-//! Ask 1 adds three calls. A build before it has none of them, and `main.rs` asks it for none; `run`
-//! sees whether it has.
+//! Ask 1 adds three calls, and Ask 7 one. A build before has none of them, and `main.rs` asks it for
+//! none; `run` sees whether it has.
 //!
 //! Ask 10 changes the k of the short query, from 1 to 2, and with it what it answers. `main.rs` asks both
 //! builds for P1 as a short query and times theirs only where they take the same k. The sheet's k stays.
@@ -72,6 +72,10 @@ pub const BEFORE: Functions = Functions {
     sheet: |_, _, _, _, _| unreachable!("{NONE_OF_ASK_1}"),
     #[cfg(not(feature = "households"))]
     nearer_row_part: |_, _, _| unreachable!("{NONE_OF_ASK_1}"),
+    #[cfg(feature = "route")]
+    route: |n, points, route, k, s, a| listing(old::route(network(n), points, route, k, s, a)),
+    #[cfg(not(feature = "route"))]
+    route: |_, _, _, _, _, _| unreachable!("a build before Ask 7 has no such call"),
 };
 
 #[cfg(not(feature = "households"))]

@@ -24,7 +24,8 @@ mod plain;
 mod roads;
 
 use before::BEFORE;
-use calls::{Call, Functions, Query, ENGINE, HOUSEHOLDS, NEARER_ROW, SHEET, SHORT_QUERY};
+use calls::{Call, Functions, Query, ENGINE, HOUSEHOLDS, NEARER_ROW, ROUTE_1, ROUTE_10, ROUTE_300};
+use calls::{SHEET, SHORT_QUERY};
 use common::network::{marks, network_n, N_NODES, N_POINTS};
 use measure::{measure, Budget};
 use networks::{limits, roads, streets, Subject};
@@ -44,7 +45,7 @@ fn print_times(subject: &Subject, calls: &[Call], places: u32) {
         subject.name
     );
     let queries = subject.queries(4);
-    let is_on_a_point = |query: &Query| subject.points[query.site as usize] > 0;
+    let is_on_a_point = |query: &Query<'_>| subject.points[query.site as usize] > 0;
     let differs = "a build before Ask 6 lists a point on its own site";
     assert!(!queries.iter().any(is_on_a_point), "{differs}");
     let mut lent = built(subject.network.lend(), &subject.points, places, places);
@@ -54,8 +55,9 @@ fn print_times(subject: &Subject, calls: &[Call], places: u32) {
     }
 }
 
-/// The calls that a build before Ask 1 has not.
+/// The calls that a build before Ask 1 has not, and those that one before Ask 7 has not.
 const OF_ASK_1: [Call; 3] = [HOUSEHOLDS, SHEET, NEARER_ROW];
+const OF_ASK_7: [Call; 3] = [ROUTE_1, ROUTE_10, ROUTE_300];
 
 /// The length of P1's list as a short query: 2, and 1 by a build before Ask 10.
 fn p1_by_short_query(by: &Functions) -> usize {
@@ -68,10 +70,11 @@ fn p1_by_short_query(by: &Functions) -> usize {
 
 /// The calls that both builds have and mean the same by.
 fn shared_calls() -> Vec<Call> {
-    let is_new = |call: &Call| OF_ASK_1.iter().any(|new| new.name == call.name);
+    let is_one_of = |call: &Call, calls: &[Call]| calls.iter().any(|one| one.name == call.name);
     let has_same_k = p1_by_short_query(&ENGINE) == p1_by_short_query(&BEFORE);
     let is_shared = |call: &Call| {
-        (cfg!(feature = "households") || !is_new(call))
+        (cfg!(feature = "households") || !is_one_of(call, &OF_ASK_1))
+            && (cfg!(feature = "route") || !is_one_of(call, &OF_ASK_7))
             && (has_same_k || call.name != SHORT_QUERY.name)
     };
     calls::ALL.into_iter().filter(is_shared).collect()
