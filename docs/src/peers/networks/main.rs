@@ -17,6 +17,8 @@ mod lent;
 mod measure;
 #[path = "../../../../rust/benches/performance/networks.rs"]
 mod networks;
+#[path = "../../../../rust/benches/performance/outcome.rs"]
+mod outcome;
 #[path = "../../../../rust/benches/plain/mod.rs"]
 mod plain;
 #[path = "../../../../rust/benches/performance/roads.rs"]
