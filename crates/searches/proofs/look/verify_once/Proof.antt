@@ -18,7 +18,7 @@ start-of w = w .before .before .before .before .before .before
 abbrev wide-of : tie.After-verify → tie.After-wide
 wide-of v = v .before .before .before .before
 
--- it was not verified before, and is not on the route: must-fail/route_point_verified is refused here
+-- it was not verified before, and is not on the route
 new : (v : tie.After-verify) → getD (start-of (wide-of v) .args .f .now) (start-of (wide-of v) .args .p) 0 ≡ 0
 new v =
     let w = wide-of v in
