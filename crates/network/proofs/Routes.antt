@@ -1,22 +1,27 @@
 -- Routes. The union of what the nodes of a route receive is one rule with the distance to the route (`one-search`): the node that is nearest to p asks
--- least, as no fewer others are nearer to p than a node that is farther. A list of one node is a site; only which nodes a list has matters.
+-- least, as no fewer others are nearer to p than a node that is farther. A list of one node is a site; only which nodes a list has matters. And the tests of
+-- 14 are about arcs (`by-roads`).
 -- Assumes nothing.
-use Prim.Native.Nat.{ℕ, _≤_, _<_}
+use Prim.Native.Nat.{ℕ, zero, suc, _+_, _-_, _≤_, _<_}
 use mathlib.Core.Path.{_≡_, refl, sym, ap, _∙_}
 use mathlib.Core.Bool.{Bool, true, false, not, _&&_, false≢true}
 use mathlib.Core.Logic.{_≢_, _↔_, ⊎-elim}
 use mathlib.Core.List.{List, [], _∷_, List·Memᴰ, List·Memᴰ·head, List·Memᴰ·tail, List·Memᴰ·cases-cons, List·Memᴰ·not-nil, List·Memᴰ·eq-of-singleton}
+use native.Mathlib.Decide.{decLt}
 use native.Mathlib.Omega.{arith}
 use lib.Dec.{eqb, ltb}
-use borrow.Author.Tests.{ltb-true, lt-ltb, eqb-true, eqb-false, eq-eqb, ne-eqb, not-true}
-use Rattle.network.specs.Network.{Network, nodeCount}
+use lib.ListN.{length, getD, drop, length-take, List·getD-eq-default}
+use borrow.Author.Tests.{ltb-true, lt-ltb, eqb-true, eqb-false, eq-eqb, ne-eqb, not-true, not-false}
+use Rattle.network.specs.Network.{Network, Arc, nodeCount, partOf, neighboursOf, weightsOf}
 use Rattle.network.specs.Accepted.{Accepted}
 use Rattle.network.specs.Distance.{NONE, dist, distFrom}
 use Rattle.network.specs.Count.{select}
 use Rattle.network.specs.Points.{marked, othersNearer, verified, isListed, listed}
-use Rattle.network.specs.Routes.{onRoute, listedForAny, isTouched, touched, verifiedFrom, isReceived, OneSearch}
-use Rattle.network.proofs.Tests.{bool-cases, alike, and-parts, and-intro, or-cases, or-left, or-right}
+use Rattle.network.specs.Routes.{hasRoad, breaksFrom, badRoute, onRoute, listedForAny, isTouched, touched, verifiedFrom, isReceived, OneSearch, Road, IsRoute, ByRoads}
+use Rattle.network.proofs.Tests.{bool-cases, alike, and-parts, and-intro, or-parts, or-intro, or-cases, or-left, or-right, one-any, any-passes}
 use Rattle.network.proofs.Counts.{select-same, selected, select-passed}
+use Rattle.network.proofs.Ranges.{arc-at, arc-place}
+use Rattle.network.proofs.NumberZero.{accepted-ranges}
 use Rattle.network.proofs.Distances.{dist-symmetric}
 use Rattle.network.proofs.DistancesFrom.{from-most, from-any, from-nearest, from-one, from-same}
 use Rattle.network.proofs.Rank.{nearer-mono}
@@ -192,3 +197,66 @@ one-node {g} ok P k q =
 
 pub one-search : {g : Network} → Accepted g → (P R : List ℕ) (k : ℕ) → OneSearch g P R k
 one-search ok P R k = record { union = union ok P R k; list = list ok P R k; one-node = one-node ok P k }
+
+-- ---- The tests of 14, by arcs.
+
+-- a number that is n or more has no neighbours: past the last start there is 0
+neighbours-inside : (g : Network) (a : ℕ) → 0 < length (neighboursOf g a) → a < nodeCount g
+unfolding partOf
+neighbours-inside g a h =
+    let size = length-take (getD (g .starts) (a + 1) 0 - getD (g .starts) a 0) (drop (getD (g .starts) a 0) (g .neighbours)) in
+    elim (decLt a (nodeCount g)) [
+      | yes l ↦ l
+      | no n ↦ absurd (omega (arith, h, size, List·getD-eq-default (g .starts) 0 {n = a + 1} (omega arith)))
+    ]
+
+module _ {g : Network} (ok : Accepted g) where
+  module _ {a b : ℕ} where
+    arc-road : {w : ℕ} → Arc g a b w → hasRoad g a b ≡ true
+    unfolding hasRoad
+    arc-road x =
+        let p = arc-place (accepted-ranges ok) x in
+        one-any (λ j. eqb (getD (neighboursOf g a) j 0) b) (length (neighboursOf g a)) (p .at) (p .low) (eq-eqb (getD (neighboursOf g a) (p .at) 0) b (p .leads))
+
+    has-road : hasRoad g a b ≡ true → Road g a b
+    unfolding hasRoad
+    has-road e =
+        let p = any-passes (λ j. eqb (getD (neighboursOf g a) j 0) b) (length (neighboursOf g a)) e in
+        let h = neighbours-inside g a (omega (arith, p .low)) in
+        let x : Arc g a b (getD (weightsOf g a) (p .at) 0) =
+        rw (eqb-true (getD (neighboursOf g a) (p .at) 0) b (p .passes)) at (arc-at (accepted-ranges ok) a h (p .at) (p .low)) in
+        record { weight = getD (weightsOf g a) (p .at) 0; there = x; back = ok .returns x }
+
+  both-ways : (a b : ℕ) → hasRoad g a b ≡ hasRoad g b a
+  both-ways a b = alike (hasRoad g a b) (hasRoad g b a) (λ e. arc-road (has-road e .back)) (λ e. arc-road (has-road e .back))
+
+  -- behind node a no road is missing
+  roads-behind : (a : ℕ) (bs : List ℕ) → breaksFrom g a bs ≡ false → (i : ℕ) → i < length bs → Road g (getD (a ∷ bs) i 0) (getD bs i 0)
+  unfolding breaksFrom
+  roads-behind a [] e i h = absurd (omega arith)
+  roads-behind a (b ∷ bs) e zero h = has-road (not-false (hasRoad g a b) (or-parts (not (hasRoad g a b)) (breaksFrom g b bs) e .0))
+  roads-behind a (b ∷ bs) e (suc i) h = roads-behind b bs (or-parts (not (hasRoad g a b)) (breaksFrom g b bs) e .1) i (omega arith)
+
+  behind-roads : (a : ℕ) (bs : List ℕ) → ((i : ℕ) → i < length bs → Road g (getD (a ∷ bs) i 0) (getD bs i 0)) → breaksFrom g a bs ≡ false
+  unfolding breaksFrom
+  behind-roads a [] h = refl
+  behind-roads a (b ∷ bs) h =
+      or-intro (not (hasRoad g a b)) (breaksFrom g b bs)
+      (ap not (arc-road (h 0 (omega arith) .there)))
+      (behind-roads b bs (λ i l. h (suc i) (omega arith)))
+
+  route : (R : List ℕ) → (badRoute g R ≡ false) ↔ IsRoute g R
+  unfolding badRoute
+  route [] = (λ e. absurd (false≢true (sym e)), λ r. absurd (omega (arith, r .some)))
+  route (a ∷ bs) = (
+    λ e. record { some = omega arith; joined = λ i h. roads-behind a bs e i (omega arith) },
+    λ r. behind-roads a bs (λ i h. r .joined i (omega arith)),
+  )
+
+pub by-roads : {g : Network} → Accepted g → ByRoads g
+by-roads ok =
+    record {
+      road = λ a b. (λ e. has-road ok e, λ r. arc-road ok (r .there));
+      both-ways = both-ways ok;
+      route = route ok;
+    }

@@ -1,13 +1,14 @@
--- Document 02, Ask 7, 'Routes': 'The input is a list of nodes, each joined by a road to the one after it.' Who is listed for a route, which lists are none,
--- and the Ask's own claim, as a statement (`one-search` of proofs/Routes.antt).
+-- Document 02, Ask 7, 'Routes': 'The input is a list of nodes, each joined by a road to the one after it.' Which lists are none, who is listed for a route;
+-- and as statements that the tests of 14 say so by arcs, and the Ask's own claim (`by-roads` and `one-search` of proofs/Routes.antt).
 -- Assumes nothing.
-use Prim.Native.Nat.{ℕ}
+use Prim.Native.Nat.{ℕ, suc, _≤_, _<_}
 use mathlib.Core.Path.{_≡_}
 use mathlib.Core.Bool.{Bool, true, false, not, _&&_, _||_}
+use mathlib.Core.Logic.{_↔_}
 use mathlib.Core.List.{List, [], _∷_}
 use lib.Dec.{eqb, ltb}
 use lib.ListN.{length, getD}
-use Rattle.network.specs.Network.{Network, nodeCount, neighboursOf}
+use Rattle.network.specs.Network.{Network, Arc, nodeCount, neighboursOf}
 use Rattle.network.specs.Distance.{NONE, distFrom}
 use Rattle.network.specs.Count.{any, select}
 use Rattle.network.specs.Points.{marked, othersNearer, isListed, listed}
@@ -57,3 +58,23 @@ pub record OneSearch (g : Network) (P R : List ℕ) (k : ℕ) : Type 0 where
   pub union : (p : ℕ) → isTouched g P R k p ≡ isReceived g P R k p
   pub list : touched g P R k ≡ select (isReceived g P R k) (nodeCount g)
   pub one-node : (q : ℕ) → touched g P (q ∷ []) k ≡ listed g P q k
+
+-- ---- What the tests of 14 say, by arcs.
+
+-- 'Each road is two arcs of equal weight' (document 01)
+pub record Road (g : Network) (a b : ℕ) : Type 0 where
+  pub weight : ℕ
+  pub there : Arc g a b weight
+  pub back : Arc g b a weight
+
+-- 'each joined by a road to the one after it', and not empty
+pub record IsRoute (g : Network) (R : List ℕ) : Type 0 where
+  pub some : 1 ≤ length R
+  pub joined : (i : ℕ) → suc i < length R → Road g (getD R i 0) (getD R (suc i) 0)
+
+-- On an accepted network two nodes have a road by the test exactly if they have one, either way round; and 14 is met exactly of a list that is no route. This
+-- is so of all numbers and lists: where a number is n or more no arc leads from it, and 7 is tried first.
+pub record ByRoads (g : Network) : Type 0 where
+  pub road : (a b : ℕ) → (hasRoad g a b ≡ true) ↔ Road g a b
+  pub both-ways : (a b : ℕ) → hasRoad g a b ≡ hasRoad g b a
+  pub route : (R : List ℕ) → (badRoute g R ≡ false) ↔ IsRoute g R
