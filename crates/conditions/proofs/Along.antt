@@ -1,7 +1,7 @@
 -- The conditions of a list of nodes, as a loop tries them: 7 node by node; of 14, whether two nodes have a road, and then road by road.
 -- Assumes nothing.
 use Prim.Native.Nat.{ℕ, suc, _+_, _-_, _≤_, _<_}
-use mathlib.Core.Path.{_≡_, refl, sym, ap, _∙_}
+use mathlib.Core.Path.{_≡_, refl, sym, _∙_}
 use mathlib.Core.Bool.{Bool, true, false, false≢true}
 use mathlib.Core.Logic.{_≢_}
 use mathlib.Core.List.{List, [], _∷_, map}
@@ -11,19 +11,17 @@ use native.Mathlib.Omega.{arith}
 use lib.Dec.{eqb}
 use lib.ListN.{length, getD, drop, drop-of-length-le}
 use lib.Seq.{drop-cons}
-use borrow.Author.Tests.{eqb-true, ne-eqb}
+use borrow.Author.Tests.{ne-eqb}
 use Rattle.network.specs.Network.{Network, nodeCount, neighboursOf}
 use Rattle.network.specs.Accepted.{Accepted}
 use Rattle.network.specs.Parts.{LowerBound}
 use Rattle.network.specs.Answers.{Ascending}
 use Rattle.network.specs.Routes.{hasRoad, breaksFrom, badRoute, onRoute}
 use Rattle.network.proofs.Tests.{alike, one-any, none-any, any-passes}
-use Rattle.network.proofs.Counts.{member-at}
 use Rattle.network.proofs.CheckTests.{elsewhere}
 use Rattle.network.proofs.NumberZero.{accepted-searchable}
-use Rattle.network.proofs.Routes.{on-member}
 use Rattle.conditions.specs.Conditions.{firstNumber, nodeNumber, nodesNumber}
-use Rattle.conditions.specs.Roads.{RisingPart, RisingParts}
+use Rattle.conditions.specs.Roads.{RisingParts}
 use Rattle.conditions.proofs.NotMet.{first-is, first-none, first-skip}
 
 -- 7 of the nodes from place i on
@@ -74,10 +72,6 @@ accepted-along ok R inside v e =
     let s = accepted-searchable ok in
     let h = inside v e in
     record { part = s .neighbours .part v (omega arith); up = s .ascending v (omega arith) }
-
--- the node at a place of a list is on it
-pub on-at : (R : List ℕ) (i : ℕ) → i < length R → onRoute R (getD R i 0) ≡ true
-on-at R i h = on-member R (getD R i 0) .1 (member-at 0 R i h)
 
 -- of 14, the roads from the node before place i on
 abbrev pub breaksAt : Network → List ℕ → ℕ → Bool

@@ -19,7 +19,7 @@ use Rattle.network.specs.Count.{weighed, sumOver, bit}
 use Rattle.network.specs.Points.{lockers, marked, isNearer, othersAt, othersNearer}
 use Rattle.network.specs.Routes.{onRoute, verifiedFrom}
 use Rattle.network.proofs.Counts.{bit-most, select-same}
-use Rattle.network.proofs.Totals.{total-same, total-split, total-at, sum-mono, sum-none}
+use Rattle.network.proofs.Totals.{total-same, total-split, total-at, sum-none}
 use Rattle.network.proofs.Tests.{bool-cases, and-right}
 use Rattle.network.proofs.Distances.{dist-self, dist-zero, dist-symmetric}
 use Rattle.network.proofs.DistancesFrom.{from-any, from-nearest}
@@ -29,7 +29,7 @@ use Rattle.expansion.specs.declared.verify.Site.{Site}
 use Rattle.expansion.specs.declared.verify.Site.the-variants.{One, Stops}
 use Rattle.expansion.specs.declared.verify.Tally.{Tally}
 use Rattle.expansion.specs.Area.{LabelAt, Area, Kept, Moved, Blank, Took, Followed}
-use Rattle.expansion.specs.Visited.{isStop, stopsIn, isSite, nodesOfSite, CanRead, SiteInside, verifiedAt, CameTo}
+use Rattle.expansion.specs.Visited.{isStop, stopsIn, isSite, nodesOfSite, CanReadSite, SiteInside, verifiedAt, CameTo}
 use Rattle.expansion.proofs.Search.{frontier}
 use Rattle.expansion.proofs.Origins.{one}
 use Rattle.expansion.proofs.AreaLaws.{settledAs, others-settle}
@@ -105,11 +105,11 @@ site-kept (One q) v i h k = refl
 site-kept Stops v i h k = ap (λ (w : ℕ). eqb w 2) (k .words v (omega arith))
 
 -- what `is_site` requires
-pub can-read : (n b v : ℕ) (xs : List ℕ) (site : Site) → SiteInside n b site → v < n → b ≤ length xs → CanRead xs site v
+pub can-read : (n b v : ℕ) (xs : List ℕ) (site : Site) → SiteInside n b site → v < n → b ≤ length xs → CanReadSite xs site v
 can-read n b v xs (One q) i h fits = tt
 can-read n b v xs Stops i h fits = omega arith
 
-pub stops-read : (xs : List ℕ) (site : Site) (v : ℕ) → site ≡ Stops → CanRead xs site v → v < length xs
+pub stops-read : (xs : List ℕ) (site : Site) (v : ℕ) → site ≡ Stops → CanReadSite xs site v → v < length xs
 stops-read xs site v e h = rw e at h
 
 pub stops-same : (n : ℕ) (xs ys : List ℕ) → ((v : ℕ) → v < n → isStop ys v ≡ isStop xs v) → stopsIn n ys ≡ stopsIn n xs

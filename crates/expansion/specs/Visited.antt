@@ -35,9 +35,9 @@ nodesOfSite n xs (One q) = q ∷ []
 nodesOfSite n xs Stops = stopsIn n xs
 
 -- a route's words can be read; a site is a node, or the words of the route stand before the area
-abbrev pub CanRead : List ℕ → Site → ℕ → Type 0
-CanRead xs (One q) v = Unit {0}
-CanRead xs Stops v = v < length xs
+abbrev pub CanReadSite : List ℕ → Site → ℕ → Type 0
+CanReadSite xs (One q) v = Unit {0}
+CanReadSite xs Stops v = v < length xs
 
 abbrev pub SiteInside : ℕ → ℕ → Site → Type 0
 SiteInside n b (One q) = q < n

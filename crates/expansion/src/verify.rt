@@ -4,7 +4,7 @@ ghost use mathlib.Core.Path.{_≡_};
 ghost use Prim.Native.Nat.{_+_, _≤_, _<_};
 ghost use Rattle.network.specs.Network.{network};
 ghost use Rattle.network.specs.Points.{othersAt};
-ghost use Rattle.expansion.specs.Visited.{CanRead, isSite, CanVisit, CameTo, Visited, VerifyLeft};
+ghost use Rattle.expansion.specs.Visited.{CanReadSite, isSite, CanVisit, CameTo, Visited, VerifyLeft};
 use crate::step;
 use crate::step::Taken;
 use network::arcs::wide;
@@ -64,7 +64,7 @@ fn counts(points: &[u8], p: u32, node: u32) -> usize
 
 // Whether a node is the site, or one of its nodes.
 fn is_site(s: &[u32], site: Site, node: u32) -> bool
-    requires { ⌜ CanRead (now s) site node ⌝ }
+    requires { ⌜ CanReadSite (now s) site node ⌝ }
     ensures { λ r. ⌜ r ≡ isSite (now (s .entry)) site node ⌝ }
 {
     match site {

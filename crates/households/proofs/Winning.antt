@@ -20,7 +20,6 @@ use Rattle.network.specs.Households.{isWon, won}
 use Rattle.network.specs.Nearest.{nearest}
 use Rattle.network.proofs.Households.{won-parts, parts-won}
 use Rattle.network.proofs.Lends.{first-size, first-part, first-after}
-use Rattle.network.proofs.Distances.{dist-symmetric}
 use Rattle.network.proofs.Counts.{select-same}
 use Rattle.expansion.specs.Queue.{keyOf}
 use Rattle.expansion.specs.Tags.{tagOf}

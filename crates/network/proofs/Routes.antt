@@ -19,7 +19,7 @@ use Rattle.network.specs.Count.{select}
 use Rattle.network.specs.Points.{marked, othersNearer, verified, isListed, listed}
 use Rattle.network.specs.Routes.{hasRoad, breaksFrom, badRoute, onRoute, listedForAny, isTouched, touched, verifiedFrom, isReceived, OneSearch, Road, IsRoute, ByRoads}
 use Rattle.network.proofs.Tests.{bool-cases, alike, and-parts, and-intro, or-parts, or-intro, or-cases, or-left, or-right, one-any, any-passes}
-use Rattle.network.proofs.Counts.{select-same, selected, select-passed}
+use Rattle.network.proofs.Counts.{select-same, selected, select-passed, member-at}
 use Rattle.network.proofs.Ranges.{arc-at, arc-place}
 use Rattle.network.proofs.NumberZero.{accepted-ranges}
 use Rattle.network.proofs.Distances.{dist-symmetric}
@@ -43,6 +43,10 @@ on-member (r ∷ rs) v = (
       (λ i. or-right (eqb v r) (onRoute rs v) (on-member rs v .1 i))
       (List·Memᴰ·cases-cons m),
 )
+
+-- the node at a place of a list is on it
+pub on-place : (R : List ℕ) (i : ℕ) → i < length R → onRoute R (getD R i 0) ≡ true
+on-place R i h = on-member R (getD R i 0) .1 (member-at 0 R i h)
 
 pub on-selected : (t : ℕ → Bool) (n v : ℕ) → onRoute (select t n) v ≡ (ltb v n && t v)
 on-selected t n v =

@@ -2,7 +2,7 @@
 -- Assumes nothing.
 use Prim.Native.Nat.{ℕ, zero, suc, _+_, _<_}
 use mathlib.Core.Path.{_≡_, refl, sym, ap, _∙_}
-use mathlib.Core.Bool.{Bool, true, false, not, _||_, false≢true}
+use mathlib.Core.Bool.{Bool, true, false, not, _||_}
 use mathlib.Core.Logic.{_≢_, inl, ⊎-elim}
 use mathlib.Core.List.{List, [], _∷_}
 use native.Mathlib.Decide.{ℕ-discrete}
@@ -14,8 +14,6 @@ use lib.Seq.{getD-set-same, getD-set-other}
 use borrow.Author.Tests.{eq-eqb, ne-eqb, eqb-true, not-false}
 use Rattle.network.specs.Routes.{onRoute}
 use Rattle.network.proofs.Tests.{bool-cases}
-use Rattle.network.proofs.Counts.{member-at}
-use Rattle.network.proofs.Routes.{on-member}
 use Rattle.expansion.specs.Queue.{keyOf}
 use Rattle.expansion.specs.Tags.{tagOf, nodeOf}
 use Rattle.expansion.specs.NodeQueue.{Free, NodeQueue, PushedNode}
@@ -45,10 +43,6 @@ on-more R i v x h is =
     ap (λ (j : ℕ). onRoute (take j R) v) (add-one i)
     ∙ on-next v R i h
     ∙ ap (λ (y : ℕ). eqb v y || onRoute (take i R) v) (sym is)
-
--- a node of a list is on it
-pub on-place : (R : List ℕ) (i : ℕ) → i < length R → onRoute R (getD R i 0) ≡ true
-on-place R i h = on-member R (getD R i 0) .1 (member-at 0 R i h)
 
 pub started-none : {n : ℕ} {R xs : List ℕ} {b : ℕ} → CanStartRoute n R xs b → RouteStarted n [] xs xs b 0
 unfolding onRoute

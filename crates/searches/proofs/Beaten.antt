@@ -2,7 +2,7 @@
 -- nearer than it to each node behind m too.
 -- Assumes nothing.
 use Prim.Native.Nat.{ℕ, _+_, _≤_, _<_}
-use mathlib.Core.Path.{_≡_, ap, _∙_}
+use mathlib.Core.Path.{_≡_, ap}
 use mathlib.Core.Bool.{true, not}
 use mathlib.Core.Logic.{_≢_, _↔_}
 use mathlib.Core.List.{List}

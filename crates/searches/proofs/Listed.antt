@@ -13,7 +13,7 @@ use Rattle.network.specs.Accepted.{Accepted}
 use Rattle.network.specs.Distance.{NONE, dist}
 use Rattle.network.proofs.Tests.{and-parts, and-intro}
 use Rattle.network.proofs.Distances.{dist-symmetric}
-use Rattle.network.specs.Points.{lockers, marked, othersNearer, verified, isListed}
+use Rattle.network.specs.Points.{marked, othersNearer, verified, isListed}
 use Rattle.network.proofs.Rank.{others-part}
 use Rattle.expansion.proofs.Origins.{one}
 use Rattle.searches.proofs.Beaten.{Unbeaten, Part, part-marked}

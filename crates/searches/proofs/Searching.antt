@@ -2,7 +2,7 @@
 -- settled node was looked at: those of the list L, of the at most k points that are nearer to it than its label, have their found flags.
 -- Assumes nothing.
 use Prim.Native.Nat.{ℕ, _+_, _≤_, _<_}
-use mathlib.Core.Path.{_≡_, refl, sym, ap, _∙_}
+use mathlib.Core.Path.{_≡_, sym, ap, _∙_}
 use mathlib.Core.Bool.{Bool, true}
 use mathlib.Core.Logic.{_≢_, inl, ⊎-elim}
 use mathlib.Core.List.{List, _++_}
@@ -19,7 +19,7 @@ use Rattle.network.proofs.Lends.{first-part}
 use Rattle.network.proofs.Rank.{Near}
 use Rattle.network.proofs.Rows.{near-listed}
 use Rattle.expansion.specs.declared.verify.Site.{Site}
-use Rattle.expansion.specs.Visited.{isStop, SiteInside}
+use Rattle.expansion.specs.Visited.{SiteInside}
 use Rattle.expansion.specs.Area.{LabelAt, Moved, Took, Followed}
 use Rattle.expansion.proofs.Origins.{Origin, Lawful}
 use Rattle.expansion.proofs.Search.{Leads}

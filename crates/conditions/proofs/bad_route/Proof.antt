@@ -2,15 +2,15 @@
 -- is left of the list.
 -- Assumes nothing.
 use Prim.Native.Nat.{ℕ, _-_, _≤_}
-use mathlib.Core.Path.{_≡_, sym, ap, _∙_}
-use mathlib.Core.Bool.{not}
+use mathlib.Core.Path.{_≡_, sym, _∙_}
 use mathlib.Core.List.{List}
 use native.Mathlib.Omega.{arith}
 use lib.ListN.{length, getD}
 use borrow.Author.Tests.{not-true, not-false}
 use Rattle.network.specs.Network.{Network, network}
 use Rattle.network.specs.Routes.{hasRoad, badRoute}
-use Rattle.conditions.proofs.Along.{on-at, breaksAt, no-node, breaks-start, breaks-here, breaks-next, breaks-end}
+use Rattle.network.proofs.Routes.{on-place}
+use Rattle.conditions.proofs.Along.{breaksAt, no-node, breaks-start, breaks-here, breaks-next, breaks-end}
 use borrow.Author.Needs.{needs}
 use Rattle.conditions.proofs.bad_route.Statement.{statement}
 use Rattle.conditions.proofs.bad_route.Tie as tie
@@ -67,7 +67,7 @@ shared-slice-read-to c = search needs
 has-road-requires : tie.Need-has-road-requires Inv-loop μ-loop
 has-road-requires c κs =
     let t = c .before .before .before in
-    rw (c .before .wide .ensures) (Entry t .pre _ (on-at (R (Entry t)) (t .before .loop .next - 1) (omega arith)))
+    rw (c .before .wide .ensures) (Entry t .pre _ (on-place (R (Entry t)) (t .before .loop .next - 1) (omega arith)))
 
 returns-2 : tie.Need-returns-2 Inv-loop μ-loop
 returns-2 c =

@@ -1,10 +1,5 @@
 -- `conditions::has_road` meets its contract: a's neighbours rise, so b stands at its lower bound or nowhere.
 -- Assumes nothing.
-use mathlib.Core.Path.{sym, _∙_}
-use mathlib.Core.List.{List}
-use Prim.Native.Nat.{ℕ}
-use Rattle.network.specs.Network.{Network, network, neighboursOf}
-use Rattle.network.specs.Parts.{LowerBound}
 use Rattle.conditions.proofs.Along.{road-past, road-told}
 use borrow.Author.Needs.{needs}
 use Rattle.conditions.proofs.has_road.Statement.{statement}

@@ -2,7 +2,6 @@
 -- Assumes nothing.
 use Prim.Native.Nat.{_-_}
 use mathlib.Core.Path.{_≡_, _∙_}
-use native.Mathlib.Omega.{arith}
 use lib.ListN.{length}
 use Rattle.conditions.specs.Conditions.{nodesNumber}
 use Rattle.conditions.proofs.Along.{nodesFrom, nodes-start, nodes-here, nodes-next, nodes-end}

@@ -7,9 +7,10 @@ use native.Mathlib.Omega.{arith}
 use lib.ListN.{length, take}
 use lib.Seq.{take-length}
 use Rattle.network.specs.Routes.{onRoute}
+use Rattle.network.proofs.Routes.{on-place}
 use Rattle.expansion.specs.Tags.{tagOf}
 use Rattle.routes.specs.Route.{RouteStarted}
-use Rattle.routes.proofs.Starting.{on-place, started-none, mark-fits, started-again, queue-marked, can-push, started-more}
+use Rattle.routes.proofs.Starting.{started-none, mark-fits, started-again, queue-marked, can-push, started-more}
 use borrow.Author.Needs.{needs}
 use Rattle.routes.proofs.start.Statement.{statement}
 use Rattle.routes.proofs.start.Tie as tie
