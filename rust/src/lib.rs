@@ -15,7 +15,7 @@
 //! | [`Points`] | the lockers: how many stand on each node, 0 to 15; households and sites as well |
 //! | [`Engine`] | the calls without a table, on one network: [distances](Engine::distances), [nearest](Engine::nearest), [verify](Engine::verify), [eager](Engine::eager), [the short query](Engine::short_query), [lazy](Engine::lazy), [lazy-EP](Engine::lazy_ep), [households](Engine::households), [the sheet](Engine::sheet), [routes](Engine::route) |
 //! | [`Table`] | the K nearest points of each node, with the points that it stands for: [build](Table::build), [insert](Table::insert), [remove](Table::remove), [query](Table::query), [check](Table::check), [the nearer row](Table::nearer_row) |
-//! | [`Refusal`] | why a call was refused: one case for each number of document 01, and of document 02 |
+//! | [`Refusal`] | why a call was refused: one case for each number of document 01, and for 14 of document 02 |
 //!
 //! [`road_list`] reads a network and its points from plain text, with messages that name the line,
 //! and [`calls`] has each call over slices that the caller owns, as `overlap.h` has them for C. The

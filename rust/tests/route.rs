@@ -622,11 +622,10 @@ mod agreement {
                 if random.once_in(4) {
                     call.change_route(&mut random, Vec::clear);
                 }
-                let (_, left) = match call.number() {
+                let outcome = match call.number() {
                     0 => call.accepted_by(&pairs),
                     number => call.refused(number),
                 };
-                let outcome = (call.clone().run(), left);
                 assert_outcome(call, &outcome);
                 last = outcome.1;
             }

@@ -11,10 +11,9 @@ use lib.Dec.{eqb, leb, ltb}
 use lib.ListN.{length}
 use borrow.Author.Tests.{eq-eqb, ne-eqb, eqb-true, eqb-false, leb-false, ltb-false, not-false}
 use Rattle.network.specs.Count.{any}
-use Rattle.network.specs.Network.{Network}
-use Rattle.network.specs.Routes.{onRoute, badRoute}
+use Rattle.network.specs.Routes.{onRoute}
 use Rattle.network.proofs.Tests.{or-parts, or-cases}
-use Rattle.conditions.specs.Conditions.{firstNumber, badByteAt, pointsNumber, nodeNumber, nodesNumber, tableNumber, kNumber, tableKNumber, shortNumber, routeNumber}
+use Rattle.conditions.specs.Conditions.{firstNumber, badByteAt, pointsNumber, nodeNumber, nodesNumber, tableNumber, kNumber, tableKNumber, shortNumber}
 
 -- the clauses of `firstNumber`: the first number is not 0; it is
 pub first-is : (x : ℕ) (xs : List ℕ) (r : ℕ) → r ≡ x → r ≢ 0 → r ≡ firstNumber (x ∷ xs)
@@ -113,7 +112,3 @@ table-k-ready k K e =
     let r = or-parts (eqb k 0) _ (number-none (eqb k 0 || leb K k) 9 (omega arith) e) in
     let n = eqb-false k 0 (r .0) in
     (omega arith, leb-false K k (r .1))
-
-pub route-ready : (g : Network) (R : List ℕ) → routeNumber g R ≡ 0 → badRoute g R ≡ false
-unfolding routeNumber
-route-ready g R e = number-none (badRoute g R) 14 (omega arith) e

@@ -99,10 +99,13 @@ site-member g xs (One q) v h = sym (or-none (eqb v q))
     or-none false = refl
 site-member g xs Stops v h = sym (on-selected (isStop xs) (nodeCount g) v ∙ ap (λ b. b && isStop xs v) (lt-ltb v (nodeCount g) h))
 
--- the words before the area stay, and so do they
+-- the same word, the same answer; the words before the area stay, and so do they
+pub stop-same : (xs ys : List ℕ) (v : ℕ) → getD ys v 0 ≡ getD xs v 0 → isStop ys v ≡ isStop xs v
+stop-same xs ys v e = ap (λ (w : ℕ). eqb w 2) e
+
 pub site-kept : {n b : ℕ} {xs ys : List ℕ} (site : Site) (v : ℕ) → SiteInside n b site → v < n → Kept xs ys b → isSite ys site v ≡ isSite xs site v
 site-kept (One q) v i h k = refl
-site-kept Stops v i h k = ap (λ (w : ℕ). eqb w 2) (k .words v (omega arith))
+site-kept {xs = xs} {ys = ys} Stops v i h k = stop-same xs ys v (k .words v (omega arith))
 
 -- what `is_site` requires
 pub can-read : (n b v : ℕ) (xs : List ℕ) (site : Site) → SiteInside n b site → v < n → b ≤ length xs → CanReadSite xs site v

@@ -18,7 +18,7 @@ use Rattle.network.proofs.Distances.{dist-self}
 use Rattle.network.proofs.Totals.{total-same, sum-none}
 
 -- nothing is nearer than 0
-none-below : (g : Network) (T : List ℕ) (m : ℕ) → countNearer g T m 0 ≡ 0
+pub none-below : (g : Network) (T : List ℕ) (m : ℕ) → countNearer g T m 0 ≡ 0
 unfolding countNearer isNearer
 none-below g T m =
     sum-none (isNearer g T m 0) (lockers T) (nodeCount g)

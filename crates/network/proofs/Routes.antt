@@ -199,8 +199,8 @@ one-node {g} ok P k q =
     list ok P (q ∷ []) k
     ∙ select-same (isReceived g P (q ∷ []) k) (isListed g P q k) (nodeCount g) (λ p l. received-one ok P q k p)
 
-pub one-search : {g : Network} → Accepted g → (P R : List ℕ) (k : ℕ) → OneSearch g P R k
-one-search ok P R k = record { union = union ok P R k; list = list ok P R k; one-node = one-node ok P k }
+pub one-search : {g : Network} → Accepted g → (P : List ℕ) (k : ℕ) → OneSearch g P k
+one-search ok P k = record { union = λ R p. union ok P R k p; list = λ R. list ok P R k; one-node = one-node ok P k }
 
 -- ---- The tests of 14, by arcs.
 

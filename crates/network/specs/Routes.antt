@@ -1,4 +1,4 @@
--- Document 02, Ask 7, 'Routes': 'The input is a list of nodes, each joined by a road to the one after it.' Which lists are none, who is listed for a route;
+-- Document 02, Ask 7, 'Routes': 'The input is a list of nodes, each joined by a road to the one after it.' Which lists are no routes, who is listed for one;
 -- and as statements that the tests of 14 say so by arcs, and the Ask's own claim (`by-roads` and `one-search` of proofs/Routes.antt).
 -- Assumes nothing.
 use Prim.Native.Nat.{ℕ, suc, _≤_, _<_}
@@ -44,7 +44,8 @@ isTouched g P R k p = not (onRoute R p) && listedForAny g P R k p
 unfoldable pub touched : Network → List ℕ → List ℕ → ℕ → List ℕ
 touched g P R k = select (isTouched g P R k) (nodeCount g)
 
--- ---- What one search from all nodes together finds: the rule of a site (`verified`, `isListed`), with the distance to the nearest of several nodes.
+-- ---- What one search from all nodes together finds: the rule of a site (`verified`, `isListed`), with the distance to the nearest of several nodes. The
+-- call's contract cites the union alone.
 unfoldable pub verifiedFrom : Network → List ℕ → ℕ → List ℕ → ℕ → Bool
 verifiedFrom g P p S k =
     let d = distFrom g S p in
@@ -53,10 +54,11 @@ verifiedFrom g P p S k =
 unfoldable pub isReceived : Network → List ℕ → List ℕ → ℕ → ℕ → Bool
 isReceived g P S k p = marked P p && verifiedFrom g P p S k
 
--- 'One search from all nodes together must equal that union for every route and k from 1 to 16, and agree with eager on a route of one node.'
-pub record OneSearch (g : Network) (P R : List ℕ) (k : ℕ) : Type 0 where
-  pub union : (p : ℕ) → isTouched g P R k p ≡ isReceived g P R k p
-  pub list : touched g P R k ≡ select (isReceived g P R k) (nodeCount g)
+-- 'One search from all nodes together must equal that union for every route and k from 1 to 16, and agree with eager on a route of one node': on an accepted
+-- network, for every list and every k
+pub record OneSearch (g : Network) (P : List ℕ) (k : ℕ) : Type 0 where
+  pub union : (R : List ℕ) (p : ℕ) → isTouched g P R k p ≡ isReceived g P R k p
+  pub list : (R : List ℕ) → touched g P R k ≡ select (isReceived g P R k) (nodeCount g)
   pub one-node : (q : ℕ) → touched g P (q ∷ []) k ≡ listed g P q k
 
 -- ---- What the tests of 14 say, by arcs.

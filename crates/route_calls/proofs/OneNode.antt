@@ -1,6 +1,6 @@
 -- A route of one node is answered as a site: its number is that of a search, as no road can be missing, and what it touches is what the node receives.
 -- Assumes nothing.
-use Prim.Native.Nat.{ℕ, _≤_}
+use Prim.Native.Nat.{ℕ}
 use mathlib.Core.Path.{_≡_, refl, sym, ap, _∙_}
 use mathlib.Core.List.{List, [], _∷_}
 use native.Mathlib.Decide.{ℕ-discrete, decLt}
@@ -58,7 +58,7 @@ module _ (g : Network) (P : List ℕ) (q k : ℕ) where
         | no n ↦ sym (list-refused (touched g P (q ∷ []) k) scratch answers number refl n) ∙ list-refused (listed g P q k) scratch answers number refl n
         | yes z ↦
             let ok = search-ready g P q k scratch answers (sym e ∙ z) .query .accepted in
-            ap (λ (list : List ℕ). listOutcome number list scratch answers) (one-search ok P [] k .one-node q)
+            ap (λ (list : List ℕ). listOutcome number list scratch answers) (one-search ok P k .one-node q)
       ]
 
   as-search : (scratch answers : List ℕ) → routeOutcome g P (q ∷ []) k scratch answers ≡ lazyOutcome g P q k scratch answers

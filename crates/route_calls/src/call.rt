@@ -23,7 +23,7 @@ pub fn answer(
         ⌜ record { answer = r; scratch = now (scratch .exit); answers = now (answers .exit) }
         ≡ routeOutcome g (now (points .entry)) (now (route .entry)) k (now (scratch .entry)) (now (answers .entry)) ⌝ }
 {
-    let refusal = number::route_number(
+    let refusal = number::route_call_number(
         starts,
         neighbours,
         weights,

@@ -4,7 +4,7 @@ ghost use Rattle.network.specs.Network.{network};
 ghost use Rattle.route_calls.specs.Numbers.{routeCallNumber};
 
 // 1 to 5, 6, 7 of each node, 9, 10, 14; m is k.
-pub fn route_number(
+pub fn route_call_number(
     starts: &[u32],
     neighbours: &[u32],
     weights: &[u32],

@@ -119,7 +119,7 @@ module _ {g : Network} {P R : List ℕ} {k : ℕ} {s₀ : List ℕ} (c : CanRout
               λ p h.
               found-all (from-route (stopsIn (nodeCount g) xs)) e z p h
               ∙ received-same g P p (stopsIn (nodeCount g) xs) R k same
-              ∙ sym (one-search ok P R k .union p);
+              ∙ sym (one-search ok P k .union R p);
         }
 
 -- the list of the flags

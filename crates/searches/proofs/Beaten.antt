@@ -16,8 +16,9 @@ use Rattle.network.specs.Distance.{NONE, dist}
 use Rattle.network.specs.Order.{Nearer}
 use Rattle.network.proofs.Tests.{and-parts, and-intro}
 use Rattle.network.specs.Points.{lockers, marked, isNearer, countNearer, isExpanded}
-use Rattle.network.proofs.Totals.{sum-le, sum-mono, sum-none}
+use Rattle.network.proofs.Totals.{sum-le}
 use Rattle.network.proofs.Distances.{dist-symmetric, dist-arc}
+use Rattle.network.proofs.Households.{none-below}
 use Rattle.network.proofs.Rank.{nearer-passes, passes-nearer, count-nearer-mono}
 use Rattle.expansion.proofs.Origins.{Origin, Lawful, one}
 use Rattle.expansion.proofs.Search.{ClosedBefore}
@@ -56,12 +57,8 @@ unbeaten-part g M P o k m sub n b = n (beaten-part g M P o k m sub b)
 
 -- farther out no fewer are nearer
 pub nearer-farther : (g : Network) (M : List ℕ) (m d e : ℕ) → d ≤ e → countNearer g M m d ≤ countNearer g M m e
-unfolding countNearer
 nearer-farther g M m d e h =
-    sum-mono (isNearer g M m d) (isNearer g M m e) (lockers M) (nodeCount g)
-    (λ x l a.
-    let r = passes-nearer {e = d} l a in
-    nearer-passes {e = e} (record { inside = l; point = r .point; less = omega (arith, r .less) }))
+    count-nearer-mono g M m m d e (λ x r. record { inside = r .inside; point = r .point; less = omega (arith, r .less) })
 
 -- What a search tells from the count at a label l that is the distance of m if m is unbeaten, and no less in any case.
 module _ (g : Network) (M : List ℕ) (o : Origin) (k m l : ℕ) where
@@ -91,14 +88,7 @@ module _ {g : Network} (ok : Accepted g) {o : Origin} (lawful : Lawful g o) (M :
 
   -- nothing is nearer to a source than itself
   pub source-unbeaten : 1 ≤ k → (s : ℕ) → o .Source s → Unbeaten g M o k s
-  unfolding countNearer
-  source-unbeaten some s h b =
-      omega (
-        arith,
-        lawful .zero s h,
-        sum-none (isNearer g M s (o .far s)) (lockers M) (nodeCount g)
-            (λ x l a. absurd (omega (arith, lawful .zero s h, passes-nearer {P = M} {e = o .far s} l a .less))),
-      )
+  source-unbeaten some s h b = omega (arith, ap (countNearer g M s) (lawful .zero s h), none-below g M s)
 
 -- the nodes of the whole search from a site
 pub expanded-unbeaten : {g : Network} → Accepted g → (P : List ℕ) (q k m : ℕ) → (isExpanded g P q k m ≡ true) ↔ ((dist g q m ≢ NONE) × Unbeaten g P (one g q) k m)

@@ -19,7 +19,7 @@ use Rattle.expansion.specs.Area.{Blank}
 use Rattle.expansion.specs.declared.verify.Site.{Site}
 use Rattle.expansion.specs.declared.verify.Site.the-variants.{One, Stops}
 use Rattle.expansion.specs.Visited.{isStop, verifiedAt, CanVisit, VerifyLeft}
-use Rattle.expansion.proofs.VisitLaws.{stops-same}
+use Rattle.expansion.proofs.VisitLaws.{stop-same, stops-same}
 use Rattle.searches.proofs.Listed.{listed-verified, verified-listed}
 use Rattle.searches.specs.Flags.{idsBase, innerBase, siteLists, Grows, CanVerifyOnce, CanVerifyAll, VerifiedOnce, VerifiedAll, Flags}
 
@@ -138,7 +138,7 @@ module _ {g : Network} {P : List ℕ} {site : Site} {k p : ℕ} {xs : List ℕ} 
     stops-kept ws other own v h =
         elim (ℕ-discrete v p) [
           | yes e ↦ rw (e, own, new)
-          | no n ↦ ap (λ (w : ℕ). eqb w 2) (other v n (omega arith))
+          | no n ↦ stop-same xs ws v (other v n (omega arith))
         ]
 
     -- only p's flags change, and its found flag is right

@@ -8,7 +8,6 @@ use mathlib.Core.Logic.{_≢_, ⊎-elim}
 use mathlib.Core.List.{List, [], _∷_, List·Memᴰ, List·Memᴰ·cases-cons, List·Memᴰ·not-nil}
 use native.Mathlib.Decide.{decLt}
 use native.Mathlib.Omega.{arith}
-use lib.Dec.{eqb}
 use lib.ListN.{length, getD, replicate, length-replicate}
 use lib.Seq.{getD-drop}
 use borrow.Rule.Slice.PartMut.{midOf, putMid}
@@ -25,6 +24,7 @@ use Rattle.expansion.proofs.LentParts.{lent-part, lent-length}
 use Rattle.expansion.proofs.Places.{Next}
 use Rattle.expansion.proofs.Settled.{zero-blank}
 use Rattle.searches.specs.Flags.{flagsEnd, idsBase, siteLists, Flags, CanVerifyAll, VerifiedAll, CanLook, Looked, LookedAt}
+use Rattle.expansion.proofs.VisitLaws.{stop-same}
 use Rattle.searches.proofs.FlagLaws.{lists-same}
 use Rattle.network.proofs.Lends.{Returned, returned}
 
@@ -98,7 +98,7 @@ module _ {g : Network} {P : List ℕ} {site : Site} {k : ℕ} {xs : List ℕ} {v
 
     -- what `verify_found` requires
     lent-stops : (x : ℕ) → x < nodeCount g → isStop (putMid (idsBase g) (length xs - idsBase g) xs zs) x ≡ isStop xs x
-    lent-stops x h = ap (λ (w : ℕ). eqb w 2) (back .before x (omega arith))
+    lent-stops x h = stop-same xs (putMid (idsBase g) (length xs - idsBase g) xs zs) x (back .before x (omega arith))
 
     same : siteLists g P (putMid (idsBase g) (length xs - idsBase g) xs zs) site k ≡ siteLists g P xs site k
     same = lists-same g P site k xs (putMid (idsBase g) (length xs - idsBase g) xs zs) lent-stops
@@ -146,7 +146,11 @@ module _ {g : Network} {P : List ℕ} {site : Site} {k : ℕ} {xs : List ℕ} {v
           rw (← same)
           record {
             looked = all;
-            stops = λ x h. ap (λ (w : ℕ). eqb w 2) (clear .before x (omega arith)) ∙ a .flagged .stops x h ∙ lent-stops x h;
+            stops =
+                λ x h.
+                stop-same ws (putMid (idsBase g) (idsBase g + r .found - idsBase g) ws us) x (clear .before x (omega arith))
+                ∙ a .flagged .stops x h
+                ∙ lent-stops x h;
           }
         where
           told : (p d : ℕ) → List·Memᴰ (p, d) (nearest g P v l k) → siteLists g P (putMid (idsBase g) (length xs - idsBase g) xs zs) site k p ≡ true → getD (putMid (idsBase g) (idsBase g + r .found - idsBase g) ws us) (nodeCount g + p) 0 ≢ 0

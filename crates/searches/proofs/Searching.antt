@@ -2,13 +2,12 @@
 -- settled node was looked at: those of the list L, of the at most k points that are nearer to it than its label, have their found flags.
 -- Assumes nothing.
 use Prim.Native.Nat.{ℕ, _+_, _≤_, _<_}
-use mathlib.Core.Path.{_≡_, sym, ap, _∙_}
+use mathlib.Core.Path.{_≡_, sym, _∙_}
 use mathlib.Core.Bool.{Bool, true}
 use mathlib.Core.Logic.{_≢_, inl, ⊎-elim}
 use mathlib.Core.List.{List, _++_}
 use native.Mathlib.Decide.{decLt}
 use native.Mathlib.Omega.{arith}
-use lib.Dec.{eqb}
 use lib.ListN.{length, getD, set, take, drop, length-set, List·getD-eq-default}
 use lib.Seq.{getD-take, length-take-le, getD-set-other}
 use Rattle.network.specs.Network.{Network, nodeCount, neighboursOf}
@@ -28,6 +27,7 @@ use Rattle.expansion.proofs.AreaSearch.{search-finished}
 use Rattle.expansion.proofs.Progress.{Progress, progress-settled}
 use Rattle.expansion.proofs.Beside.{Beside, beside-first, beside-label-at, progress-beside}
 use Rattle.expansion.proofs.Stopping.{progress-stopped, took-beside}
+use Rattle.expansion.proofs.VisitLaws.{stop-same}
 use Rattle.searches.specs.Flags.{flagsEnd, idsBase, innerBase, siteLists, Flags, CanLook, Looked, LookedAt}
 use Rattle.searches.specs.Eager.{eagerOuterBase, isFound}
 use Rattle.searches.proofs.Beaten.{Beaten, Unbeaten}
@@ -57,7 +57,7 @@ pub record Searching (g : Network) (P : List ℕ) (o : Origin) (site : Site) (L 
 -- the same words before n, the same list
 module _ (g : Network) (P : List ℕ) (site : Site) (k : ℕ) (xs ys : List ℕ) where
   pub lists-kept : ((i : ℕ) → i < nodeCount g → getD ys i 0 ≡ getD xs i 0) → siteLists g P ys site k ≡ siteLists g P xs site k
-  lists-kept same = lists-same g P site k xs ys (λ v h. ap (λ (w : ℕ). eqb w 2) (same v h))
+  lists-kept same = lists-same g P site k xs ys (λ v h. stop-same xs ys v (same v h))
 
 module _ {g : Network} {P : List ℕ} {o : Origin} {site : Site} {L : ℕ → Bool} {k b : ℕ} (c : SearchFrom g P o site L k b) where
   ok : Accepted g
@@ -140,7 +140,7 @@ module _ {g : Network} {P : List ℕ} {o : Origin} {site : Site} {L : ℕ → Bo
             progress = progress-beside beside-old ok (e .progress);
             lists =
                 lists-same g P site k (take b ys) (zs ++ drop b xs)
-                (λ x h. ap (λ (w : ℕ). eqb w 2) (now-word x (omega (arith, low))) ∙ at .stops x h)
+                (λ x h. stop-same zs (zs ++ drop b xs) x (now-word x (omega (arith, low))) ∙ at .stops x h)
                 ∙ lent-lists;
             flags = flags-same (λ i h. now-word i (omega (arith, low))) (seen .flags);
             blank = λ j h m. now-word j m ∙ seen .blank .zero j h;

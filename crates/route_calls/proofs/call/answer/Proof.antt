@@ -19,7 +19,7 @@ use Rattle.route_calls.proofs.call.answer.Tie as tie
 abbrev G : tie.Start → Network
 G s = network (s .args .starts .now) (s .args .neighbours .now) (s .args .weights .now)
 
-abbrev start : tie.After-route-number → tie.Start
+abbrev start : tie.After-route-call-number → tie.Start
 start n = n .before .before .before .before .before .before .before .before .before .before
 
 -- behind the test no condition is met
@@ -28,10 +28,10 @@ ready e =
     let n = e .before in
     let a = start n .args in
     route-call-ready (G (start n)) (a .points .now) (a .route .now) (a .k) (a .scratch .now) (a .answers .now)
-    (sym (n .route-number .ensures) ∙ e .if1 .left)
+    (sym (n .route-call-number .ensures) ∙ e .if1 .left)
 
-route-number-requires : tie.Need-route-number-requires
-route-number-requires c κs = search needs
+route-call-number-requires : tie.Need-route-call-number-requires
+route-call-number-requires c κs = search needs
 
 same-length : tie.Need-same-length
 same-length c = search needs
@@ -43,7 +43,7 @@ returns : tie.Need-returns
 unfolding routeOutcome
 returns c =
     let n = c .before in
-    list-refused _ _ _ (n .route-number .result) (n .route-number .ensures) (c .if1 .taken)
+    list-refused _ _ _ (n .route-call-number .result) (n .route-call-number .ensures) (c .if1 .taken)
 
 zero-requires : tie.Need-zero-requires
 zero-requires c κs = search needs
@@ -85,7 +85,7 @@ returns-2 c =
     let a = start n .args in
     let long = length (a .scratch .now) in
     let h = w .touched .ensures in
-    list-done _ _ _ (sym (n .route-number .ensures) ∙ e .if1 .left)
+    list-done _ _ _ (sym (n .route-call-number .ensures) ∙ e .if1 .left)
     (all-zero long (zero-length long (z .zero .ensures)) (h .area))
     (h .sized ∙ ap (λ k. length (touched (G (start n)) (a .points .now) (a .route .now) k)) (v .wide .ensures))
     (h .answers ∙ ap (λ k. answered (touched (G (start n)) (a .points .now) (a .route .now) k) (a .answers .now)) (v .wide .ensures))
@@ -94,7 +94,7 @@ pub answer-spec : {M : Type 1} → statement M
 answer-spec =
     tie.close
     (tie.spec
-    route-number-requires
+    route-call-number-requires
     same-length
     same-length-2
     returns

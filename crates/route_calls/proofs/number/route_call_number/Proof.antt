@@ -1,4 +1,4 @@
--- `route_calls::number::route_number` meets its contract: behind each test its number is 0, and the first that is not is returned.
+-- `route_calls::number::route_call_number` meets its contract: behind each test its number is 0, and the first that is not is returned.
 -- Assumes nothing.
 use Prim.Native.Nat.{ℕ, _<_}
 use mathlib.Core.Path.{_≡_, sym, _∙_}
@@ -12,8 +12,8 @@ use Rattle.conditions.proofs.Along.{accepted-along}
 use Rattle.numbers.proofs.Ready.{network-points-ready}
 use Rattle.route_calls.specs.Numbers.{routeCallNumber}
 use borrow.Author.Needs.{needs}
-use Rattle.route_calls.proofs.number.route_number.Statement.{statement}
-use Rattle.route_calls.proofs.number.route_number.Tie as tie
+use Rattle.route_calls.proofs.number.route_call_number.Statement.{statement}
+use Rattle.route_calls.proofs.number.route_call_number.Tie as tie
 
 abbrev G : tie.Start → Network
 G s = network (s .args .starts .now) (s .args .neighbours .now) (s .args .weights .now)
@@ -101,8 +101,8 @@ returns-6 c =
     (first-later _ _ _ _ (c .before .before .short-number .ensures) (c .before .if5 .left)
     (first-last _ _ (c .route-number .ensures _))))))
 
-pub route-number-spec : {M : Type 1} → statement M
-route-number-spec =
+pub route-call-number-spec : {M : Type 1} → statement M
+route-call-number-spec =
     tie.close
     (tie.spec
     network-points-number-requires
