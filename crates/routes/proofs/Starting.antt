@@ -1,17 +1,17 @@
 -- The nodes of a route are put in, one after the other: each has its mark and waits at label 0, once.
 -- Assumes nothing.
-use Prim.Native.Nat.{ℕ, zero, suc, _+_, _<_}
+use Prim.Native.Nat.{ℕ, zero, suc, _+_, _*_, _≤_, _<_}
 use mathlib.Core.Path.{_≡_, refl, sym, ap, _∙_}
 use mathlib.Core.Bool.{Bool, true, false, not, _||_}
 use mathlib.Core.Logic.{_≢_, inl, ⊎-elim}
 use mathlib.Core.List.{List, [], _∷_}
-use native.Mathlib.Decide.{ℕ-discrete}
+use native.Mathlib.Decide.{ℕ-discrete, decLe}
 use native.Mathlib.Omega.{arith}
 use native.Mathlib.Numerals.{add-one}
 use lib.Dec.{eqb}
 use lib.ListN.{length, getD, set, take, length-set}
 use lib.Seq.{getD-set-same, getD-set-other}
-use borrow.Author.Tests.{eq-eqb, ne-eqb, eqb-true, not-false}
+use borrow.Author.Tests.{eq-eqb, ne-eqb, eqb-true, eqb-false, not-true, not-false}
 use Rattle.network.specs.Routes.{onRoute}
 use Rattle.network.proofs.Tests.{bool-cases}
 use Rattle.expansion.specs.Queue.{keyOf}
@@ -78,6 +78,25 @@ module _ (i : ℕ) {n : ℕ} {R xs ys : List ℕ} {b len : ℕ} (c : CanStartRou
       (λ e. e)
       (λ e. absurd (m (s .marks x inside ∙ ap stopWord e)))
       (bool-cases (onRoute (take i R) x))
+
+  -- a mark is that of an entry
+  pub mark-most : getD ys x 0 ≤ 2 * len
+  mark-most =
+      ⊎-elim
+      (λ e. let seat = on-waits e in omega (arith, s .marks x inside, ap stopWord e, entry (getD ys (b + x) 0) refl seat))
+      (λ e. omega (arith, s .marks x inside, ap stopWord e))
+      (bool-cases (onRoute (take i R) x))
+    where
+      on-waits : onRoute (take i R) x ≡ true → getD ys (b + x) 0 ≢ 0
+      on-waits e = eqb-false (getD ys (b + x) 0) 0 (not-true (eqb (getD ys (b + x) 0) 0) (s .waits x inside ∙ e))
+
+      entry : (w : ℕ) → getD ys (b + x) 0 ≡ w → getD ys (b + x) 0 ≢ 0 → 1 ≤ len
+      entry zero e m = absurd (m e)
+      entry (suc j) e m =
+          elim (decLe (getD ys (b + x) 0) n) [
+            | yes l ↦ omega (arith, s .area .queue .waits x j inside e (omega arith) .0)
+            | no l ↦ absurd (omega (arith, s .area .labelled x inside (omega arith) .low))
+          ]
 
   -- it was put in before
   pub started-again : i < length R → x ≡ getD R i 0 → getD ys x 0 ≢ 0 → RouteStarted n (take (i + 1) R) xs ys b len

@@ -1,16 +1,17 @@
 -- `routes::start` meets its contract. The invariant: the nodes before the present place have their mark and wait (`RouteStarted`). The measure is what is left of
 -- the list.
 -- Assumes nothing.
-use Prim.Native.Nat.{ℕ, _-_, _≤_, _<_}
+use Prim.Native.Nat.{ℕ, _-_, _*_, _≤_, _<_}
 use mathlib.Core.Path.{_≡_, sym, ap, _∙_}
+use mathlib.Core.Logic.{_≢_}
 use native.Mathlib.Omega.{arith}
-use lib.ListN.{length, take}
+use lib.ListN.{length, getD, take}
 use lib.Seq.{take-length}
 use Rattle.network.specs.Routes.{onRoute}
 use Rattle.network.proofs.Routes.{on-place}
 use Rattle.expansion.specs.Tags.{tagOf}
 use Rattle.routes.specs.Route.{RouteStarted}
-use Rattle.routes.proofs.Starting.{started-none, mark-fits, started-again, queue-marked, can-push, started-more}
+use Rattle.routes.proofs.Starting.{started-none, mark-fits, mark-most, started-again, queue-marked, can-push, started-more}
 use borrow.Author.Needs.{needs}
 use Rattle.routes.proofs.start.Statement.{statement}
 use Rattle.routes.proofs.start.Tie as tie
@@ -53,6 +54,16 @@ own t =
     let w = t .before .before .before in
     t .tag-of .ensures ∙ ap (λ (x : ℕ). tagOf x x) (sym (w .wide .ensures))
 
+-- where it is put in it had no mark; where it is passed over it has one, and was put in before: must-fail/first_node_only is refused there
+most : (w : tie.After-wide Inv-loop μ-loop) → getD (loop-of w .loop .s) (w .wide .result) 0 ≤ 2 * loop-of w .loop .len
+most w = let l = loop-of w in mark-most (l .loop .i) (start-of l .pre) (l .loop .inv .1) (inside w)
+
+new : (t : tie.Then1 Inv-loop μ-loop) → let w = t .before .before in getD (loop-of w .loop .s) (w .wide .result) 0 ≡ 0
+new t = omega (arith, t .if1 .taken, most (t .before .before))
+
+again : (t : tie.Else1 Inv-loop μ-loop) → let w = t .before .before in getD (loop-of w .loop .s) (w .wide .result) 0 ≢ 0
+again t = omega (arith, t .if1 .left, most (t .before .before))
+
 loop-holds : tie.Need-loop-holds Inv-loop μ-loop
 loop-holds c = (omega arith, started-none (c .before .before .pre))
 
@@ -93,7 +104,7 @@ push-requires c κs =
     let l = loop-of w in
     let p = start-of l .pre in
     let i = l .loop .inv .1 in
-    (queue-marked (l .loop .i) p i (inside w) (m .if1 .taken), can-push (l .loop .i) p i (inside w) (m .if1 .taken) (t .tag-of .result) (own t))
+    (queue-marked (l .loop .i) p i (inside w) (new m), can-push (l .loop .i) p i (inside w) (new m) (t .tag-of .result) (own t))
 
 add-len : tie.Need-add-len Inv-loop μ-loop
 add-len c = search needs
@@ -111,8 +122,7 @@ loop-again c =
     let h = in-of w .loop-test .taken in
     let e = p .push .ensures in (
       omega (arith, h),
-      -- the node put in is the one at the present place: must-fail/first_node_only is refused here
-      started-more (l .loop .i) (start-of l .pre) (l .loop .inv .1) (inside w) (m .if1 .taken) h (w .wide .ensures) (rw (own t) at e),
+      started-more (l .loop .i) (start-of l .pre) (l .loop .inv .1) (inside w) (new m) h (w .wide .ensures) (rw (own t) at e),
     )
 
 loop-less-2 : tie.Need-loop-less-2 Inv-loop μ-loop
@@ -123,7 +133,7 @@ loop-again-2 c =
     let w = c .before .before in
     let l = loop-of w in
     let h = in-of w .loop-test .taken in
-    (omega (arith, h), started-again (l .loop .i) (start-of l .pre) (l .loop .inv .1) (inside w) h (w .wide .ensures) (c .if1 .left))
+    (omega (arith, h), started-again (l .loop .i) (start-of l .pre) (l .loop .inv .1) (inside w) h (w .wide .ensures) (again c))
 
 same-length : tie.Need-same-length Inv-loop μ-loop
 same-length c = search needs
