@@ -5,7 +5,7 @@ ghost use Rattle.conditions.specs.Values.{listed_listing, rule_verdict, updated_
 
 // Number 0 and the length of a list; the count is 0 but for eager and the short query, which is eager.
 #[repr(C)]
-#[derive(Drop)]
+#[derive(Clone, Copy)]
 pub struct Listing {
     pub number: u32,
     pub count: u32,
@@ -14,7 +14,7 @@ pub struct Listing {
 
 // Number 0 and yes (1) or no (0).
 #[repr(C)]
-#[derive(Drop)]
+#[derive(Clone, Copy)]
 pub struct Verdict {
     pub number: u32,
     pub yes: u32,
@@ -22,7 +22,7 @@ pub struct Verdict {
 
 // Number 0 and how many rows changed.
 #[repr(C)]
-#[derive(Drop)]
+#[derive(Clone, Copy)]
 pub struct Update {
     pub number: u32,
     pub changed: u32,
@@ -31,7 +31,7 @@ pub struct Update {
 // Of the nearer row (Ask 1): which part of which lent array its distances are: of the own ones (rival 0) or the rival's (1), from the start on. All 0 on a
 // refusal but the number.
 #[repr(C)]
-#[derive(Drop)]
+#[derive(Clone, Copy)]
 pub struct RowPart {
     pub number: u32,
     pub rival: u32,
@@ -40,21 +40,21 @@ pub struct RowPart {
 }
 
 // A search or nearest: refused, or the length of the list and the nodes expanded (0 but for eager and the short query).
-#[derive(Drop)]
+#[derive(Clone, Copy)]
 pub enum Listed {
     Refused(u32),
     Points { length: usize, count: u32 },
 }
 
 // Verify or the table check: refused, or yes or no.
-#[derive(Drop)]
+#[derive(Clone, Copy)]
 pub enum Rule {
     Refused(u32),
     Answer(bool),
 }
 
 // Insert or remove: refused, or how many rows changed.
-#[derive(Drop)]
+#[derive(Clone, Copy)]
 pub enum Updated {
     Refused(u32),
     Changed(u32),

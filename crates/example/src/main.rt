@@ -1,5 +1,6 @@
 // Network N of document 01 through every public call, with its cases P1 to P10, the lease list, sites against a rival's, routes and
 // the twelve refusals.
+#![tactic(auto)]
 use network_n::refusals;
 use network_n::text::put;
 

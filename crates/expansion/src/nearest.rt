@@ -9,14 +9,14 @@ use crate::{labels, step, words};
 use network::points::lockers_at;
 
 // What is found: how many nodes, and how many lockers on them, cut at k.
-#[derive(Drop)]
+#[derive(Clone, Copy)]
 pub struct Near {
     pub found: usize,
     pub tally: usize,
 }
 
 // Where a search ends: what is found, how many nodes are settled, and how many wait.
-#[derive(Drop)]
+#[derive(Clone, Copy)]
 struct Search {
     found: usize,
     tally: usize,

@@ -5,7 +5,7 @@ ghost use Rattle.std.specs.Prelude.{◌≡◌, ◌+◌, ◌*◌, ◌≤◌, ◌<
 ghost use Rattle.expansion.specs.Queue.{key_of, key_at, Queue, Pushed, Popped, LeastDistance, PushedAt, PoppedAt, Put, LeastChild, Children, Chosen, CanSink, CanRise, Filled, Sank};
 
 // An entry of a queue.
-#[derive(Drop)]
+#[derive(Clone, Copy)]
 pub struct Entry {
     pub distance: u32,
     pub tag: u32,

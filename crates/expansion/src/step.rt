@@ -12,7 +12,7 @@ use network::arcs;
 use network::arcs::wide;
 
 // What leaves the queue: an entry that none precedes, by label and then by node, with what is left; or nothing.
-#[derive(Drop)]
+#[derive(Clone, Copy)]
 pub enum Taken {
     Nothing,
     Node {

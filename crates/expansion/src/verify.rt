@@ -14,14 +14,14 @@ use network::points::lockers_at;
 pub const STOP: u32 = 2;
 
 // The site: a node, or the nodes of a route.
-#[derive(Drop)]
+#[derive(Clone, Copy)]
 pub enum Site {
     One { q: u32 },
     Stops,
 }
 
 // Whether the rule holds, and what stands in the area: how many nodes are settled, and how many entries wait.
-#[derive(Drop)]
+#[derive(Clone, Copy)]
 pub struct VisitEnd {
     pub yes: bool,
     pub settled: usize,
@@ -29,7 +29,7 @@ pub struct VisitEnd {
 }
 
 // The label that the expansion has come to, and the other lockers that it has settled: below that label, and at it.
-#[derive(Drop)]
+#[derive(Clone, Copy)]
 struct Tally {
     label: u32,
     below: usize,

@@ -3,7 +3,7 @@ ghost use Rattle.std.specs.Prelude.{◌≡◌};
 ghost use Rattle.network.specs.Distance.{NONE};
 
 // A distance, or NONE.
-#[derive(Drop)]
+#[derive(Clone, Copy)]
 pub struct Distance {
     pub value: u32,
 }

@@ -1,6 +1,7 @@
 // Network N of document 01, and each public call on it, with scratch for a k or K of 3, the largest here; eager, verify and the short query need less.
 // Insert, remove and the table check are lent a table with K = 2. And what the programs on N share: how they write, its rows, whether two arrays are the
 // same, and the refusals.
+#![tactic(auto)]
 use overlap::{Listing, RowPart, Update, Verdict};
 
 pub mod refusals;

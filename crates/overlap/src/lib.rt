@@ -1,5 +1,6 @@
 // The public calls of the overlap engine, as include/overlap.h declares them, and `overlap_nearer_row`, which returns a reference and is for Rattle alone. None
 // has a requires: bad input is refused by its number.
+#![tactic(auto)]
 ghost use Rattle.std.specs.Prelude.{◌≡◌};
 ghost use Rattle.network.specs.Network.{network};
 ghost use Rattle.network.specs.Check.{network_number};

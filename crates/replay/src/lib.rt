@@ -1,4 +1,5 @@
 // Replays a list of calls: build, then insert and remove, each with its own node, K and scratch length. What comes out is the plain book's.
+#![tactic(auto)]
 ghost use Rattle.std.specs.Prelude.{◌≡◌, length};
 ghost use Rattle.network.specs.Count.{any};
 ghost use Rattle.network.specs.Network.{network};
@@ -10,7 +11,7 @@ ghost use Rattle.replay.specs.Followed.{HasCall, words_at, ListFits, CallsFollow
 use overlap::Update;
 
 // The answer: the list does not fit its arrays, the build is refused with a number, or all calls were made.
-#[derive(Drop)]
+#[derive(Clone, Copy)]
 pub enum ReplayAnswer {
     Unfit,
     Refused(u32),
@@ -18,7 +19,7 @@ pub enum ReplayAnswer {
 }
 
 // The words of a call.
-#[derive(Drop)]
+#[derive(Clone, Copy)]
 pub struct CallWords {
     pub kind: u32,
     pub node: u32,

@@ -1,4 +1,5 @@
 // Replays lists of calls on network N of document 01, and prints what comes out of each.
+#![tactic(auto)]
 ghost use Rattle.std.specs.Prelude.{◌≤◌, ◌<◌, length};
 
 use network_n::{NEIGHBOURS, STARTS, WEIGHTS};

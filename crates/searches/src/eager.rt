@@ -13,14 +13,14 @@ use expansion::{step, words};
 use network::arcs::wide;
 
 // What a call leaves: refused, as the count would exceed the limit; or how many answers there are, and the count.
-#[derive(Drop)]
+#[derive(Clone, Copy)]
 pub enum Limited {
     Refused,
     Listed { size: usize, count: u32 },
 }
 
 // Where the expansion ends: whether the count would exceed the limit, the settled nodes, the entries that wait, and the nodes counted.
-#[derive(Drop)]
+#[derive(Clone, Copy)]
 struct End {
     refused: bool,
     settled: usize,

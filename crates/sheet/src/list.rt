@@ -12,7 +12,7 @@ use network::arcs::wide;
 use network::points::lockers_at;
 
 // How far a list has come: its nodes, and the households on them.
-#[derive(Drop)]
+#[derive(Clone, Copy)]
 pub struct Members {
     pub size: usize,
     pub sum: u32,

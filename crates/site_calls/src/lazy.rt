@@ -13,7 +13,7 @@ use expansion::words;
 use network::arcs::wide;
 
 // Which of the two.
-#[derive(Drop)]
+#[derive(Clone, Copy)]
 pub enum Method {
     Lazy,
     LazyEp,

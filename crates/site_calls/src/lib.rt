@@ -1,4 +1,5 @@
 // The calls without a table, but for the network check: each tests its conditions, then does its work. Document 01, 'What a site receives'.
+#![tactic(auto)]
 
 pub mod distances;
 pub mod eager;

@@ -19,7 +19,7 @@ use network::points::lockers_at;
 use rows::take;
 
 // An entry that a short row may take. A distance of NONE stands for none.
-#[derive(Drop)]
+#[derive(Clone, Copy)]
 struct Candidate {
     point: u32,
     distance: u32,

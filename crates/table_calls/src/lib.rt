@@ -1,4 +1,5 @@
 // The calls with a table: each tests its conditions, then does its work. Document 01, 'The table'.
+#![tactic(auto)]
 
 pub mod build;
 pub mod table_check;
