@@ -1,6 +1,6 @@
 -- The tests of the network check at one place, from what the code compares there.
 -- Assumes nothing.
-use Prim.Native.Nat.{ℕ, suc, ◌+◌, ◌-◌, ◌≤◌, ◌<◌}
+use Prim.Native.Nat.{ℕ, zero, suc, ◌+◌, ◌-◌, ◌≤◌, ◌<◌}
 use mathlib.Core.Path.{◌≡◌}
 use mathlib.Core.Bool.{true, false, ◌||◌}
 use mathlib.Core.Logic.{◌≢◌, ◌⊎◌, ⊎_elim}
@@ -58,6 +58,7 @@ module _ (xs : List ℕ) (e : ℕ) where
 
 -- a rising list holds x at its lower bound or nowhere
 pub rises : (xs : List ℕ) → Ascending xs → (i j : ℕ) → i < j → j < length xs → get_or xs i 0 < get_or xs j 0
+rises xs up i zero h l = elim h [ ]
 rises xs up i (suc j) h l =
     elim (ℕ_discrete i j) [
       | yes e ↦ rw (← e) (up.next i (omega arith))

@@ -28,10 +28,10 @@ pub data Last (g : Network) (t : ℕ → Bool) (b x s : ℕ) : Type 0 where
   at_end : x ≡ b → Last g t b x s
   onward : {c w r : ℕ} → Arc g x c w → Trail g (without t x) b c r → w + r ≤ s → Last g t b x s
 
-pub last : {g : Network} {t : ℕ → Bool} {a b s : ℕ} (x : ℕ) → Trail g t b a s → Trail g (without t x) b a s ⊎ Last g t b x s
-last {t} {a} x (stay f e) =
+pub last : {g : Network} {t : ℕ → Bool} {b a s : ℕ} (x : ℕ) → Trail g t b a s → Trail g (without t x) b a s ⊎ Last g t b x s
+last {t = t} {a = a} x (stay f e) =
     elim (ℕ_discrete a x) [ yes q ↦ inr (at_end (sym q ∙ e)) | no n ↦ inl (stay (without_other t x a n ∙ f) e) ]
-last {g} {t} {a} {b} x (go {c} {w} {s} f r tr) = again (last x tr)
+last {g = g} {t = t} {b = b} {a = a} x (go {c} {w} {s} f r tr) = again (last x tr)
   where
     again : Trail g (without t x) b c s ⊎ Last g t b x s → Trail g (without t x) b a (w + s) ⊎ Last g t b x (w + s)
     again (inl k) =

@@ -17,61 +17,61 @@ abbrev G : tie.Start → Network
 G s = network s.args.starts.now s.args.neighbours.now s.args.weights.now
 
 -- b's neighbours rise, and the place is that of a in them
-up : (c : tie.After-shared-slice-known3) → Ascending (neighbours_of (G c.before.before.before) c.before.before.before.args.b)
+up : (c : tie.After-shared_slice_known-3-1) → Ascending (neighbours_of (G c.before.before.before) c.before.before.before.args.b)
 up c = c.before.before.before.requires.0.ascending _ c.before.before.before.requires.1
 
-bound : (c : tie.After-lower-bound) → LowerBound (neighbours_of (G c.before.before.before.before.before) c.before.before.before.before.before.args.b) c.before.before.before.before.before.args.a c.lower-bound.result
-bound c = rw c.before.neighbours-of.ensures at c.lower-bound.ensures
+bound : (c : tie.After-lower_bound-place) → LowerBound (neighbours_of (G c.before.before.before.before.before) c.before.before.before.before.before.args.b) c.before.before.before.before.before.args.a c.lower_bound-place.result
+bound c = rw c.before.neighbours_of-ahead.ensures at c.lower_bound-place.ensures
 
-neighbours-of-requires : tie.Need-neighbours-of-requires
-neighbours-of-requires c κs = c.before.before.before.requires.0.neighbours.part _ c.before.before.before.requires.1
+neighbours_of-ahead-requires : tie.Need-neighbours_of-ahead-requires
+neighbours_of-ahead-requires c κs = c.before.before.before.requires.0.neighbours.part _ c.before.before.before.requires.1
 
-lower-bound-requires : tie.Need-lower-bound-requires
-lower-bound-requires c κs = rw c.neighbours-of.ensures (c.before.before.before.before.requires.0.ascending _ c.before.before.before.before.requires.1)
+lower_bound-place-requires : tie.Need-lower_bound-place-requires
+lower_bound-place-requires c κs = rw c.neighbours_of-ahead.ensures (c.before.before.before.before.requires.0.ascending _ c.before.before.before.before.requires.1)
+
+returns-then-ahead-place : tie.Need-returns-then-ahead-place
+returns-then-ahead-place c = sym (arc_nowhere _ _ _ _ _ (up c.before.before.before) (bound c.before) (inl (rw c.before.before.neighbours_of-ahead.ensures at c.if-ahead-place.true)))
+
+offset_bounds-ahead-place : tie.Need-offset_bounds-ahead-place
+offset_bounds-ahead-place c = search rules
+
+bounds-ahead-place : tie.Need-bounds-ahead-place
+bounds-ahead-place c = search rules
+
+returns-then-ahead-place-2 : tie.Need-returns-then-ahead-place-2
+returns-then-ahead-place-2 c = sym (arc_nowhere _ _ _ _ _ (up c.before.before.before.before.before) (bound c.before.before.before) (inr (rw c.before.before.before.before.neighbours_of-ahead.ensures at c.if-ahead-place-2.true)))
+
+weights_of-weighed-requires : tie.Need-weights_of-weighed-requires
+weights_of-weighed-requires c κs = c.before.before.before.before.before.before.before.before.requires.0.weights.part _ c.before.before.before.before.before.before.before.before.requires.1
+
+offset_bounds-weighed-place : tie.Need-offset_bounds-weighed-place
+offset_bounds-weighed-place c = search rules
+
+bounds-weighed-place : tie.Need-bounds-weighed-place
+bounds-weighed-place c =
+    let s = c.before.before.before.before.before.before.before.before.before.before in
+    let n = ap length c.before.before.before.before.before.before.neighbours_of-ahead.ensures in
+    let w = ap length c.before.weights_of-weighed.ensures in
+    omega (arith, parts_even (s.requires.0.neighbours.part _ s.requires.1) (s.requires.0.weights.part _ s.requires.1), c.before.before.before.before.if-ahead-place.false)
+
+returns-then-weighed-place : tie.Need-returns-then-weighed-place
+returns-then-weighed-place c = sym (arc_other _ _ _ _ _ (up c.before.before.before.before.before.before.before.before) (bound c.before.before.before.before.before.before) (rw c.before.before.weights_of-weighed.ensures at c.if-weighed-place.true))
 
 returns : tie.Need-returns
-returns c = sym (arc_nowhere _ _ _ _ _ (up c.before.before.before) (bound c.before) (inl (rw c.before.before.neighbours-of.ensures at c.if1.true)))
+returns c = sym (arc_there _ _ _ _ _ (up c.before.before.before.before.before.before.before.before) (bound c.before.before.before.before.before.before) (rw c.before.before.before.before.before.before.before.neighbours_of-ahead.ensures at c.before.before.before.before.before.if-ahead-place.false) (rw c.before.before.before.before.before.before.before.neighbours_of-ahead.ensures at c.before.before.before.if-ahead-place-2.false) (rw c.before.before.weights_of-weighed.ensures at c.if-weighed-place.false))
 
-mul-if2 : tie.Need-overflow-mul-if2
-mul-if2 c = search rules
-
-shared-slice-read-if2 : tie.Need-shared-slice-read-if2
-shared-slice-read-if2 c = search rules
-
-returns-2 : tie.Need-returns-2
-returns-2 c = sym (arc_nowhere _ _ _ _ _ (up c.before.before.before.before.before) (bound c.before.before.before) (inr (rw c.before.before.before.before.neighbours-of.ensures at c.if2.true)))
-
-weights-of-requires : tie.Need-weights-of-requires
-weights-of-requires c κs = c.before.before.before.before.before.before.before.before.requires.0.weights.part _ c.before.before.before.before.before.before.before.before.requires.1
-
-mul-if3 : tie.Need-overflow-mul-if3
-mul-if3 c = search rules
-
-shared-slice-read-if3 : tie.Need-shared-slice-read-if3
-shared-slice-read-if3 c =
-    let s = c.before.before.before.before.before.before.before.before.before.before in
-    let n = ap length c.before.before.before.before.before.before.neighbours-of.ensures in
-    let w = ap length c.before.weights-of.ensures in
-    omega (arith, parts_even (s.requires.0.neighbours.part _ s.requires.1) (s.requires.0.weights.part _ s.requires.1), c.before.before.before.before.if1.false)
-
-returns-3 : tie.Need-returns-3
-returns-3 c = sym (arc_other _ _ _ _ _ (up c.before.before.before.before.before.before.before.before) (bound c.before.before.before.before.before.before) (rw c.before.before.weights-of.ensures at c.if3.true))
-
-returns-4 : tie.Need-returns-4
-returns-4 c = sym (arc_there _ _ _ _ _ (up c.before.before.before.before.before.before.before.before) (bound c.before.before.before.before.before.before) (rw c.before.before.before.before.before.before.before.neighbours-of.ensures at c.before.before.before.before.before.if1.false) (rw c.before.before.before.before.before.before.before.neighbours-of.ensures at c.before.before.before.if2.false) (rw c.before.before.weights-of.ensures at c.if3.false))
-
-pub has-arc-spec : {M : Type 1} → statement M
-has-arc-spec =
+pub has_arc_spec : {M : Type 1} → statement M
+has_arc_spec =
     tie.close
     (tie.spec
-    neighbours-of-requires
-    lower-bound-requires
-    returns
-    mul-if2
-    shared-slice-read-if2
-    returns-2
-    weights-of-requires
-    mul-if3
-    shared-slice-read-if3
-    returns-3
-    returns-4)
+    neighbours_of-ahead-requires
+    lower_bound-place-requires
+    returns-then-ahead-place
+    offset_bounds-ahead-place
+    bounds-ahead-place
+    returns-then-ahead-place-2
+    weights_of-weighed-requires
+    offset_bounds-weighed-place
+    bounds-weighed-place
+    returns-then-weighed-place
+    returns)

@@ -8,57 +8,57 @@ use borrow.Author.Rules.{rules}
 use Rattle.network.proofs.arcs.lower_bound.Statement.{statement}
 use Rattle.network.proofs.arcs.lower_bound.Tie as tie
 
-abbrev invariant-loop : tie.invariant-loop
-invariant-loop xs x low₀ high₀ low high = Bracket xs x low high
+abbrev invariant-loop-low : tie.invariant-loop-low
+invariant-loop-low xs x low₀ high₀ low high = Bracket xs x low high
 
-abbrev decreases-loop : tie.decreases-loop
-decreases-loop xs x low₀ high₀ low high = high - low
+abbrev decreases-loop-low : tie.decreases-loop-low
+decreases-loop-low xs x low₀ high₀ low high = high - low
 
-loop-holds : tie.Need-loop-init invariant-loop decreases-loop
+loop-holds : tie.Need-loop-low-init invariant-loop-low decreases-loop-low
 loop-holds c = bracket_start _ _
 
-sub-middle : tie.Need-overflow-sub-middle invariant-loop decreases-loop
-sub-middle c = search rules
+overflow_sub-middle : tie.Need-overflow_sub-middle invariant-loop-low decreases-loop-low
+overflow_sub-middle c = search rules
 
-add-middle : tie.Need-overflow-add-middle invariant-loop decreases-loop
-add-middle c = search rules
+overflow_add-middle : tie.Need-overflow_add-middle invariant-loop-low decreases-loop-low
+overflow_add-middle c = search rules
 
-mul-if1 : tie.Need-overflow-mul-if1 invariant-loop decreases-loop
-mul-if1 c = search rules
+offset_bounds-xs-middle : tie.Need-offset_bounds-xs-middle invariant-loop-low decreases-loop-low
+offset_bounds-xs-middle c = search rules
 
-shared-slice-read-if1 : tie.Need-shared-slice-read-if1 invariant-loop decreases-loop
-shared-slice-read-if1 c = search rules
+bounds-xs-middle : tie.Need-bounds-xs-middle invariant-loop-low decreases-loop-low
+bounds-xs-middle c = search rules
 
-add_low : tie.Need-overflow-add-low invariant-loop decreases-loop
-add_low c = search rules
+overflow_add-low : tie.Need-overflow_add-low invariant-loop-low decreases-loop-low
+overflow_add-low c = search rules
 
-loop-less : tie.Need-loop-smaller invariant-loop decreases-loop
+loop-less : tie.Need-loop-low-smaller-then-xs-middle invariant-loop-low decreases-loop-low
 loop-less c = search rules
 
-loop-again : tie.Need-loop-preserved invariant-loop decreases-loop
-loop-again c = bracket_up c.before.before.before.before.requires c.before.before.before.loop.invariant _ (omega arith) (omega arith) c.if1.true
+loop-again : tie.Need-loop-low-preserved-then-xs-middle invariant-loop-low decreases-loop-low
+loop-again c = bracket_up c.before.before.before.before.requires c.before.before.before.loop-low.invariant _ (omega arith) (omega arith) c.if-xs-middle.true
 
-loop-less-2 : tie.Need-loop-smaller-2 invariant-loop decreases-loop
+loop-less-2 : tie.Need-loop-low-smaller invariant-loop-low decreases-loop-low
 loop-less-2 c = search rules
 
-loop-again-2 : tie.Need-loop-preserved-2 invariant-loop decreases-loop
-loop-again-2 c = bracket_down c.before.before.before.before.requires c.before.before.before.loop.invariant _ (omega arith) (omega arith) c.if1.false
+loop-again-2 : tie.Need-loop-low-preserved invariant-loop-low decreases-loop-low
+loop-again-2 c = bracket_down c.before.before.before.before.requires c.before.before.before.loop-low.invariant _ (omega arith) (omega arith) c.if-xs-middle.false
 
-returns : tie.Need-returns invariant-loop decreases-loop
-returns c = bracket_end c.before.loop.invariant c.loop-test.false
+returns : tie.Need-returns invariant-loop-low decreases-loop-low
+returns c = bracket_end c.before.loop-low.invariant c.loop-low-test.false
 
-pub lower-bound-spec : {M : Type 1} → statement M
-lower-bound-spec =
+pub lower_bound_spec : {M : Type 1} → statement M
+lower_bound_spec =
     tie.close
     (tie.spec
-    invariant-loop
-    decreases-loop
+    invariant-loop-low
+    decreases-loop-low
     loop-holds
-    sub-middle
-    add-middle
-    mul-if1
-    shared-slice-read-if1
-    add_low
+    overflow_sub-middle
+    overflow_add-middle
+    offset_bounds-xs-middle
+    bounds-xs-middle
+    overflow_add-low
     loop-less
     loop-again
     loop-less-2

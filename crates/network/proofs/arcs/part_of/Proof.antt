@@ -5,56 +5,56 @@ use borrow.Author.Rules.{rules}
 use Rattle.network.proofs.arcs.part_of.Statement.{statement}
 use Rattle.network.proofs.arcs.part_of.Tie as tie
 
-mul_wide : tie.Need-overflow-mul-wide
-mul_wide c = search rules
+offset_bounds-starts-i : tie.Need-offset_bounds-starts-i
+offset_bounds-starts-i c = search rules
 
-shared-slice-read-wide : tie.Need-shared-slice-read-wide
-shared-slice-read-wide c = search rules
+bounds-starts-i : tie.Need-bounds-starts-i
+bounds-starts-i c = search rules
 
-wide-requires : tie.Need-wide-requires
-wide-requires c κs = search rules
+wide-from-requires : tie.Need-wide-from-requires
+wide-from-requires c κs = search rules
 
-add_wide : tie.Need-overflow-add-wide
-add_wide c = search rules
+overflow_add-i : tie.Need-overflow_add-i
+overflow_add-i c = search rules
 
-mul-wide-2 : tie.Need-overflow-mul-wide-2
-mul-wide-2 c = search rules
+offset_bounds-starts-i-2 : tie.Need-offset_bounds-starts-i-2
+offset_bounds-starts-i-2 c = search rules
 
-shared-slice-read-wide-2 : tie.Need-shared-slice-read-wide-2
-shared-slice-read-wide-2 c = search rules
+bounds-starts-i-2 : tie.Need-bounds-starts-i-2
+bounds-starts-i-2 c = search rules
 
-wide-requires-2 : tie.Need-wide-requires-2
-wide-requires-2 c κs = search rules
+wide-end-requires : tie.Need-wide-end-requires
+wide-end-requires c κs = search rules
 
-mul-result : tie.Need-overflow-mul-result
-mul-result c = search rules
+offset_bounds-entries-from : tie.Need-offset_bounds-entries-from
+offset_bounds-entries-from c = search rules
 
-sub-result : tie.Need-overflow-sub-result
-sub-result c = search rules
+slice_bounds-result-count : tie.Need-slice_bounds-result-count
+slice_bounds-result-count c = search rules
 
-part-result-start : tie.Need-slice-bounds-result-start
+part-result-start : tie.Need-slice_bounds-result-start
 part-result-start c = search rules
 
-part-result-end : tie.Need-slice-bounds-result-end
+part-result-end : tie.Need-slice_bounds-result-end
 part-result-end c = search rules
 
 returns : tie.Need-returns
 unfolding part_of
 returns c = cc
 
-pub part-of-spec : {M : Type 1} → statement M
-part-of-spec =
+pub part_of_spec : {M : Type 1} → statement M
+part_of_spec =
     tie.close
     (tie.spec
-    mul_wide
-    shared-slice-read-wide
-    wide-requires
-    add_wide
-    mul-wide-2
-    shared-slice-read-wide-2
-    wide-requires-2
-    mul-result
-    sub-result
+    offset_bounds-starts-i
+    bounds-starts-i
+    wide-from-requires
+    overflow_add-i
+    offset_bounds-starts-i-2
+    bounds-starts-i-2
+    wide-end-requires
+    offset_bounds-entries-from
+    slice_bounds-result-count
     part-result-start
     part-result-end
     returns)

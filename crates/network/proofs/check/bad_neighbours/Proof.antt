@@ -11,54 +11,54 @@ use borrow.Author.Rules.{rules}
 use Rattle.network.proofs.check.bad_neighbours.Statement.{statement}
 use Rattle.network.proofs.check.bad_neighbours.Tie as tie
 
-abbrev invariant-loop : tie.invariant-loop
-invariant-loop starts neighbours n a₀ a = (a ≤ n) × (any (bad_neighbours_of starts neighbours) a ≡ false)
+abbrev invariant-loop-a : tie.invariant-loop-a
+invariant-loop-a starts neighbours n a₀ a = (a ≤ n) × (any (bad_neighbours_of starts neighbours) a ≡ false)
 
-abbrev decreases-loop : tie.decreases-loop
-decreases-loop starts neighbours n a₀ a = n - a
+abbrev decreases-loop-a : tie.decreases-loop-a
+decreases-loop-a starts neighbours n a₀ a = n - a
 
-sub-n : tie.Need-overflow-sub-n invariant-loop decreases-loop
-sub-n c = search rules
+overflow_sub-n : tie.Need-overflow_sub-n invariant-loop-a decreases-loop-a
+overflow_sub-n c = search rules
 
-loop-holds : tie.Need-loop-init invariant-loop decreases-loop
+loop-holds : tie.Need-loop-a-init invariant-loop-a decreases-loop-a
 loop-holds c = (search rules, any_start _)
 
-neighbours-of-requires : tie.Need-neighbours-of-requires invariant-loop decreases-loop
-neighbours-of-requires c κs = c.before.before.before.before.requires.part _ (omega arith)
+neighbours_of-part-requires : tie.Need-neighbours_of-part-requires invariant-loop-a decreases-loop-a
+neighbours_of-part-requires c κs = c.before.before.before.before.requires.part _ (omega arith)
 
-bad-part-requires : tie.Need-bad-part-requires invariant-loop decreases-loop
-bad-part-requires c κs = search rules
+bad_part-requires : tie.Need-bad_part-requires invariant-loop-a decreases-loop-a
+bad_part-requires c κs = search rules
 
-returns : tie.Need-returns invariant-loop decreases-loop
+returns-then-bad_part : tie.Need-returns-then-bad_part invariant-loop-a decreases-loop-a
 unfolding bad_neighbours bad_neighbours_of
-returns c = found _ _ _ c.before.before.before.loop-test.true (ap (bad_part _ _) (sym c.before.before.neighbours-of.ensures) ∙ sym c.before.bad-part.ensures ∙ c.if1.true)
+returns-then-bad_part c = found _ _ _ c.before.before.before.loop-a-test.true (ap (bad_part _ _) (sym c.before.before.neighbours_of-part.ensures) ∙ sym c.before.bad_part.ensures ∙ c.if-bad_part.true)
 
-add_a : tie.Need-overflow-add-a invariant-loop decreases-loop
-add_a c = search rules
+overflow_add-a : tie.Need-overflow_add-a invariant-loop-a decreases-loop-a
+overflow_add-a c = search rules
 
-loop-less : tie.Need-loop-smaller invariant-loop decreases-loop
+loop-less : tie.Need-loop-a-smaller invariant-loop-a decreases-loop-a
 loop-less c = search rules
 
-loop-again : tie.Need-loop-preserved invariant-loop decreases-loop
+loop-again : tie.Need-loop-a-preserved invariant-loop-a decreases-loop-a
 unfolding bad_neighbours_of
-loop-again c = (search rules, any_more _ _ c.before.before.before.before.loop.invariant.1 (ap (bad_part _ _) (sym c.before.before.neighbours-of.ensures) ∙ sym c.before.bad-part.ensures ∙ c.if1.false))
+loop-again c = (search rules, any_more _ _ c.before.before.before.before.loop-a.invariant.1 (ap (bad_part _ _) (sym c.before.before.neighbours_of-part.ensures) ∙ sym c.before.bad_part.ensures ∙ c.if-bad_part.false))
 
-returns-2 : tie.Need-returns-2 invariant-loop decreases-loop
+returns : tie.Need-returns invariant-loop-a decreases-loop-a
 unfolding bad_neighbours
-returns-2 c = not_found _ _ _ c.before.loop.invariant.0 c.loop-test.false c.before.loop.invariant.1
+returns c = not_found _ _ _ c.before.loop-a.invariant.0 c.loop-a-test.false c.before.loop-a.invariant.1
 
-pub bad-neighbours-spec : {M : Type 1} → statement M
-bad-neighbours-spec =
+pub bad_neighbours_spec : {M : Type 1} → statement M
+bad_neighbours_spec =
     tie.close
     (tie.spec
-    invariant-loop
-    decreases-loop
-    sub-n
+    invariant-loop-a
+    decreases-loop-a
+    overflow_sub-n
     loop-holds
-    neighbours-of-requires
-    bad-part-requires
-    returns
-    add_a
+    neighbours_of-part-requires
+    bad_part-requires
+    returns-then-bad_part
+    overflow_add-a
     loop-less
     loop-again
-    returns-2)
+    returns)

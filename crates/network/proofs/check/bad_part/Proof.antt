@@ -12,81 +12,82 @@ use Rattle.network.specs.Count.{any}
 use Rattle.network.specs.Check.{bad_neighbour_at, bad_part}
 use borrow.Author.Rules.{rules}
 use Rattle.network.proofs.check.bad_part.Statement.{statement}
+use Rattle.network.proofs.check.bad_part.Lts.{then-j-gt0+else-b-before, else-j-gt0}
 use Rattle.network.proofs.check.bad_part.Tie as tie
 
-abbrev invariant-loop : tie.invariant-loop
-invariant-loop n a neighbours j₀ j = (j ≤ length neighbours) × (any (bad_neighbour_at n a neighbours) j ≡ false)
+abbrev invariant-loop-j : tie.invariant-loop-j
+invariant-loop-j n a neighbours j₀ j = (j ≤ length neighbours) × (any (bad_neighbour_at n a neighbours) j ≡ false)
 
-abbrev decreases-loop : tie.decreases-loop
-decreases-loop n a neighbours j₀ j = length neighbours - j
+abbrev decreases-loop-j : tie.decreases-loop-j
+decreases-loop-j n a neighbours j₀ j = length neighbours - j
 
-loop-holds : tie.Need-loop-init invariant-loop decreases-loop
+loop-holds : tie.Need-loop-j-init invariant-loop-j decreases-loop-j
 loop-holds c = (search rules, any_start _)
 
-mul_wide : tie.Need-overflow-mul-wide invariant-loop decreases-loop
-mul_wide c = search rules
+offset_bounds-neighbours-j : tie.Need-offset_bounds-neighbours-j invariant-loop-j decreases-loop-j
+offset_bounds-neighbours-j c = search rules
 
-shared-slice-read-wide : tie.Need-shared-slice-read-wide invariant-loop decreases-loop
-shared-slice-read-wide c = search rules
+bounds-neighbours-j : tie.Need-bounds-neighbours-j invariant-loop-j decreases-loop-j
+bounds-neighbours-j c = search rules
 
-wide-requires : tie.Need-wide-requires invariant-loop decreases-loop
-wide-requires c κs = search rules
+wide-b-requires : tie.Need-wide-b-requires invariant-loop-j decreases-loop-j
+wide-b-requires c κs = search rules
 
-returns : tie.Need-returns invariant-loop decreases-loop
+returns-then-n-b : tie.Need-returns-then-n-b invariant-loop-j decreases-loop-j
 unfolding bad_part
-returns c = found _ _ _ c.before.before.before.loop-test.true (neighbour_high _ _ _ _ (search rules))
+returns-then-n-b c = found _ _ _ c.before.before.before.loop-j-test.true (neighbour_high _ _ _ _ (search rules))
 
-returns-2 : tie.Need-returns-2 invariant-loop decreases-loop
+returns-then-b-a : tie.Need-returns-then-b-a invariant-loop-j decreases-loop-j
 unfolding bad_part
-returns-2 c = found _ _ _ c.before.before.before.before.loop-test.true (neighbour_own _ _ _ _ (search rules))
+returns-then-b-a c = found _ _ _ c.before.before.before.before.loop-j-test.true (neighbour_own _ _ _ _ (search rules))
 
-sub_wide : tie.Need-overflow-sub-wide invariant-loop decreases-loop
-sub_wide c = search rules
+overflow_sub-j : tie.Need-overflow_sub-j invariant-loop-j decreases-loop-j
+overflow_sub-j c = search rules
 
-mul-wide-2 : tie.Need-overflow-mul-wide-2 invariant-loop decreases-loop
-mul-wide-2 c = search rules
+offset_bounds-neighbours-j-then-j-gt0 : tie.Need-offset_bounds-neighbours-j-then-j-gt0 invariant-loop-j decreases-loop-j
+offset_bounds-neighbours-j-then-j-gt0 c = search rules
 
-shared-slice-read-wide-2 : tie.Need-shared-slice-read-wide-2 invariant-loop decreases-loop
-shared-slice-read-wide-2 c = search rules
+bounds-neighbours-j-then-j-gt0 : tie.Need-bounds-neighbours-j-then-j-gt0 invariant-loop-j decreases-loop-j
+bounds-neighbours-j-then-j-gt0 c = search rules
 
-wide-requires-2 : tie.Need-wide-requires-2 invariant-loop decreases-loop
-wide-requires-2 c κs = search rules
+wide-before-requires : tie.Need-wide-before-requires invariant-loop-j decreases-loop-j
+wide-before-requires c κs = search rules
 
-returns-3 : tie.Need-returns-3 invariant-loop decreases-loop
+returns-then-b-before : tie.Need-returns-then-b-before invariant-loop-j decreases-loop-j
 unfolding bad_part
-returns-3 c = found _ _ _ c.before.before.before.before.before.before.before.before.loop-test.true (neighbour_falls _ _ _ _ c.before.before.before.if3.true (search rules))
+returns-then-b-before c = found _ _ _ c.before.before.before.before.before.before.before.before.loop-j-test.true (neighbour_falls _ _ _ _ c.before.before.before.if-j-gt0.true (search rules))
 
-add-j : tie.Need-overflow-add-j invariant-loop decreases-loop
-add-j c = search rules
+overflow_add-j : tie.Need-overflow_add-j invariant-loop-j decreases-loop-j
+overflow_add-j c = search rules
 
-loop-less : tie.Need-loop-smaller invariant-loop decreases-loop
+loop-less : tie.Need-loop-j-smaller invariant-loop-j decreases-loop-j
 loop-less c = search rules
 
-loop-again : tie.Need-loop-preserved invariant-loop decreases-loop
-loop-again c = (search rules, any_more _ _ c.before.before.before.before.before.before.loop.invariant.1 (neighbour_good _ _ _ _ (search rules) (search rules) (⊎_elim (λ r. inr (omega arith)) (λ l. inl l.left) c.if3.branch)))
+loop-again : tie.Need-loop-j-preserved invariant-loop-j decreases-loop-j
+loop-again c = (search rules, any_more _ _ c.before.before.before.before.before.before.loop-j.invariant.1 (neighbour_good _ _ _ _ (search rules) (search rules) (elim c.if-j-gt0.branch [ then-j-gt0+else-b-before w ↦ inr (omega arith) | else-j-gt0 w ↦ inl (omega arith) ])))
 
-returns-4 : tie.Need-returns-4 invariant-loop decreases-loop
+returns : tie.Need-returns invariant-loop-j decreases-loop-j
 unfolding bad_part
-returns-4 c = not_found _ _ _ c.before.loop.invariant.0 c.loop-test.false c.before.loop.invariant.1
+returns c = not_found _ _ _ c.before.loop-j.invariant.0 c.loop-j-test.false c.before.loop-j.invariant.1
 
-pub bad-part-spec : {M : Type 1} → statement M
-bad-part-spec =
+pub bad_part_spec : {M : Type 1} → statement M
+bad_part_spec =
     tie.close
     (tie.spec
-    invariant-loop
-    decreases-loop
+    invariant-loop-j
+    decreases-loop-j
     loop-holds
-    mul_wide
-    shared-slice-read-wide
-    wide-requires
-    returns
-    returns-2
-    sub_wide
-    mul-wide-2
-    shared-slice-read-wide-2
-    wide-requires-2
-    returns-3
-    add-j
+    offset_bounds-neighbours-j
+    bounds-neighbours-j
+    wide-b-requires
+    returns-then-n-b
+    returns-then-b-a
+    overflow_sub-j
+    offset_bounds-neighbours-j-then-j-gt0
+    bounds-neighbours-j-then-j-gt0
+    wide-before-requires
+    returns-then-b-before
+    overflow_add-j
     loop-less
     loop-again
-    returns-4)
+    returns)

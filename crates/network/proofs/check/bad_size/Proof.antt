@@ -8,20 +8,20 @@ use Rattle.network.specs.Check.{bad_size}
 use Rattle.network.proofs.check.bad_size.Statement.{statement}
 use Rattle.network.proofs.check.bad_size.Tie as tie
 
+returns-then-starts-lt2 : tie.Need-returns-then-starts-lt2
+unfolding bad_size
+returns-then-starts-lt2 c = search tests
+
+returns-then-starts-gt65536 : tie.Need-returns-then-starts-gt65536
+unfolding bad_size
+returns-then-starts-gt65536 c =
+    let e = c.before in
+    let a = e.before.args in
+    rw (le-ltb (length a.starts.now) 2 e.if-starts-lt2.false, lt-ltb 65536 (length a.starts.now) (omega (arith, c.if-starts-gt65536.true)))
+
 returns : tie.Need-returns
 unfolding bad_size
 returns c = search tests
 
-returns-2 : tie.Need-returns-2
-unfolding bad_size
-returns-2 c =
-    let e = c.before in
-    let a = e.before.args in
-    rw (le-ltb (length a.starts.now) 2 e.if1.false, lt-ltb 65536 (length a.starts.now) (omega (arith, c.if2.true)))
-
-returns-3 : tie.Need-returns-3
-unfolding bad_size
-returns-3 c = search tests
-
-pub bad-size-spec : {M : Type 1} → statement M
-bad-size-spec = tie.close (tie.spec returns returns-2 returns-3)
+pub bad_size_spec : {M : Type 1} → statement M
+bad_size_spec = tie.close (tie.spec returns-then-starts-lt2 returns-then-starts-gt65536 returns)

@@ -9,74 +9,74 @@ use borrow.Author.Rules.{rules}
 use Rattle.network.proofs.check.bad_starts.Statement.{statement}
 use Rattle.network.proofs.check.bad_starts.Tie as tie
 
-sub-last : tie.Need-overflow-sub-last
-sub-last c = search rules
+overflow_sub-last : tie.Need-overflow_sub-last
+overflow_sub-last c = search rules
 
-shared-slice-read-first : tie.Need-shared-slice-read-first
-shared-slice-read-first c = search rules
+bounds-starts-0 : tie.Need-bounds-starts-0
+bounds-starts-0 c = search rules
 
-mul_wide : tie.Need-overflow-mul-wide
-mul_wide c = search rules
+offset_bounds-starts-last : tie.Need-offset_bounds-starts-last
+offset_bounds-starts-last c = search rules
 
-shared-slice-read-wide : tie.Need-shared-slice-read-wide
-shared-slice-read-wide c = search rules
+bounds-starts-last : tie.Need-bounds-starts-last
+bounds-starts-last c = search rules
 
-wide-requires : tie.Need-wide-requires
-wide-requires c κs = search rules
+wide-end-requires : tie.Need-wide-end-requires
+wide-end-requires c κs = search rules
+
+returns-then-first-ne0 : tie.Need-returns-then-first-ne0
+unfolding bad_starts
+returns-then-first-ne0 c = rw (ne_eqb _ _ c.if-first-ne0.true)
+
+starts_fall-requires : tie.Need-starts_fall-requires
+starts_fall-requires c κs = search rules
+
+returns-then-starts_fall : tie.Need-returns-then-starts_fall
+unfolding bad_starts
+returns-then-starts_fall c = rw (eq-eqb _ _ c.before.before.if-first-ne0.false, sym c.before.starts_fall.ensures ∙ c.if-starts_fall.true)
+
+returns-then-end-neighbours : tie.Need-returns-then-end-neighbours
+unfolding bad_starts
+returns-then-end-neighbours c =
+    let s = c.before.before.before in
+    rw (eq-eqb _ _ s.if-first-ne0.false, sym c.before.before.starts_fall.ensures ∙ c.before.if-starts_fall.false, ne_eqb _ _ (λ e. c.if-end-neighbours.true (s.before.wide-end.ensures ∙ e)))
+
+returns-then-weights-neighbours : tie.Need-returns-then-weights-neighbours
+unfolding bad_starts
+returns-then-weights-neighbours c =
+    let s = c.before.before.before.before in
+    let f = c.before.before in
+    rw (eq-eqb _ _ s.if-first-ne0.false, sym f.before.starts_fall.ensures ∙ f.if-starts_fall.false, eq-eqb _ _ (sym s.before.wide-end.ensures ∙ c.before.if-end-neighbours.false), ne_eqb _ _ c.if-weights-neighbours.true)
+
+returns-then-neighbours-gt524288 : tie.Need-returns-then-neighbours-gt524288
+unfolding bad_starts
+returns-then-neighbours-gt524288 c =
+    let s = c.before.before.before.before.before in
+    let f = c.before.before.before in
+    let arcs = length s.before.before.before.before.before.before.before.args.neighbours.now in
+    rw (eq-eqb _ _ s.if-first-ne0.false, sym f.before.starts_fall.ensures ∙ f.if-starts_fall.false, eq-eqb _ _ (sym s.before.wide-end.ensures ∙ c.before.before.if-end-neighbours.false), eq-eqb _ _ c.before.if-weights-neighbours.false, lt-ltb 524288 arcs (omega (arith, c.if-neighbours-gt524288.true)))
 
 returns : tie.Need-returns
 unfolding bad_starts
-returns c = rw (ne_eqb _ _ c.if1.true)
-
-starts-fall-requires : tie.Need-starts-fall-requires
-starts-fall-requires c κs = search rules
-
-returns-2 : tie.Need-returns-2
-unfolding bad_starts
-returns-2 c = rw (eq-eqb _ _ c.before.before.if1.false, sym c.before.starts-fall.ensures ∙ c.if2.true)
-
-returns-3 : tie.Need-returns-3
-unfolding bad_starts
-returns-3 c =
-    let s = c.before.before.before in
-    rw (eq-eqb _ _ s.if1.false, sym c.before.before.starts-fall.ensures ∙ c.before.if2.false, ne_eqb _ _ (λ e. c.if3.true (s.before.wide.ensures ∙ e)))
-
-returns-4 : tie.Need-returns-4
-unfolding bad_starts
-returns-4 c =
-    let s = c.before.before.before.before in
-    let f = c.before.before in
-    rw (eq-eqb _ _ s.if1.false, sym f.before.starts-fall.ensures ∙ f.if2.false, eq-eqb _ _ (sym s.before.wide.ensures ∙ c.before.if3.false), ne_eqb _ _ c.if4.true)
-
-returns-5 : tie.Need-returns-5
-unfolding bad_starts
-returns-5 c =
+returns c =
     let s = c.before.before.before.before.before in
     let f = c.before.before.before in
     let arcs = length s.before.before.before.before.before.before.before.args.neighbours.now in
-    rw (eq-eqb _ _ s.if1.false, sym f.before.starts-fall.ensures ∙ f.if2.false, eq-eqb _ _ (sym s.before.wide.ensures ∙ c.before.before.if3.false), eq-eqb _ _ c.before.if4.false, lt-ltb 524288 arcs (omega (arith, c.if5.true)))
+    rw (eq-eqb _ _ s.if-first-ne0.false, sym f.before.starts_fall.ensures ∙ f.if-starts_fall.false, eq-eqb _ _ (sym s.before.wide-end.ensures ∙ c.before.before.if-end-neighbours.false), eq-eqb _ _ c.before.if-weights-neighbours.false, le-ltb 524288 arcs (omega (arith, c.if-neighbours-gt524288.false)))
 
-returns-6 : tie.Need-returns-6
-unfolding bad_starts
-returns-6 c =
-    let s = c.before.before.before.before.before in
-    let f = c.before.before.before in
-    let arcs = length s.before.before.before.before.before.before.before.args.neighbours.now in
-    rw (eq-eqb _ _ s.if1.false, sym f.before.starts-fall.ensures ∙ f.if2.false, eq-eqb _ _ (sym s.before.wide.ensures ∙ c.before.before.if3.false), eq-eqb _ _ c.before.if4.false, le-ltb 524288 arcs (omega (arith, c.if5.false)))
-
-pub bad-starts-spec : {M : Type 1} → statement M
-bad-starts-spec =
+pub bad_starts_spec : {M : Type 1} → statement M
+bad_starts_spec =
     tie.close
     (tie.spec
-    sub-last
-    shared-slice-read-first
-    mul_wide
-    shared-slice-read-wide
-    wide-requires
-    returns
-    starts-fall-requires
-    returns-2
-    returns-3
-    returns-4
-    returns-5
-    returns-6)
+    overflow_sub-last
+    bounds-starts-0
+    offset_bounds-starts-last
+    bounds-starts-last
+    wide-end-requires
+    returns-then-first-ne0
+    starts_fall-requires
+    returns-then-starts_fall
+    returns-then-end-neighbours
+    returns-then-weights-neighbours
+    returns-then-neighbours-gt524288
+    returns)

@@ -13,54 +13,54 @@ use borrow.Author.Rules.{rules}
 use Rattle.network.proofs.check.bad_weights.Statement.{statement}
 use Rattle.network.proofs.check.bad_weights.Tie as tie
 
-abbrev invariant-loop : tie.invariant-loop
-invariant-loop weights e₀ e = (e ≤ length weights) × (any (bad_weight_at weights) e ≡ false)
+abbrev invariant-loop-e : tie.invariant-loop-e
+invariant-loop-e weights e₀ e = (e ≤ length weights) × (any (bad_weight_at weights) e ≡ false)
 
-abbrev decreases-loop : tie.decreases-loop
-decreases-loop weights e₀ e = length weights - e
+abbrev decreases-loop-e : tie.decreases-loop-e
+decreases-loop-e weights e₀ e = length weights - e
 
-loop-holds : tie.Need-loop-init invariant-loop decreases-loop
+loop-holds : tie.Need-loop-e-init invariant-loop-e decreases-loop-e
 loop-holds c = (search rules, any_start _)
 
-mul-w : tie.Need-overflow-mul-w invariant-loop decreases-loop
-mul-w c = search rules
+offset_bounds-weights-e : tie.Need-offset_bounds-weights-e invariant-loop-e decreases-loop-e
+offset_bounds-weights-e c = search rules
 
-shared-slice-read-w : tie.Need-shared-slice-read-w invariant-loop decreases-loop
-shared-slice-read-w c = search rules
+bounds-weights-e : tie.Need-bounds-weights-e invariant-loop-e decreases-loop-e
+bounds-weights-e c = search rules
 
-returns : tie.Need-returns invariant-loop decreases-loop
+returns-then-w-eq0 : tie.Need-returns-then-w-eq0 invariant-loop-e decreases-loop-e
 unfolding bad_weights
-returns c = found _ _ _ c.before.before.loop-test.true (weight_none _ _ c.if1.true)
+returns-then-w-eq0 c = found _ _ _ c.before.before.loop-e-test.true (weight_none _ _ c.if-w-eq0.true)
 
-returns-2 : tie.Need-returns-2 invariant-loop decreases-loop
+returns-then-w-gt65535 : tie.Need-returns-then-w-gt65535 invariant-loop-e decreases-loop-e
 unfolding bad_weights
-returns-2 c = found _ _ _ c.before.before.before.loop-test.true (weight_high _ _ (omega (arith, c.if2.true)))
+returns-then-w-gt65535 c = found _ _ _ c.before.before.before.loop-e-test.true (weight_high _ _ (omega (arith, c.if-w-gt65535.true)))
 
-add-e : tie.Need-overflow-add-e invariant-loop decreases-loop
-add-e c = search rules
+overflow_add-e : tie.Need-overflow_add-e invariant-loop-e decreases-loop-e
+overflow_add-e c = search rules
 
-loop-less : tie.Need-loop-smaller invariant-loop decreases-loop
+loop-less : tie.Need-loop-e-smaller invariant-loop-e decreases-loop-e
 loop-less c = search rules
 
-loop-again : tie.Need-loop-preserved invariant-loop decreases-loop
-loop-again c = (search rules, any_more _ _ c.before.before.before.before.loop.invariant.1 (weight_good _ _ c.before.if1.false c.if2.false))
+loop-again : tie.Need-loop-e-preserved invariant-loop-e decreases-loop-e
+loop-again c = (search rules, any_more _ _ c.before.before.before.before.loop-e.invariant.1 (weight_good _ _ c.before.if-w-eq0.false c.if-w-gt65535.false))
 
-returns-3 : tie.Need-returns-3 invariant-loop decreases-loop
+returns : tie.Need-returns invariant-loop-e decreases-loop-e
 unfolding bad_weights
-returns-3 c = not_found _ _ _ c.before.loop.invariant.0 c.loop-test.false c.before.loop.invariant.1
+returns c = not_found _ _ _ c.before.loop-e.invariant.0 c.loop-e-test.false c.before.loop-e.invariant.1
 
-pub bad-weights-spec : {M : Type 1} → statement M
-bad-weights-spec =
+pub bad_weights_spec : {M : Type 1} → statement M
+bad_weights_spec =
     tie.close
     (tie.spec
-    invariant-loop
-    decreases-loop
+    invariant-loop-e
+    decreases-loop-e
     loop-holds
-    mul-w
-    shared-slice-read-w
-    returns
-    returns-2
-    add-e
+    offset_bounds-weights-e
+    bounds-weights-e
+    returns-then-w-eq0
+    returns-then-w-gt65535
+    overflow_add-e
     loop-less
     loop-again
-    returns-3)
+    returns)

@@ -13,51 +13,51 @@ use borrow.Author.Rules.{rules}
 use Rattle.network.proofs.check.lacks_return.Statement.{statement}
 use Rattle.network.proofs.check.lacks_return.Tie as tie
 
-abbrev invariant-loop : tie.invariant-loop
-invariant-loop starts neighbours weights n a₀ a = (a ≤ n) × (any (lacks_return_of (network starts neighbours weights)) a ≡ false)
+abbrev invariant-loop-a : tie.invariant-loop-a
+invariant-loop-a starts neighbours weights n a₀ a = (a ≤ n) × (any (lacks_return_of (network starts neighbours weights)) a ≡ false)
 
-abbrev decreases-loop : tie.decreases-loop
-decreases-loop starts neighbours weights n a₀ a = n - a
+abbrev decreases-loop-a : tie.decreases-loop-a
+decreases-loop-a starts neighbours weights n a₀ a = n - a
 
-sub-n : tie.Need-overflow-sub-n invariant-loop decreases-loop
-sub-n c = omega (arith, c.before.before.before.requires.0.neighbours.some)
+overflow_sub-n : tie.Need-overflow_sub-n invariant-loop-a decreases-loop-a
+overflow_sub-n c = omega (arith, c.before.before.before.requires.0.neighbours.some)
 
-loop-holds : tie.Need-loop-init invariant-loop decreases-loop
+loop-holds : tie.Need-loop-a-init invariant-loop-a decreases-loop-a
 loop-holds c = (search rules, any_start _)
 
-lacks-return-of-requires : tie.Need-lacks-return-of-requires invariant-loop decreases-loop
-lacks-return-of-requires c κs =
+lacks_return_of-requires : tie.Need-lacks_return_of-requires invariant-loop-a decreases-loop-a
+lacks_return_of-requires c κs =
     let s = c.before.before.before.before.before in
     (s.requires.0, (omega arith, s.requires.1))
 
-returns : tie.Need-returns invariant-loop decreases-loop
+returns-then-lacks_return_of : tie.Need-returns-then-lacks_return_of invariant-loop-a decreases-loop-a
 unfolding lacks_return
-returns c = found _ _ _ c.before.before.loop-test.true (sym c.before.lacks-return-of.ensures ∙ c.if1.true)
+returns-then-lacks_return_of c = found _ _ _ c.before.before.loop-a-test.true (sym c.before.lacks_return_of.ensures ∙ c.if-lacks_return_of.true)
 
-add_a : tie.Need-overflow-add-a invariant-loop decreases-loop
-add_a c = search rules
+overflow_add-a : tie.Need-overflow_add-a invariant-loop-a decreases-loop-a
+overflow_add-a c = search rules
 
-loop-less : tie.Need-loop-smaller invariant-loop decreases-loop
+loop-less : tie.Need-loop-a-smaller invariant-loop-a decreases-loop-a
 loop-less c = search rules
 
-loop-again : tie.Need-loop-preserved invariant-loop decreases-loop
-loop-again c = (search rules, any_more _ _ c.before.before.before.loop.invariant.1 (sym c.before.lacks-return-of.ensures ∙ c.if1.false))
+loop-again : tie.Need-loop-a-preserved invariant-loop-a decreases-loop-a
+loop-again c = (search rules, any_more _ _ c.before.before.before.loop-a.invariant.1 (sym c.before.lacks_return_of.ensures ∙ c.if-lacks_return_of.false))
 
-returns-2 : tie.Need-returns-2 invariant-loop decreases-loop
+returns : tie.Need-returns invariant-loop-a decreases-loop-a
 unfolding lacks_return
-returns-2 c = not_found _ _ _ c.before.loop.invariant.0 c.loop-test.false c.before.loop.invariant.1
+returns c = not_found _ _ _ c.before.loop-a.invariant.0 c.loop-a-test.false c.before.loop-a.invariant.1
 
-pub lacks-return-spec : {M : Type 1} → statement M
-lacks-return-spec =
+pub lacks_return_spec : {M : Type 1} → statement M
+lacks_return_spec =
     tie.close
     (tie.spec
-    invariant-loop
-    decreases-loop
-    sub-n
+    invariant-loop-a
+    decreases-loop-a
+    overflow_sub-n
     loop-holds
-    lacks-return-of-requires
-    returns
-    add_a
+    lacks_return_of-requires
+    returns-then-lacks_return_of
+    overflow_add-a
     loop-less
     loop-again
-    returns-2)
+    returns)

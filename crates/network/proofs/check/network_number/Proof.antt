@@ -14,80 +14,80 @@ abbrev G : tie.Start → Network
 G s = network s.args.starts.now s.args.neighbours.now s.args.weights.now
 
 -- what is not met behind each test
-size-good : (c : tie.Else1) → bad_size (G c.before.before.before.before.before).starts ≡ false
-size-good c = sym c.before.bad-size.ensures ∙ c.if1.false
+size-good : (c : tie.Else-bad_size) → bad_size (G c.before.before.before.before.before).starts ≡ false
+size-good c = sym c.before.bad_size.ensures ∙ c.if-bad_size.false
 
-starts-good : (c : tie.Else2) → bad_starts (G c.before.before.before.before.before.before.before) ≡ false
-starts-good c = sym c.before.bad-starts.ensures ∙ c.if2.false
+starts-good : (c : tie.Else-bad_starts) → bad_starts (G c.before.before.before.before.before.before.before) ≡ false
+starts-good c = sym c.before.bad_starts.ensures ∙ c.if-bad_starts.false
 
-neighbours-good : (c : tie.Else3) → bad_neighbours (G c.before.before.before.before.before.before.before.before.before).starts (G c.before.before.before.before.before.before.before.before.before).neighbours ≡ false
-neighbours-good c = sym c.before.bad-neighbours.ensures ∙ c.if3.false
+neighbours-good : (c : tie.Else-bad_neighbours) → bad_neighbours (G c.before.before.before.before.before.before.before.before.before).starts (G c.before.before.before.before.before.before.before.before.before).neighbours ≡ false
+neighbours-good c = sym c.before.bad_neighbours.ensures ∙ c.if-bad_neighbours.false
 
-weights_good : (c : tie.Else4) → bad_weights (G c.before.before.before.before.before.before.before.before.before.before.before).weights ≡ false
-weights_good c = sym c.before.bad-weights.ensures ∙ c.if4.false
+weights_good : (c : tie.Else-bad_weights) → bad_weights (G c.before.before.before.before.before.before.before.before.before.before.before).weights ≡ false
+weights_good c = sym c.before.bad_weights.ensures ∙ c.if-bad_weights.false
 
-bad-size-requires : tie.Need-bad-size-requires
-bad-size-requires c κs = search rules
+bad_size-requires : tie.Need-bad_size-requires
+bad_size-requires c κs = search rules
 
-returns : tie.Need-returns
+returns-then-bad_size : tie.Need-returns-then-bad_size
 unfolding network_number
-returns c = rw (sym c.before.bad-size.ensures ∙ c.if1.true)
+returns-then-bad_size c = rw (sym c.before.bad_size.ensures ∙ c.if-bad_size.true)
 
-bad-starts-requires : tie.Need-bad-starts-requires
-bad-starts-requires c κs = omega (arith, (sized _ (size-good c)).least)
+bad_starts-requires : tie.Need-bad_starts-requires
+bad_starts-requires c κs = omega (arith, (sized _ (size-good c)).least)
 
-returns-2 : tie.Need-returns-2
+returns-then-bad_starts : tie.Need-returns-then-bad_starts
 unfolding network_number
-returns-2 c = rw (size-good c.before.before, sym c.before.bad-starts.ensures ∙ c.if2.true)
+returns-then-bad_starts c = rw (size-good c.before.before, sym c.before.bad_starts.ensures ∙ c.if-bad_starts.true)
 
-bad-neighbours-requires : tie.Need-bad-neighbours-requires
-bad-neighbours-requires c κs = neighbour_parts (ranges _ (starts-good c)) (omega (arith, (sized _ (size-good c.before.before)).least))
+bad_neighbours-requires : tie.Need-bad_neighbours-requires
+bad_neighbours-requires c κs = neighbour_parts (ranges _ (starts-good c)) (omega (arith, (sized _ (size-good c.before.before)).least))
 
-returns-3 : tie.Need-returns-3
+returns-then-bad_neighbours : tie.Need-returns-then-bad_neighbours
 unfolding network_number
-returns-3 c =
+returns-then-bad_neighbours c =
     let d = c.before.before in
-    rw (size-good d.before.before, starts-good d, sym c.before.bad-neighbours.ensures ∙ c.if3.true)
+    rw (size-good d.before.before, starts-good d, sym c.before.bad_neighbours.ensures ∙ c.if-bad_neighbours.true)
 
-bad-weights-requires : tie.Need-bad-weights-requires
-bad-weights-requires c κs = search rules
+bad_weights-requires : tie.Need-bad_weights-requires
+bad_weights-requires c κs = search rules
 
-returns-4 : tie.Need-returns-4
+returns-then-bad_weights : tie.Need-returns-then-bad_weights
 unfolding network_number
-returns-4 c =
+returns-then-bad_weights c =
     let d = c.before.before.before.before in
-    rw (size-good d.before.before, starts-good d, neighbours-good c.before.before, sym c.before.bad-weights.ensures ∙ c.if4.true)
+    rw (size-good d.before.before, starts-good d, neighbours-good c.before.before, sym c.before.bad_weights.ensures ∙ c.if-bad_weights.true)
 
-lacks-return-requires : tie.Need-lacks-return-requires
-lacks-return-requires c κs =
+lacks_return-requires : tie.Need-lacks_return-requires
+lacks_return-requires c κs =
     let d = c.before.before.before.before in
     let s = sized _ (size-good d.before.before) in
     (searchable (omega (arith, s.least)) (ranges _ (starts-good d)) (neighbours-good c.before.before), s.most)
 
-returns-5 : tie.Need-returns-5
+returns-then-lacks_return : tie.Need-returns-then-lacks_return
 unfolding network_number
-returns-5 c =
+returns-then-lacks_return c =
     let d = c.before.before.before.before.before.before in
-    rw (size-good d.before.before, starts-good d, neighbours-good c.before.before.before.before, weights_good c.before.before, sym c.before.lacks-return.ensures ∙ c.if5.true)
+    rw (size-good d.before.before, starts-good d, neighbours-good c.before.before.before.before, weights_good c.before.before, sym c.before.lacks_return.ensures ∙ c.if-lacks_return.true)
 
-returns-6 : tie.Need-returns-6
+returns : tie.Need-returns
 unfolding network_number
-returns-6 c =
+returns c =
     let d = c.before.before.before.before.before.before in
-    rw (size-good d.before.before, starts-good d, neighbours-good c.before.before.before.before, weights_good c.before.before, sym c.before.lacks-return.ensures ∙ c.if5.false)
+    rw (size-good d.before.before, starts-good d, neighbours-good c.before.before.before.before, weights_good c.before.before, sym c.before.lacks_return.ensures ∙ c.if-lacks_return.false)
 
-pub network-number-spec : {M : Type 1} → statement M
-network-number-spec =
+pub network_number_spec : {M : Type 1} → statement M
+network_number_spec =
     tie.close
     (tie.spec
-    bad-size-requires
-    returns
-    bad-starts-requires
-    returns-2
-    bad-neighbours-requires
-    returns-3
-    bad-weights-requires
-    returns-4
-    lacks-return-requires
-    returns-5
-    returns-6)
+    bad_size-requires
+    returns-then-bad_size
+    bad_starts-requires
+    returns-then-bad_starts
+    bad_neighbours-requires
+    returns-then-bad_neighbours
+    bad_weights-requires
+    returns-then-bad_weights
+    lacks_return-requires
+    returns-then-lacks_return
+    returns)

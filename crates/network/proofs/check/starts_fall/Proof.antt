@@ -11,65 +11,65 @@ use borrow.Author.Rules.{rules}
 use Rattle.network.proofs.check.starts_fall.Statement.{statement}
 use Rattle.network.proofs.check.starts_fall.Tie as tie
 
-abbrev invariant-loop : tie.invariant-loop
-invariant-loop starts last a₀ a = (a ≤ last) × (any (falls_at starts) a ≡ false)
+abbrev invariant-loop-a : tie.invariant-loop-a
+invariant-loop-a starts last a₀ a = (a ≤ last) × (any (falls_at starts) a ≡ false)
 
-abbrev decreases-loop : tie.decreases-loop
-decreases-loop starts last a₀ a = last - a
+abbrev decreases-loop-a : tie.decreases-loop-a
+decreases-loop-a starts last a₀ a = last - a
 
-sub-last : tie.Need-overflow-sub-last invariant-loop decreases-loop
-sub-last c = search rules
+overflow_sub-last : tie.Need-overflow_sub-last invariant-loop-a decreases-loop-a
+overflow_sub-last c = search rules
 
-loop-holds : tie.Need-loop-init invariant-loop decreases-loop
+loop-holds : tie.Need-loop-a-init invariant-loop-a decreases-loop-a
 loop-holds c = (search rules, any_start _)
 
-mul-from : tie.Need-overflow-mul-from invariant-loop decreases-loop
-mul-from c = search rules
+offset_bounds-starts-a : tie.Need-offset_bounds-starts-a invariant-loop-a decreases-loop-a
+offset_bounds-starts-a c = search rules
 
-shared-slice-read-from : tie.Need-shared-slice-read-from invariant-loop decreases-loop
-shared-slice-read-from c = search rules
+bounds-starts-a : tie.Need-bounds-starts-a invariant-loop-a decreases-loop-a
+bounds-starts-a c = search rules
 
-add-end : tie.Need-overflow-add-end invariant-loop decreases-loop
-add-end c = search rules
+overflow_add-end : tie.Need-overflow_add-end invariant-loop-a decreases-loop-a
+overflow_add-end c = search rules
 
-mul-end : tie.Need-overflow-mul-end invariant-loop decreases-loop
-mul-end c = search rules
+offset_bounds-starts-a-in-loop-a : tie.Need-offset_bounds-starts-a-in-loop-a invariant-loop-a decreases-loop-a
+offset_bounds-starts-a-in-loop-a c = search rules
 
-shared-slice-read-end : tie.Need-shared-slice-read-end invariant-loop decreases-loop
-shared-slice-read-end c = search rules
+bounds-starts-a-in-loop-a : tie.Need-bounds-starts-a-in-loop-a invariant-loop-a decreases-loop-a
+bounds-starts-a-in-loop-a c = search rules
 
-returns : tie.Need-returns invariant-loop decreases-loop
+returns-then-end-from : tie.Need-returns-then-end-from invariant-loop-a decreases-loop-a
 unfolding falls_at
-returns c = found _ _ _ c.before.before.before.loop-test.true (lt-ltb _ _ c.if1.true)
+returns-then-end-from c = found _ _ _ c.before.before.before.loop-a-test.true (lt-ltb _ _ c.if-end-from.true)
 
-add_a : tie.Need-overflow-add-a invariant-loop decreases-loop
-add_a c = search rules
+overflow_add-a : tie.Need-overflow_add-a invariant-loop-a decreases-loop-a
+overflow_add-a c = search rules
 
-loop-less : tie.Need-loop-smaller invariant-loop decreases-loop
+loop-less : tie.Need-loop-a-smaller invariant-loop-a decreases-loop-a
 loop-less c = search rules
 
-loop-again : tie.Need-loop-preserved invariant-loop decreases-loop
+loop-again : tie.Need-loop-a-preserved invariant-loop-a decreases-loop-a
 unfolding falls_at
-loop-again c = (search rules, any_more _ _ c.before.before.before.before.loop.invariant.1 (le-ltb _ _ c.if1.false))
+loop-again c = (search rules, any_more _ _ c.before.before.before.before.loop-a.invariant.1 (le-ltb _ _ c.if-end-from.false))
 
-returns-2 : tie.Need-returns-2 invariant-loop decreases-loop
-returns-2 c = not_found _ _ _ c.before.loop.invariant.0 c.loop-test.false c.before.loop.invariant.1
+returns : tie.Need-returns invariant-loop-a decreases-loop-a
+returns c = not_found _ _ _ c.before.loop-a.invariant.0 c.loop-a-test.false c.before.loop-a.invariant.1
 
-pub starts-fall-spec : {M : Type 1} → statement M
-starts-fall-spec =
+pub starts_fall_spec : {M : Type 1} → statement M
+starts_fall_spec =
     tie.close
     (tie.spec
-    invariant-loop
-    decreases-loop
-    sub-last
+    invariant-loop-a
+    decreases-loop-a
+    overflow_sub-last
     loop-holds
-    mul-from
-    shared-slice-read-from
-    add-end
-    mul-end
-    shared-slice-read-end
-    returns
-    add_a
+    offset_bounds-starts-a
+    bounds-starts-a
+    overflow_add-end
+    offset_bounds-starts-a-in-loop-a
+    bounds-starts-a-in-loop-a
+    returns-then-end-from
+    overflow_add-a
     loop-less
     loop-again
-    returns-2)
+    returns)
