@@ -24,43 +24,43 @@ module _ (P : List ℕ) (i : ℕ) where
   unfolding bad_byte_at
   byte-good h = le-ltb 15 (get_or P i 0) h
 
-abbrev invariant-loop : tie.invariant-loop
-invariant-loop points i₀ i = (i ≤ length points) × (any (bad_byte_at points) i ≡ false)
+abbrev invariant-loop-i : tie.invariant-loop-i
+invariant-loop-i points i₀ i = (i ≤ length points) × (any (bad_byte_at points) i ≡ false)
 
-abbrev decreases-loop : tie.decreases-loop
-decreases-loop points i₀ i = length points - i
+abbrev decreases-loop-i : tie.decreases-loop-i
+decreases-loop-i points i₀ i = length points - i
 
-loop-holds : tie.Need-loop-init invariant-loop decreases-loop
+loop-holds : tie.Need-loop-i-init invariant-loop-i decreases-loop-i
 loop-holds c = (search rules, any_start _)
 
-shared-slice-read-lockers : tie.Need-shared-slice-read-lockers invariant-loop decreases-loop
-shared-slice-read-lockers c = search rules
+bounds-points-i : tie.Need-bounds-points-i invariant-loop-i decreases-loop-i
+bounds-points-i c = search rules
 
-returns : tie.Need-returns invariant-loop decreases-loop
-returns c = found _ _ _ c.before.before.loop-test.true (byte_high _ _ (omega (arith, c.if1.true)))
+returns-then-lockers-gt15 : tie.Need-returns-then-lockers-gt15 invariant-loop-i decreases-loop-i
+returns-then-lockers-gt15 c = found _ _ _ c.before.before.loop-i-test.true (byte_high _ _ (omega (arith, c.if-lockers-gt15.true)))
 
-add-i : tie.Need-overflow-add-i invariant-loop decreases-loop
-add-i c = search rules
+overflow_add-i : tie.Need-overflow_add-i invariant-loop-i decreases-loop-i
+overflow_add-i c = search rules
 
-loop-less : tie.Need-loop-smaller invariant-loop decreases-loop
+loop-less : tie.Need-loop-i-smaller invariant-loop-i decreases-loop-i
 loop-less c = search rules
 
-loop-again : tie.Need-loop-preserved invariant-loop decreases-loop
-loop-again c = (search rules, any_more _ _ c.before.before.before.loop.invariant.1 (byte-good _ _ (omega (arith, c.if1.false))))
+loop-again : tie.Need-loop-i-preserved invariant-loop-i decreases-loop-i
+loop-again c = (search rules, any_more _ _ c.before.before.before.loop-i.invariant.1 (byte-good _ _ (omega (arith, c.if-lockers-gt15.false))))
 
-returns-2 : tie.Need-returns-2 invariant-loop decreases-loop
-returns-2 c = not_found _ _ _ c.before.loop.invariant.0 c.loop-test.false c.before.loop.invariant.1
+returns : tie.Need-returns invariant-loop-i decreases-loop-i
+returns c = not_found _ _ _ c.before.loop-i.invariant.0 c.loop-i-test.false c.before.loop-i.invariant.1
 
-pub bad-byte-spec : {M : Type 1} → statement M
-bad-byte-spec =
+pub bad_byte_spec : {M : Type 1} → statement M
+bad_byte_spec =
     tie.close
     (tie.spec
-    invariant-loop
-    decreases-loop
+    invariant-loop-i
+    decreases-loop-i
     loop-holds
-    shared-slice-read-lockers
-    returns
-    add-i
+    bounds-points-i
+    returns-then-lockers-gt15
+    overflow_add-i
     loop-less
     loop-again
-    returns-2)
+    returns)

@@ -15,105 +15,105 @@ use borrow.Author.Rules.{rules}
 use Rattle.conditions.proofs.bad_route.Statement.{statement}
 use Rattle.conditions.proofs.bad_route.Tie as tie
 
-abbrev invariant-loop : tie.invariant-loop
-invariant-loop starts neighbours route next₀ next =
+abbrev invariant-loop-next : tie.invariant-loop-next
+invariant-loop-next starts neighbours route next₀ next =
     (1 ≤ next) × ((weights : List ℕ) → breaks_at (network starts neighbours weights) route next ≡ bad_route (network starts neighbours weights) route)
 
-abbrev decreases-loop : tie.decreases-loop
-decreases-loop starts neighbours route next₀ next = length route - next
+abbrev decreases-loop-next : tie.decreases-loop-next
+decreases-loop-next starts neighbours route next₀ next = length route - next
 
 -- the network, whatever its weights are, and the list
-abbrev G : tie.Start invariant-loop decreases-loop → List ℕ → Network
+abbrev G : tie.Start invariant-loop-next decreases-loop-next → List ℕ → Network
 G s w = network s.args.starts.now s.args.neighbours.now w
 
-abbrev R : tie.Start invariant-loop decreases-loop → List ℕ
+abbrev R : tie.Start invariant-loop-next decreases-loop-next → List ℕ
 R s = s.args.route.now
 
 -- where the loop stands before a road is looked for; the road that the code looks for is the one to the node at `next`
-abbrev At : tie.After-has-road invariant-loop decreases-loop → tie.In-loop invariant-loop decreases-loop
+abbrev At : tie.After-has_road invariant-loop-next decreases-loop-next → tie.In-loop-next invariant-loop-next decreases-loop-next
 At c = c.before.before.before.before
 
-abbrev Entry : tie.In-loop invariant-loop decreases-loop → tie.Start invariant-loop decreases-loop
+abbrev Entry : tie.In-loop-next invariant-loop-next decreases-loop-next → tie.Start invariant-loop-next decreases-loop-next
 Entry t = t.before.before.before.before.before.before
 
-tested : (c : tie.After-has-road invariant-loop decreases-loop) (w : List ℕ)
-    → has_road (G (Entry (At c)) w) (get_or (R (Entry (At c))) ((At c).before.loop.next - 1) 0) (get_or (R (Entry (At c))) (At c).before.loop.next 0) ≡ c.has_road_lem.result
-tested c w = rw (← c.before.before.wide.ensures) (sym (c.has_road_lem.ensures w))
+tested : (c : tie.After-has_road invariant-loop-next decreases-loop-next) (w : List ℕ)
+    → has_road (G (Entry (At c)) w) (get_or (R (Entry (At c))) ((At c).before.loop-next.next - 1) 0) (get_or (R (Entry (At c))) (At c).before.loop-next.next 0) ≡ c.has_road_lem.result
+tested c w = rw (← c.before.before.wide-from.ensures) (sym (c.has_road_lem.ensures w))
 
-returns : tie.Need-returns invariant-loop decreases-loop
-returns c = λ w. no_node _ _ c.if1.true
+returns-then-route-eq0 : tie.Need-returns-then-route-eq0 invariant-loop-next decreases-loop-next
+returns-then-route-eq0 c = λ w. no_node _ _ c.if-route-eq0.true
 
-loop-holds : tie.Need-loop-init invariant-loop decreases-loop
-loop-holds c = (search rules, λ w. breaks_start _ _ c.if1.false)
+loop-holds : tie.Need-loop-next-init invariant-loop-next decreases-loop-next
+loop-holds c = (search rules, λ w. breaks_start _ _ c.if-route-eq0.false)
 
-sub_wide : tie.Need-overflow-sub-wide invariant-loop decreases-loop
-sub_wide c = search rules
+overflow_sub-next : tie.Need-overflow_sub-next invariant-loop-next decreases-loop-next
+overflow_sub-next c = search rules
 
-mul_wide : tie.Need-overflow-mul-wide invariant-loop decreases-loop
-mul_wide c = search rules
+offset_bounds-route-next : tie.Need-offset_bounds-route-next invariant-loop-next decreases-loop-next
+offset_bounds-route-next c = search rules
 
-shared-slice-read-wide : tie.Need-shared-slice-read-wide invariant-loop decreases-loop
-shared-slice-read-wide c = search rules
+bounds-route-next : tie.Need-bounds-route-next invariant-loop-next decreases-loop-next
+bounds-route-next c = search rules
 
-wide-requires : tie.Need-wide-requires invariant-loop decreases-loop
-wide-requires c κs = search rules
+wide-from-requires : tie.Need-wide-from-requires invariant-loop-next decreases-loop-next
+wide-from-requires c κs = search rules
 
-mul-to : tie.Need-overflow-mul-to invariant-loop decreases-loop
-mul-to c = search rules
+offset_bounds-route-next-in-loop-next : tie.Need-offset_bounds-route-next-in-loop-next invariant-loop-next decreases-loop-next
+offset_bounds-route-next-in-loop-next c = search rules
 
-shared-slice-read-to : tie.Need-shared-slice-read-to invariant-loop decreases-loop
-shared-slice-read-to c = search rules
+bounds-route-next-in-loop-next : tie.Need-bounds-route-next-in-loop-next invariant-loop-next decreases-loop-next
+bounds-route-next-in-loop-next c = search rules
 
-has-road-requires : tie.Need-has-road-requires invariant-loop decreases-loop
-has-road-requires c κs =
+has_road-requires : tie.Need-has_road-requires invariant-loop-next decreases-loop-next
+has_road-requires c κs =
     let t = c.before.before.before in
-    rw c.before.wide.ensures ((Entry t).requires _ (on_place (R (Entry t)) (t.before.loop.next - 1) (omega arith)))
+    rw c.before.wide-from.ensures ((Entry t).requires _ (on_place (R (Entry t)) (t.before.loop-next.next - 1) (omega arith)))
 
-returns-2 : tie.Need-returns-2 invariant-loop decreases-loop
-returns-2 c =
+returns-then-not-has_road : tie.Need-returns-then-not-has_road invariant-loop-next decreases-loop-next
+returns-then-not-has_road c =
     λ w.
     let t = At c.before in
-    sym (breaks_here (G (Entry t) w) (R (Entry t)) t.before.loop.next t.loop-test.taken (tested c.before w ∙ not-true _ c.if2.true))
-    ∙ t.before.loop.inv.1 w
+    sym (breaks_here (G (Entry t) w) (R (Entry t)) t.before.loop-next.next t.loop-next-test.taken (tested c.before w ∙ not-true _ c.if-not-has_road.true))
+    ∙ t.before.loop-next.inv.1 w
 
-add-next : tie.Need-overflow-add-next invariant-loop decreases-loop
-add-next c = search rules
+overflow_add-next : tie.Need-overflow_add-next invariant-loop-next decreases-loop-next
+overflow_add-next c = search rules
 
-loop-less : tie.Need-loop-smaller invariant-loop decreases-loop
+loop-less : tie.Need-loop-next-smaller invariant-loop-next decreases-loop-next
 loop-less c = search rules
 
-loop-again : tie.Need-loop-preserved invariant-loop decreases-loop
+loop-again : tie.Need-loop-next-preserved invariant-loop-next decreases-loop-next
 loop-again c = (
   search rules,
   λ w.
       let t = At c.before in
-      breaks_next (G (Entry t) w) (R (Entry t)) t.before.loop.next t.loop-test.taken (tested c.before w ∙ not-false _ c.if2.false)
-      ∙ t.before.loop.inv.1 w,
+      breaks_next (G (Entry t) w) (R (Entry t)) t.before.loop-next.next t.loop-next-test.taken (tested c.before w ∙ not-false _ c.if-not-has_road.false)
+      ∙ t.before.loop-next.inv.1 w,
 )
 
-returns-3 : tie.Need-returns-3 invariant-loop decreases-loop
-returns-3 c =
+returns : tie.Need-returns invariant-loop-next decreases-loop-next
+returns c =
     λ w.
     let s = c.before.before.before.before.before.before in
-    sym (breaks_end (G s w) (R s) c.before.loop.next c.loop-test.false) ∙ c.before.loop.invariant.1 w
+    sym (breaks_end (G s w) (R s) c.before.loop-next.next c.loop-next-test.false) ∙ c.before.loop-next.invariant.1 w
 
-pub bad-route-spec : {M : Type 1} → statement M
-bad-route-spec =
+pub bad_route_spec : {M : Type 1} → statement M
+bad_route_spec =
     tie.close
     (tie.spec
-    invariant-loop
-    decreases-loop
-    returns
+    invariant-loop-next
+    decreases-loop-next
+    returns-then-route-eq0
     loop-holds
-    sub_wide
-    mul_wide
-    shared-slice-read-wide
-    wide-requires
-    mul-to
-    shared-slice-read-to
-    has-road-requires
-    returns-2
-    add-next
+    overflow_sub-next
+    offset_bounds-route-next
+    bounds-route-next
+    wide-from-requires
+    offset_bounds-route-next-in-loop-next
+    bounds-route-next-in-loop-next
+    has_road-requires
+    returns-then-not-has_road
+    overflow_add-next
     loop-less
     loop-again
-    returns-3)
+    returns)

@@ -5,14 +5,14 @@ use borrow.Author.Rules.{rules}
 use Rattle.conditions.proofs.eager_scratch_number.Statement.{statement}
 use Rattle.conditions.proofs.eager_scratch_number.Tie as tie
 
-mul-short-number : tie.Need-overflow-mul-short-number
-mul-short-number c = record { fits = omega (arith, c.requires) }
+overflow_mul-n : tie.Need-overflow_mul-n
+overflow_mul-n c = record { fits = omega (arith, c.requires) }
 
-short-number-requires : tie.Need-short-number-requires
-short-number-requires c κs = search rules
+short_number-requires : tie.Need-short_number-requires
+short_number-requires c κs = search rules
 
 returns : tie.Need-returns
-returns c = c.short-number.ensures
+returns c = c.short_number.ensures
 
-pub eager-scratch-number-spec : {M : Type 1} → statement M
-eager-scratch-number-spec = tie.close (tie.spec mul-short-number short-number-requires returns)
+pub eager_scratch_number_spec : {M : Type 1} → statement M
+eager_scratch_number_spec = tie.close (tie.spec overflow_mul-n short_number-requires returns)

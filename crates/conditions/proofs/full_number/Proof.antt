@@ -8,22 +8,22 @@ use borrow.Author.Rules.{rules}
 use Rattle.conditions.proofs.full_number.Statement.{statement}
 use Rattle.conditions.proofs.full_number.Tie as tie
 
-lockers-at-requires : tie.Need-lockers-at-requires
-lockers-at-requires c κs = search rules
+lockers_at-requires : tie.Need-lockers_at-requires
+lockers_at-requires c κs = search rules
+
+returns-then-lockers_at-ge15 : tie.Need-returns-then-lockers_at-ge15
+unfolding full_number
+returns-then-lockers_at-ge15 c =
+    let l = c.before in
+    let a = l.before.before.args in
+    rw (le-leb 15 (lockers a.points.now a.p) (omega (arith, l.lockers_at.ensures.0, c.if-lockers_at-ge15.true)))
 
 returns : tie.Need-returns
 unfolding full_number
 returns c =
     let l = c.before in
     let a = l.before.before.args in
-    rw (le-leb 15 (lockers a.points.now a.p) (omega (arith, l.lockers-at.ensures.0, c.if1.true)))
+    rw (lt-leb 15 (lockers a.points.now a.p) (omega (arith, l.lockers_at.ensures.0, c.if-lockers_at-ge15.false)))
 
-returns-2 : tie.Need-returns-2
-unfolding full_number
-returns-2 c =
-    let l = c.before in
-    let a = l.before.before.args in
-    rw (lt-leb 15 (lockers a.points.now a.p) (omega (arith, l.lockers-at.ensures.0, c.if1.false)))
-
-pub full-number-spec : {M : Type 1} → statement M
-full-number-spec = tie.close (tie.spec lockers-at-requires returns returns-2)
+pub full_number_spec : {M : Type 1} → statement M
+full_number_spec = tie.close (tie.spec lockers_at-requires returns-then-lockers_at-ge15 returns)

@@ -5,39 +5,39 @@ use borrow.Author.Rules.{rules}
 use Rattle.conditions.proofs.has_road.Statement.{statement}
 use Rattle.conditions.proofs.has_road.Tie as tie
 
-neighbours-of-requires : tie.Need-neighbours-of-requires
-neighbours-of-requires c κs = search rules
+neighbours_of-ahead-requires : tie.Need-neighbours_of-ahead-requires
+neighbours_of-ahead-requires c κs = search rules
 
-lower-bound-requires : tie.Need-lower-bound-requires
-lower-bound-requires c κs = rw c.neighbours-of.ensures c.before.before.before.requires.up
+lower_bound-place-requires : tie.Need-lower_bound-place-requires
+lower_bound-place-requires c κs = rw c.neighbours_of-ahead.ensures c.before.before.before.requires.up
+
+returns-then-ahead-place : tie.Need-returns-then-ahead-place
+returns-then-ahead-place c =
+    λ w.
+    let s = c.before.before.before.before.before in
+    let e = c.before.before.neighbours_of-ahead.ensures in
+    road_past _ _ _ _ s.requires.up (rw e at c.before.lower_bound-place.ensures) (rw e at c.if-ahead-place.true)
+
+offset_bounds-ahead-place : tie.Need-offset_bounds-ahead-place
+offset_bounds-ahead-place c = search rules
+
+bounds-ahead-place : tie.Need-bounds-ahead-place
+bounds-ahead-place c = search rules
 
 returns : tie.Need-returns
 returns c =
     λ w.
-    let s = c.before.before.before.before.before in
-    let e = c.before.before.neighbours-of.ensures in
-    road_past _ _ _ _ s.requires.up (rw e at c.before.lower-bound.ensures) (rw e at c.if1.true)
-
-mul-result : tie.Need-overflow-mul-result
-mul-result c = search rules
-
-shared-slice-read-result : tie.Need-shared-slice-read-result
-shared-slice-read-result c = search rules
-
-returns-2 : tie.Need-returns-2
-returns-2 c =
-    λ w.
     let s = c.before.before.before.before.before.before in
-    let e = c.before.before.before.neighbours-of.ensures in
-    rw e (road_told _ _ _ _ s.requires.up (rw e at c.before.before.lower-bound.ensures) (rw e at c.before.if1.false))
+    let e = c.before.before.before.neighbours_of-ahead.ensures in
+    rw e (road_told _ _ _ _ s.requires.up (rw e at c.before.before.lower_bound-place.ensures) (rw e at c.before.if-ahead-place.false))
 
-pub has-road-spec : {M : Type 1} → statement M
-has-road-spec =
+pub has_road_spec : {M : Type 1} → statement M
+has_road_spec =
     tie.close
     (tie.spec
-    neighbours-of-requires
-    lower-bound-requires
-    returns
-    mul-result
-    shared-slice-read-result
-    returns-2)
+    neighbours_of-ahead-requires
+    lower_bound-place-requires
+    returns-then-ahead-place
+    offset_bounds-ahead-place
+    bounds-ahead-place
+    returns)

@@ -10,13 +10,13 @@ use Rattle.conditions.proofs.node_number.Tie as tie
 wide-requires : tie.Need-wide-requires
 wide-requires c κs = search rules
 
+returns-then-n-wide : tie.Need-returns-then-n-wide
+unfolding node_number
+returns-then-n-wide c = rw (le-leb c.before.before.args.n c.before.before.args.node (omega arith))
+
 returns : tie.Need-returns
 unfolding node_number
-returns c = rw (le-leb c.before.before.args.n c.before.before.args.node (omega arith))
+returns c = rw (lt-leb c.before.before.args.n c.before.before.args.node (omega arith))
 
-returns-2 : tie.Need-returns-2
-unfolding node_number
-returns-2 c = rw (lt-leb c.before.before.args.n c.before.before.args.node (omega arith))
-
-pub node-number-spec : {M : Type 1} → statement M
-node-number-spec = tie.close (tie.spec wide-requires returns returns-2)
+pub node_number_spec : {M : Type 1} → statement M
+node_number_spec = tie.close (tie.spec wide-requires returns-then-n-wide returns)

@@ -9,55 +9,55 @@ use borrow.Author.Rules.{rules}
 use Rattle.conditions.proofs.nodes_number.Statement.{statement}
 use Rattle.conditions.proofs.nodes_number.Tie as tie
 
-abbrev invariant-loop : tie.invariant-loop
-invariant-loop n route i₀ i = nodes_from n route i ≡ nodes_number n route
+abbrev invariant-loop-i : tie.invariant-loop-i
+invariant-loop-i n route i₀ i = nodes_from n route i ≡ nodes_number n route
 
-abbrev decreases-loop : tie.decreases-loop
-decreases-loop n route i₀ i = length route - i
+abbrev decreases-loop-i : tie.decreases-loop-i
+decreases-loop-i n route i₀ i = length route - i
 
-loop-holds : tie.Need-loop-init invariant-loop decreases-loop
+loop-holds : tie.Need-loop-i-init invariant-loop-i decreases-loop-i
 loop-holds c = nodes_start _ _
 
-mul-node-number : tie.Need-overflow-mul-node-number invariant-loop decreases-loop
-mul-node-number c = search rules
+offset_bounds-route-i : tie.Need-offset_bounds-route-i invariant-loop-i decreases-loop-i
+offset_bounds-route-i c = search rules
 
-shared-slice-read-node-number : tie.Need-shared-slice-read-node-number invariant-loop decreases-loop
-shared-slice-read-node-number c = search rules
+bounds-route-i : tie.Need-bounds-route-i invariant-loop-i decreases-loop-i
+bounds-route-i c = search rules
 
-node-number-requires : tie.Need-node-number-requires invariant-loop decreases-loop
-node-number-requires c κs = search rules
+node_number-number-requires : tie.Need-node_number-number-requires invariant-loop-i decreases-loop-i
+node_number-number-requires c κs = search rules
 
-returns : tie.Need-returns invariant-loop decreases-loop
-returns c =
+returns-then-number-ne0 : tie.Need-returns-then-number-ne0 invariant-loop-i decreases-loop-i
+returns-then-number-ne0 c =
     let t = c.before.before.before in
-    nodes_here _ _ t.before.loop.i _ t.loop-test.true c.before.node-number.ensures c.if1.true ∙ t.before.loop.invariant
+    nodes_here _ _ t.before.loop-i.i _ t.loop-i-test.true c.before.node_number-number.ensures c.if-number-ne0.true ∙ t.before.loop-i.invariant
 
-add-i : tie.Need-overflow-add-i invariant-loop decreases-loop
-add-i c = search rules
+overflow_add-i : tie.Need-overflow_add-i invariant-loop-i decreases-loop-i
+overflow_add-i c = search rules
 
-loop-less : tie.Need-loop-smaller invariant-loop decreases-loop
+loop-less : tie.Need-loop-i-smaller invariant-loop-i decreases-loop-i
 loop-less c = search rules
 
-loop-again : tie.Need-loop-preserved invariant-loop decreases-loop
+loop-again : tie.Need-loop-i-preserved invariant-loop-i decreases-loop-i
 loop-again c =
     let t = c.before.before.before in
-    nodes_next _ _ t.before.loop.i _ t.loop-test.true c.before.node-number.ensures c.if1.false ∙ t.before.loop.invariant
+    nodes_next _ _ t.before.loop-i.i _ t.loop-i-test.true c.before.node_number-number.ensures c.if-number-ne0.false ∙ t.before.loop-i.invariant
 
-returns-2 : tie.Need-returns-2 invariant-loop decreases-loop
-returns-2 c = nodes_end _ _ c.before.loop.i c.loop-test.false ∙ c.before.loop.invariant
+returns : tie.Need-returns invariant-loop-i decreases-loop-i
+returns c = nodes_end _ _ c.before.loop-i.i c.loop-i-test.false ∙ c.before.loop-i.invariant
 
-pub nodes-number-spec : {M : Type 1} → statement M
-nodes-number-spec =
+pub nodes_number_spec : {M : Type 1} → statement M
+nodes_number_spec =
     tie.close
     (tie.spec
-    invariant-loop
-    decreases-loop
+    invariant-loop-i
+    decreases-loop-i
     loop-holds
-    mul-node-number
-    shared-slice-read-node-number
-    node-number-requires
-    returns
-    add-i
+    offset_bounds-route-i
+    bounds-route-i
+    node_number-number-requires
+    returns-then-number-ne0
+    overflow_add-i
     loop-less
     loop-again
-    returns-2)
+    returns)

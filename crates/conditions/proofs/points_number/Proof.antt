@@ -12,26 +12,26 @@ use borrow.Author.Rules.{rules}
 use Rattle.conditions.proofs.points_number.Statement.{statement}
 use Rattle.conditions.proofs.points_number.Tie as tie
 
+returns-then-points-n : tie.Need-returns-then-points-n
+unfolding points_number
+returns-then-points-n c =
+    let a = c.before.before.args in
+    rw (ne_eqb (length a.points.now) a.n (omega (arith, c.if-points-n.true)))
+
+bad_byte-requires : tie.Need-bad_byte-requires
+bad_byte-requires c κs = search rules
+
+returns-then-bad_byte : tie.Need-returns-then-bad_byte
+unfolding points_number
+returns-then-bad_byte c =
+    let a = c.before.before.before.before.args in
+    rw (or_right (not (eqb (length a.points.now) a.n)) _ (sym c.before.bad_byte.ensures ∙ c.if-bad_byte.true))
+
 returns : tie.Need-returns
 unfolding points_number
 returns c =
-    let a = c.before.before.args in
-    rw (ne_eqb (length a.points.now) a.n (omega (arith, c.if1.true)))
-
-bad-byte-requires : tie.Need-bad-byte-requires
-bad-byte-requires c κs = search rules
-
-returns-2 : tie.Need-returns-2
-unfolding points_number
-returns-2 c =
     let a = c.before.before.before.before.args in
-    rw (or_right (not (eqb (length a.points.now) a.n)) _ (sym c.before.bad-byte.ensures ∙ c.if2.true))
+    rw (eq-eqb (length a.points.now) a.n (omega (arith, c.before.before.if-points-n.false)), sym c.before.bad_byte.ensures ∙ c.if-bad_byte.false)
 
-returns-3 : tie.Need-returns-3
-unfolding points_number
-returns-3 c =
-    let a = c.before.before.before.before.args in
-    rw (eq-eqb (length a.points.now) a.n (omega (arith, c.before.before.if1.false)), sym c.before.bad-byte.ensures ∙ c.if2.false)
-
-pub points-number-spec : {M : Type 1} → statement M
-points-number-spec = tie.close (tie.spec returns bad-byte-requires returns-2 returns-3)
+pub points_number_spec : {M : Type 1} → statement M
+points_number_spec = tie.close (tie.spec returns-then-points-n bad_byte-requires returns-then-bad_byte returns)

@@ -6,16 +6,16 @@ use borrow.Author.Rules.{rules}
 use Rattle.conditions.proofs.route_number.Statement.{statement}
 use Rattle.conditions.proofs.route_number.Tie as tie
 
-bad-route-requires : tie.Need-bad-route-requires
-bad-route-requires c κs = search rules
+bad_route-requires : tie.Need-bad_route-requires
+bad_route-requires c κs = search rules
+
+returns-then-bad_route : tie.Need-returns-then-bad_route
+unfolding route_number
+returns-then-bad_route c = λ w. rw (sym (c.before.bad_route.ensures w) ∙ c.if-bad_route.true)
 
 returns : tie.Need-returns
 unfolding route_number
-returns c = λ w. rw (sym (c.before.bad-route.ensures w) ∙ c.if1.true)
+returns c = λ w. rw (sym (c.before.bad_route.ensures w) ∙ c.if-bad_route.false)
 
-returns-2 : tie.Need-returns-2
-unfolding route_number
-returns-2 c = λ w. rw (sym (c.before.bad-route.ensures w) ∙ c.if1.false)
-
-pub route-number-spec : {M : Type 1} → statement M
-route-number-spec = tie.close (tie.spec bad-route-requires returns returns-2)
+pub route_number_spec : {M : Type 1} → statement M
+route_number_spec = tie.close (tie.spec bad_route-requires returns-then-bad_route returns)

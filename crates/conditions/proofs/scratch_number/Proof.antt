@@ -6,14 +6,14 @@ use borrow.Author.Rules.{rules}
 use Rattle.conditions.proofs.scratch_number.Statement.{statement}
 use Rattle.conditions.proofs.scratch_number.Tie as tie
 
-scratch-words-requires : tie.Need-scratch-words-requires
-scratch-words-requires c κs = search rules
+scratch_words-requires : tie.Need-scratch_words-requires
+scratch_words-requires c κs = search rules
 
-short-number-requires : tie.Need-short-number-requires
-short-number-requires c κs = search rules
+short_number-requires : tie.Need-short_number-requires
+short_number-requires c κs = search rules
 
 returns : tie.Need-returns
-returns c = c.short-number.ensures ∙ ap (short_number _) c.before.scratch-words.ensures
+returns c = c.short_number.ensures ∙ ap (short_number _) c.before.scratch_words.ensures
 
-pub scratch-number-spec : {M : Type 1} → statement M
-scratch-number-spec = tie.close (tie.spec scratch-words-requires short-number-requires returns)
+pub scratch_number_spec : {M : Type 1} → statement M
+scratch_number_spec = tie.close (tie.spec scratch_words-requires short_number-requires returns)

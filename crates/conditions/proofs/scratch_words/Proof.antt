@@ -21,28 +21,28 @@ product c =
     few : (c : tie.After-wide) → c.wide.result ≤ 17
     few c = omega (arith, c.wide.ensures, c.before.requires.2)
 
-mul-result : tie.Need-overflow-mul-result
-mul-result c = search rules
+overflow_mul-result : tie.Need-overflow_mul-result
+overflow_mul-result c = search rules
 
-add-result : tie.Need-overflow-add-result
-add-result c = search rules
+overflow_add-result : tie.Need-overflow_add-result
+overflow_add-result c = search rules
 
-mul-result-2 : tie.Need-overflow-mul-result-2
-mul-result-2 c = search rules
+overflow_mul-result-2 : tie.Need-overflow_mul-result-2
+overflow_mul-result-2 c = search rules
 
 wide-requires : tie.Need-wide-requires
 wide-requires c κs = search rules
 
-mul-result-3 : tie.Need-overflow-mul-result-3
-mul-result-3 c = omega (arith, product c)
+overflow_mul-result-3 : tie.Need-overflow_mul-result-3
+overflow_mul-result-3 c = omega (arith, product c)
 
-add-result-2 : tie.Need-overflow-add-result-2
-add-result-2 c = omega (arith, product c, c.before.requires.0)
+overflow_add-result-2 : tie.Need-overflow_add-result-2
+overflow_add-result-2 c = omega (arith, product c, c.before.requires.0)
 
 returns : tie.Need-returns
 returns c = ap (λ m. 16 * c.before.args.n + 8 * (c.before.args.arcs + c.before.args.n) * m) c.wide.ensures
 
-pub scratch-words-spec : {M : Type 1} → statement M
-scratch-words-spec =
+pub scratch_words_spec : {M : Type 1} → statement M
+scratch_words_spec =
     tie.close
-    (tie.spec mul-result add-result mul-result-2 wide-requires mul-result-3 add-result-2 returns)
+    (tie.spec overflow_mul-result overflow_add-result overflow_mul-result-2 wide-requires overflow_mul-result-3 overflow_add-result-2 returns)

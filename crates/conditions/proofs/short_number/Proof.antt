@@ -5,13 +5,13 @@ use Rattle.conditions.specs.Conditions.{short_number}
 use Rattle.conditions.proofs.short_number.Statement.{statement}
 use Rattle.conditions.proofs.short_number.Tie as tie
 
+returns-then-have-need : tie.Need-returns-then-have-need
+unfolding short_number
+returns-then-have-need c = search tests
+
 returns : tie.Need-returns
 unfolding short_number
 returns c = search tests
 
-returns-2 : tie.Need-returns-2
-unfolding short_number
-returns-2 c = search tests
-
-pub short-number-spec : {M : Type 1} → statement M
-short-number-spec = tie.close (tie.spec returns returns-2)
+pub short_number_spec : {M : Type 1} → statement M
+short_number_spec = tie.close (tie.spec returns-then-have-need returns)

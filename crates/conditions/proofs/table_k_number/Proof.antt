@@ -7,23 +7,23 @@ use Rattle.conditions.specs.Conditions.{tableKNumber}
 use Rattle.conditions.proofs.table_k_number.Statement.{statement}
 use Rattle.conditions.proofs.table_k_number.Tie as tie
 
+returns-then-k-eq0 : tie.Need-returns-then-k-eq0
+unfolding tableKNumber
+returns-then-k-eq0 c = search tests
+
+returns-then-places-k : tie.Need-returns-then-places-k
+unfolding tableKNumber
+returns-then-places-k c =
+    let e = c.before in
+    let a = e.before.args in
+    rw (ne_eqb a.k 0 e.if-k-eq0.false, le-leb a.places a.k (omega (arith, c.if-places-k.true)))
+
 returns : tie.Need-returns
 unfolding tableKNumber
-returns c = search tests
-
-returns-2 : tie.Need-returns-2
-unfolding tableKNumber
-returns-2 c =
+returns c =
     let e = c.before in
     let a = e.before.args in
-    rw (ne_eqb a.k 0 e.if1.false, le-leb a.places a.k (omega (arith, c.if2.true)))
+    rw (ne_eqb a.k 0 e.if-k-eq0.false, lt-leb a.places a.k (omega (arith, c.if-places-k.false)))
 
-returns-3 : tie.Need-returns-3
-unfolding tableKNumber
-returns-3 c =
-    let e = c.before in
-    let a = e.before.args in
-    rw (ne_eqb a.k 0 e.if1.false, lt-leb a.places a.k (omega (arith, c.if2.false)))
-
-pub table-k-number-spec : {M : Type 1} → statement M
-table-k-number-spec = tie.close (tie.spec returns returns-2 returns-3)
+pub table_k_number_spec : {M : Type 1} → statement M
+table_k_number_spec = tie.close (tie.spec returns-then-k-eq0 returns-then-places-k returns)

@@ -7,43 +7,43 @@ use borrow.Author.Rules.{rules}
 use Rattle.households.proofs.look.Statement.{statement}
 use Rattle.households.proofs.look.Tie as tie
 
-abbrev start_of : tie.After-nodes → tie.Start
+abbrev start_of : tie.After-nodes-near → tie.Start
 start_of n = n.before.before.before.before.before.before.before
 
-sub-n : tie.Need-overflow-sub-n
-sub-n c = search rules
+overflow_sub-n : tie.Need-overflow_sub-n
+overflow_sub-n c = search rules
 
-nodes-requires : tie.Need-nodes-requires
-nodes-requires c κs = let s = c.before.before.before.before.before.before in can_find s.requires s.args.k
+nodes-near-requires : tie.Need-nodes-near-requires
+nodes-near-requires c κs = let s = c.before.before.before.before.before.before in can_find s.requires s.args.k
 
-slice-relend-prefix-zero : tie.Need-slice-relend-prefix-zero
-slice-relend-prefix-zero c = let n = c.before.before in found_fits (start_of n).requires n.nodes.ensures
+slice_bounds-zero-end : tie.Need-slice_bounds-zero-end
+slice_bounds-zero-end c = let n = c.before.before in found_fits (start_of n).requires n.nodes-near.ensures
 
-slice-aggregate-zero : tie.Need-slice-aggregate-zero
-slice-aggregate-zero c =
+slice_bounds-zero-end-2 : tie.Need-slice_bounds-zero-end-2
+slice_bounds-zero-end-2 c =
     let n = c.before.before.before in
-    sym (length-take-le n.nodes.result.found n.nodes.new.1.1.1.1.0 (found_fits (start_of n).requires n.nodes.ensures))
+    sym (length-take-le n.nodes-near.result.found n.nodes-near.new.1.1.1.1.0 (found_fits (start_of n).requires n.nodes-near.ensures))
 
 zero-requires : tie.Need-zero-requires
 zero-requires c κs = search rules
 
-same_length : tie.Need-same-length
-same_length c = search rules
+shape_of-f : tie.Need-shape_of-f
+shape_of-f c = search rules
 
 returns : tie.Need-returns
 returns c =
     let z = c.before.before in
     let n = z.before.before.before.before in
-    (look_clears (start_of n).requires n.nodes.ensures z.zero.ensures, n.nodes.ensures.found_in.count)
+    (look_clears (start_of n).requires n.nodes-near.ensures z.zero.ensures, n.nodes-near.ensures.found_in.count)
 
 pub look_spec : {M : Type 1} → statement M
 look_spec =
     tie.close
     (tie.spec
-    sub-n
-    nodes-requires
-    slice-relend-prefix-zero
-    slice-aggregate-zero
+    overflow_sub-n
+    nodes-near-requires
+    slice_bounds-zero-end
+    slice_bounds-zero-end-2
     zero-requires
-    same_length
+    shape_of-f
     returns)

@@ -6,20 +6,20 @@ use borrow.Author.Rules.{rules}
 use Rattle.nearer_row.proofs.nearer_part.Statement.{statement}
 use Rattle.nearer_row.proofs.nearer_part.Tie as tie
 
-abbrev start : tie.After-own-nearer → tie.Start
+abbrev start : tie.After-own_nearer → tie.Start
 start c = c.before.before.before
 
-mul-start : tie.Need-overflow-mul-start
-mul-start c = search rules
+overflow_mul-start : tie.Need-overflow_mul-start
+overflow_mul-start c = search rules
 
-own-nearer-requires : tie.Need-own-nearer-requires
-own-nearer-requires c κs = search rules
+own_nearer-requires : tie.Need-own_nearer-requires
+own_nearer-requires c κs = search rules
+
+returns-then-own_nearer : tie.Need-returns-then-own_nearer
+returns-then-own_nearer c = let a = (start c.before).args in sym (part_own a.places a.i a.own.now a.rival.now (sym c.before.own_nearer.ensures ∙ c.if-own_nearer.true))
 
 returns : tie.Need-returns
-returns c = let a = (start c.before).args in sym (part_own a.places a.i a.own.now a.rival.now (sym c.before.own-nearer.ensures ∙ c.if1.true))
+returns c = let a = (start c.before).args in sym (part_rival a.places a.i a.own.now a.rival.now (sym c.before.own_nearer.ensures ∙ c.if-own_nearer.false))
 
-returns-2 : tie.Need-returns-2
-returns-2 c = let a = (start c.before).args in sym (part_rival a.places a.i a.own.now a.rival.now (sym c.before.own-nearer.ensures ∙ c.if1.false))
-
-pub nearer-part-spec : {M : Type 1} → statement M
-nearer-part-spec = tie.close (tie.spec mul-start own-nearer-requires returns returns-2)
+pub nearer_part_spec : {M : Type 1} → statement M
+nearer_part_spec = tie.close (tie.spec overflow_mul-start own_nearer-requires returns-then-own_nearer returns)

@@ -6,24 +6,24 @@ use borrow.Author.Rules.{rules}
 use Rattle.nearer_row.proofs.nearer_row.Statement.{statement}
 use Rattle.nearer_row.proofs.nearer_row.Tie as tie
 
-abbrev start : tie.After-own-nearer → tie.Start
+abbrev start : tie.After-own_nearer → tie.Start
 start c = c.before.before.before
 
-own-nearer-requires : tie.Need-own-nearer-requires
-own-nearer-requires c κs = search rules
+own_nearer-requires : tie.Need-own_nearer-requires
+own_nearer-requires c κs = search rules
 
-row-of-requires : tie.Need-row-of-requires
-row-of-requires c κs = search rules
+row_of-requires : tie.Need-row_of-requires
+row_of-requires c κs = search rules
+
+returns-then-own_nearer : tie.Need-returns-then-own_nearer
+returns-then-own_nearer c = let a = (start c.before.before).args in c.row_of.ensures ∙ sym (row_own a.places a.i a.own.now a.rival.now (sym c.before.before.own_nearer.ensures ∙ c.before.if-own_nearer.true))
+
+row_of-requires-2 : tie.Need-row_of-requires-2
+row_of-requires-2 c κs = search rules
 
 returns : tie.Need-returns
-returns c = let a = (start c.before.before).args in c.row_of.ensures ∙ sym (row_own a.places a.i a.own.now a.rival.now (sym c.before.before.own-nearer.ensures ∙ c.before.if1.true))
+returns c = let a = (start c.before.before).args in c.row_of-2.ensures ∙ sym (row_rival a.places a.i a.own.now a.rival.now (sym c.before.before.own_nearer.ensures ∙ c.before.if-own_nearer.false))
 
-row-of-requires-2 : tie.Need-row-of-requires-2
-row-of-requires-2 c κs = search rules
-
-returns-2 : tie.Need-returns-2
-returns-2 c = let a = (start c.before.before).args in c.row-of2.ensures ∙ sym (row_rival a.places a.i a.own.now a.rival.now (sym c.before.before.own-nearer.ensures ∙ c.before.if1.false))
-
-pub nearer-row-spec : {M : Type 1} → statement M
-nearer-row-spec =
-    tie.close (tie.spec own-nearer-requires row-of-requires returns row-of-requires-2 returns-2)
+pub nearer_row_spec : {M : Type 1} → statement M
+nearer_row_spec =
+    tie.close (tie.spec own_nearer-requires row_of-requires returns-then-own_nearer row_of-requires-2 returns)

@@ -10,46 +10,46 @@ use borrow.Author.Rules.{rules}
 use Rattle.nearer_row.proofs.own_nearer.Statement.{statement}
 use Rattle.nearer_row.proofs.own_nearer.Tie as tie
 
-abbrev start : tie.After-row-of2 → tie.Start
+abbrev start : tie.After-row_of-rival_row → tie.Start
 start c = c.before.before.before.before
 
 -- both rows have an entry
-own-some : (c : tie.After-row-of2) → 0 < length c.before.row_of.result.now
+own-some : (c : tie.After-row_of-rival_row) → 0 < length c.before.row_of-own_row.result.now
 own-some c =
     let s = start c in
     let a = s.args in
-    omega (arith, ap length c.before.row_of.ensures, row_part_length a.places a.i a.own.now s.pre.in_own, s.pre.some)
+    omega (arith, ap length c.before.row_of-own_row.ensures, row_part_length a.places a.i a.own.now s.pre.in_own, s.pre.some)
 
-rival-some : (c : tie.After-row-of2) → 0 < length c.row-of2.result.now
+rival-some : (c : tie.After-row_of-rival_row) → 0 < length c.row_of-rival_row.result.now
 rival-some c =
     let s = start c in
     let a = s.args in
-    omega (arith, ap length c.row-of2.ensures, row_part_length a.places a.i a.rival.now s.pre.in_rival, s.pre.some)
+    omega (arith, ap length c.row_of-rival_row.ensures, row_part_length a.places a.i a.rival.now s.pre.in_rival, s.pre.some)
 
-row-of-requires : tie.Need-row-of-requires
-row-of-requires c κs = search rules
+row_of-own_row-requires : tie.Need-row_of-own_row-requires
+row_of-own_row-requires c κs = search rules
 
-row-of-requires-2 : tie.Need-row-of-requires-2
-row-of-requires-2 c κs = search rules
+row_of-rival_row-requires : tie.Need-row_of-rival_row-requires
+row_of-rival_row-requires c κs = search rules
 
-shared-slice-read-result : tie.Need-shared-slice-read-result
-shared-slice-read-result c = own-some c.before
+bounds-own_row-0 : tie.Need-bounds-own_row-0
+bounds-own_row-0 c = own-some c.before
 
-shared-slice-read-result-2 : tie.Need-shared-slice-read-result-2
-shared-slice-read-result-2 c = rival-some c.before.before
+bounds-rival_row-0 : tie.Need-bounds-rival_row-0
+bounds-rival_row-0 c = rival-some c.before.before
 
 returns : tie.Need-returns
 returns c =
     let r = c.before.before in
     let a = (start r).args in
-    own_nearer_is a.places a.i a.own.now a.rival.now r.before.row_of.ensures r.row-of2.ensures
+    own_nearer_is a.places a.i a.own.now a.rival.now r.before.row_of-own_row.ensures r.row_of-rival_row.ensures
 
-pub own-nearer-spec : {M : Type 1} → statement M
-own-nearer-spec =
+pub own_nearer_spec : {M : Type 1} → statement M
+own_nearer_spec =
     tie.close
     (tie.spec
-    row-of-requires
-    row-of-requires-2
-    shared-slice-read-result
-    shared-slice-read-result-2
+    row_of-own_row-requires
+    row_of-rival_row-requires
+    bounds-own_row-0
+    bounds-rival_row-0
     returns)

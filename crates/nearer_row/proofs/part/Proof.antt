@@ -9,18 +9,18 @@ use Rattle.nearer_row.proofs.part.Tie as tie
 abbrev G : tie.Start → Network
 G s = network s.args.starts.now s.args.neighbours.now s.args.weights.now
 
-abbrev start : tie.After-number → tie.Start
+abbrev start : tie.After-number-refusal → tie.Start
 start n = n.before.before.before.before.before.before.before.before
 
-number-requires : tie.Need-number-requires
-number-requires c κs = search rules
+number-refusal-requires : tie.Need-number-refusal-requires
+number-refusal-requires c κs = search rules
 
-returns : tie.Need-returns
-returns c =
+returns-then-refusal-ne0 : tie.Need-returns-then-refusal-ne0
+returns-then-refusal-ne0 c =
     let n = c.before in
     let s = start n in
     let a = s.args in
-    part_refused (G s) a.junction a.places a.own-ids.now a.own-distances.now a.rival-ids.now a.rival-distances.now n.number.result n.number.ensures c.if1.true
+    part_refused (G s) a.junction a.places a.own-ids.now a.own-distances.now a.rival-ids.now a.rival-distances.now n.number-refusal.result n.number-refusal.ensures c.if-refusal-ne0.true
 
 wide-requires : tie.Need-wide-requires
 wide-requires c κs = search rules
@@ -28,22 +28,22 @@ wide-requires c κs = search rules
 wide-requires-2 : tie.Need-wide-requires-2
 wide-requires-2 c κs = search rules
 
-nearer-part-requires : tie.Need-nearer-part-requires
-nearer-part-requires c κs =
+nearer_part-requires : tie.Need-nearer_part-requires
+nearer_part-requires c κs =
     let n = c.before.before.before in
     let s = start n in
     let a = s.args in
-    rw (c.before.wide.ensures, c.wide2.ensures) (row_fit (G s) a.junction a.places a.own-ids.now a.own-distances.now a.rival-ids.now a.rival-distances.now n.number.result n.number.ensures c.before.before.if1.false)
+    rw (c.before.wide.ensures, c.wide-2.ensures) (row_fit (G s) a.junction a.places a.own-ids.now a.own-distances.now a.rival-ids.now a.rival-distances.now n.number-refusal.result n.number-refusal.ensures c.before.before.if-refusal-ne0.false)
 
-returns-2 : tie.Need-returns-2
-returns-2 c =
+returns : tie.Need-returns
+returns c =
     let n = c.before.before.before.before in
     let s = start n in
     let a = s.args in
-    part_accepted (G s) a.junction a.places a.own-ids.now a.own-distances.now a.rival-ids.now a.rival-distances.now n.number.result n.number.ensures c.before.before.before.if1.false
-    (rw (c.before.before.wide.ensures, c.before.wide2.ensures) at c.nearer-part.ensures)
+    part_accepted (G s) a.junction a.places a.own-ids.now a.own-distances.now a.rival-ids.now a.rival-distances.now n.number-refusal.result n.number-refusal.ensures c.before.before.before.if-refusal-ne0.false
+    (rw (c.before.before.wide.ensures, c.before.wide-2.ensures) at c.nearer_part.ensures)
 
-pub part-spec : {M : Type 1} → statement M
-part-spec =
+pub part_spec : {M : Type 1} → statement M
+part_spec =
     tie.close
-    (tie.spec number-requires returns wide-requires wide-requires-2 nearer-part-requires returns-2)
+    (tie.spec number-refusal-requires returns-then-refusal-ne0 wide-requires wide-requires-2 nearer_part-requires returns)

@@ -10,21 +10,21 @@ use Rattle.nearer_row.proofs.row.Tie as tie
 abbrev G : tie.Start → Network
 G s = network s.args.starts.now s.args.neighbours.now s.args.weights.now
 
-abbrev start : tie.After-number → tie.Start
+abbrev start : tie.After-number-refusal → tie.Start
 start n = n.before.before.before.before.before.before.before.before
 
-number-requires : tie.Need-number-requires
-number-requires c κs = search rules
+number-refusal-requires : tie.Need-number-refusal-requires
+number-refusal-requires c κs = search rules
 
-slice-aggregate-result : tie.Need-slice-aggregate-result
-slice-aggregate-result c = search rules
+slice_bounds-result-end : tie.Need-slice_bounds-result-end
+slice_bounds-result-end c = search rules
 
-returns : tie.Need-returns
-returns c =
+returns-then-refusal-ne0 : tie.Need-returns-then-refusal-ne0
+returns-then-refusal-ne0 c =
     let n = c.before.before in
     let s = start n in
     let a = s.args in
-    row_refused (G s) a.junction a.places a.own-ids.now a.own-distances.now a.rival-ids.now a.rival-distances.now n.number.result n.number.ensures c.before.if1.true
+    row_refused (G s) a.junction a.places a.own-ids.now a.own-distances.now a.rival-ids.now a.rival-distances.now n.number-refusal.result n.number-refusal.ensures c.before.if-refusal-ne0.true
 
 wide-requires : tie.Need-wide-requires
 wide-requires c κs = search rules
@@ -32,29 +32,29 @@ wide-requires c κs = search rules
 wide-requires-2 : tie.Need-wide-requires-2
 wide-requires-2 c κs = search rules
 
-nearer-row-requires : tie.Need-nearer-row-requires
-nearer-row-requires c κs =
+nearer_row-requires : tie.Need-nearer_row-requires
+nearer_row-requires c κs =
     let n = c.before.before.before in
     let s = start n in
     let a = s.args in
-    rw (c.before.wide.ensures, c.wide2.ensures) (row_fit (G s) a.junction a.places a.own-ids.now a.own-distances.now a.rival-ids.now a.rival-distances.now n.number.result n.number.ensures c.before.before.if1.false)
+    rw (c.before.wide.ensures, c.wide-2.ensures) (row_fit (G s) a.junction a.places a.own-ids.now a.own-distances.now a.rival-ids.now a.rival-distances.now n.number-refusal.result n.number-refusal.ensures c.before.before.if-refusal-ne0.false)
 
-returns-2 : tie.Need-returns-2
-returns-2 c =
+returns : tie.Need-returns
+returns c =
     let n = c.before.before.before.before in
     let s = start n in
     let a = s.args in
-    let h = row_accepted (G s) a.junction a.places a.own-ids.now a.own-distances.now a.rival-ids.now a.rival-distances.now n.number.result n.number.ensures c.before.before.before.if1.false in
-    rw (c.before.before.wide.ensures, c.before.wide2.ensures) at c.nearer-row.ensures ∙ h
+    let h = row_accepted (G s) a.junction a.places a.own-ids.now a.own-distances.now a.rival-ids.now a.rival-distances.now n.number-refusal.result n.number-refusal.ensures c.before.before.before.if-refusal-ne0.false in
+    rw (c.before.before.wide.ensures, c.before.wide-2.ensures) at c.nearer_row.ensures ∙ h
 
-pub row-spec : {M : Type 1} → statement M
-row-spec =
+pub row_spec : {M : Type 1} → statement M
+row_spec =
     tie.close
     (tie.spec
-    number-requires
-    slice-aggregate-result
-    returns
+    number-refusal-requires
+    slice_bounds-result-end
+    returns-then-refusal-ne0
     wide-requires
     wide-requires-2
-    nearer-row-requires
-    returns-2)
+    nearer_row-requires
+    returns)

@@ -14,41 +14,41 @@ use Rattle.numbers.proofs.build_number.Tie as tie
 abbrev G : tie.Start → Network
 G s = network s.args.starts.now s.args.neighbours.now s.args.weights.now
 
-abbrev start : tie.After-table-check-number → tie.Start
+abbrev start : tie.After-table_check_number-number → tie.Start
 start c = c.before.before.before.before.before.before.before.before
 
 -- behind the first test the network is accepted, and K in range
-ready : (c : tie.Else1) → let s = start c.before in TableReady (G s) s.args.points.now s.args.places s.args.ids.now s.args.distances.now
+ready : (c : tie.Else-number-ne0) → let s = start c.before in TableReady (G s) s.args.points.now s.args.places s.args.ids.now s.args.distances.now
 ready c =
     let n = c.before in
     let s = start n in
-    table_check_ready (G s) s.args.points.now s.args.places s.args.ids.now s.args.distances.now (sym n.table-check-number.ensures ∙ c.if1.false)
+    table_check_ready (G s) s.args.points.now s.args.places s.args.ids.now s.args.distances.now (sym n.table_check_number-number.ensures ∙ c.if-number-ne0.false)
 
-table-check-number-requires : tie.Need-table-check-number-requires
-table-check-number-requires c κs = search rules
+table_check_number-number-requires : tie.Need-table_check_number-number-requires
+table_check_number-number-requires c κs = search rules
+
+returns-then-number-ne0 : tie.Need-returns-then-number-ne0
+unfolding build_number
+returns-then-number-ne0 c = first_is _ _ _ c.before.table_check_number-number.ensures c.if-number-ne0.true
+
+overflow_sub-starts : tie.Need-overflow_sub-starts
+overflow_sub-starts c = omega (arith, (ready c).accepted.some)
+
+scratch_number-requires : tie.Need-scratch_number-requires
+scratch_number-requires c κs = let r = ready c in (r.accepted.few, r.accepted.few_arcs, r.most)
 
 returns : tie.Need-returns
 unfolding build_number
-returns c = first_is _ _ _ c.before.table-check-number.ensures c.if1.true
+returns c =
+    first_later _ _ _ _ c.before.before.table_check_number-number.ensures c.before.if-number-ne0.false
+    (first_last _ _ c.scratch_number.ensures)
 
-sub-scratch-number : tie.Need-overflow-sub-scratch-number
-sub-scratch-number c = omega (arith, (ready c).accepted.some)
-
-scratch-number-requires : tie.Need-scratch-number-requires
-scratch-number-requires c κs = let r = ready c in (r.accepted.few, r.accepted.few_arcs, r.most)
-
-returns-2 : tie.Need-returns-2
-unfolding build_number
-returns-2 c =
-    first_later _ _ _ _ c.before.before.table-check-number.ensures c.before.if1.false
-    (first_last _ _ c.scratch-number.ensures)
-
-pub build-number-spec : {M : Type 1} → statement M
-build-number-spec =
+pub build_number_spec : {M : Type 1} → statement M
+build_number_spec =
     tie.close
     (tie.spec
-    table-check-number-requires
-    returns
-    sub-scratch-number
-    scratch-number-requires
-    returns-2)
+    table_check_number-number-requires
+    returns-then-number-ne0
+    overflow_sub-starts
+    scratch_number-requires
+    returns)

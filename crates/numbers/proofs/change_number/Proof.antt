@@ -17,81 +17,81 @@ use Rattle.numbers.proofs.change_number.Tie as tie
 abbrev G : tie.Start → Network
 G s = network s.args.starts.now s.args.neighbours.now s.args.weights.now
 
-abbrev start : tie.After-table-node-number → tie.Start
+abbrev start : tie.After-table_node_number-number → tie.Start
 start c = c.before.before.before.before.before.before.before.before
 
 -- behind the first test the node is one that has a byte, the network is accepted, and K in range
-ready : (c : tie.Else1) → let s = start c.before in (s.args.node < node_count (G s)) × TableReady (G s) s.args.points.now s.args.places s.args.ids.now s.args.distances.now
+ready : (c : tie.Else-number-ne0) → let s = start c.before in (s.args.node < node_count (G s)) × TableReady (G s) s.args.points.now s.args.places s.args.ids.now s.args.distances.now
 ready c =
     let n = c.before in
     let s = start n in
-    table_node_ready (G s) s.args.points.now s.args.node s.args.places s.args.ids.now s.args.distances.now (sym n.table-node-number.ensures ∙ c.if1.false)
+    table_node_ready (G s) s.args.points.now s.args.node s.args.places s.args.ids.now s.args.distances.now (sym n.table_node_number-number.ensures ∙ c.if-number-ne0.false)
 
-table-node-number-requires : tie.Need-table-node-number-requires
-table-node-number-requires c κs = search rules
+table_node_number-number-requires : tie.Need-table_node_number-number-requires
+table_node_number-number-requires c κs = search rules
 
-returns : tie.Need-returns
+returns-then-number-ne0 : tie.Need-returns-then-number-ne0
 unfolding change_number
-returns c = first_is _ _ _ c.before.table-node-number.ensures c.if1.true
+returns-then-number-ne0 c = first_is _ _ _ c.before.table_node_number-number.ensures c.if-number-ne0.true
 
-sub-scratch-number : tie.Need-overflow-sub-scratch-number
-sub-scratch-number c = omega (arith, (ready c).1.accepted.some)
+overflow_sub-starts : tie.Need-overflow_sub-starts
+overflow_sub-starts c = omega (arith, (ready c).1.accepted.some)
 
-scratch-number-requires : tie.Need-scratch-number-requires
-scratch-number-requires c κs = let r = (ready c).1 in (r.accepted.few, r.accepted.few_arcs, r.most)
+scratch_number-number-requires : tie.Need-scratch_number-number-requires
+scratch_number-number-requires c κs = let r = (ready c).1 in (r.accepted.few, r.accepted.few_arcs, r.most)
 
-returns-2 : tie.Need-returns-2
+returns-then-number-ne0-2 : tie.Need-returns-then-number-ne0-2
 unfolding change_number
-returns-2 c =
-    first_later _ _ _ _ c.before.before.before.table-node-number.ensures c.before.before.if1.false
-    (first_is _ _ _ c.before.scratch-number.ensures c.if2.true)
+returns-then-number-ne0-2 c =
+    first_later _ _ _ _ c.before.before.before.table_node_number-number.ensures c.before.before.if-number-ne0.false
+    (first_is _ _ _ c.before.scratch_number-number.ensures c.if-number-ne0-2.true)
 
-enum_told : tie.Need-enum-told
-enum_told c = search rules
+enum_told-1 : tie.Need-enum_told-1
+enum_told-1 c = search rules
 
-full-number-requires : tie.Need-full-number-requires
-full-number-requires c κs = search rules
+full_number-requires : tie.Need-full_number-requires
+full_number-requires c κs = search rules
 
-enum-told-2 : tie.Need-enum-told-2
-enum-told-2 c = search rules
+enum_told-in-Remove : tie.Need-enum_told-in-Remove
+enum_told-in-Remove c = search rules
 
-unmarked-number-requires : tie.Need-unmarked-number-requires
-unmarked-number-requires c κs = search rules
+unmarked_number-requires : tie.Need-unmarked_number-requires
+unmarked_number-requires c κs = search rules
 
-returns-3 : tie.Need-returns-3
+returns-in-Insert : tie.Need-returns-in-Insert
 unfolding change_number
-returns-3 c =
+returns-in-Insert c =
     let t = c.before in
     let e = t.before.before in
     let d = e.before.before in
     let s = start d.before in
-    first_later _ _ _ _ d.before.table-node-number.ensures d.if1.false
-    (first_later _ _ _ _ e.before.scratch-number.ensures e.if2.false
-    (first_last _ _ (c.full-number.ensures ∙ ap (λ (k : Kind). kind_number k s.args.points.now s.args.node) (sym t.enum_told.given.1))))
+    first_later _ _ _ _ d.before.table_node_number-number.ensures d.if-number-ne0.false
+    (first_later _ _ _ _ e.before.scratch_number-number.ensures e.if-number-ne0-2.false
+    (first_last _ _ (c.full_number.ensures ∙ ap (λ (k : Kind). kind_number k s.args.points.now s.args.node) (sym t.enum_told-1.given.1))))
 
-returns-4 : tie.Need-returns-4
+returns-in-Remove : tie.Need-returns-in-Remove
 unfolding change_number
-returns-4 c =
+returns-in-Remove c =
     let t = c.before in
     let e = t.before.before in
     let d = e.before.before in
     let s = start d.before in
-    first_later _ _ _ _ d.before.table-node-number.ensures d.if1.false
-    (first_later _ _ _ _ e.before.scratch-number.ensures e.if2.false
-    (first_last _ _ (c.unmarked-number.ensures ∙ ap (λ (k : Kind). kind_number k s.args.points.now s.args.node) (sym t.enum-told2.given.1))))
+    first_later _ _ _ _ d.before.table_node_number-number.ensures d.if-number-ne0.false
+    (first_later _ _ _ _ e.before.scratch_number-number.ensures e.if-number-ne0-2.false
+    (first_last _ _ (c.unmarked_number.ensures ∙ ap (λ (k : Kind). kind_number k s.args.points.now s.args.node) (sym t.enum_told-in-Remove-1.given.1))))
 
-pub change-number-spec : {M : Type 1} → statement M
-change-number-spec =
+pub change_number_spec : {M : Type 1} → statement M
+change_number_spec =
     tie.close
     (tie.spec
-    table-node-number-requires
-    returns
-    sub-scratch-number
-    scratch-number-requires
-    returns-2
-    enum_told
-    full-number-requires
-    enum-told-2
-    unmarked-number-requires
-    returns-3
-    returns-4)
+    table_node_number-number-requires
+    returns-then-number-ne0
+    overflow_sub-starts
+    scratch_number-number-requires
+    returns-then-number-ne0-2
+    enum_told-1
+    full_number-requires
+    enum_told-in-Remove
+    unmarked_number-requires
+    returns-in-Insert
+    returns-in-Remove)

@@ -14,63 +14,63 @@ use Rattle.numbers.proofs.distances_number.Tie as tie
 abbrev G : tie.Start → Network
 G s = network s.args.starts.now s.args.neighbours.now s.args.weights.now
 
-abbrev start : tie.After-network-number → tie.Start
+abbrev start : tie.After-network_number-number → tie.Start
 start c = c.before.before.before.before.before.before
 
 -- behind the first test the network is accepted
-accepted : (c : tie.Else1) → Accepted (G (start c.before))
-accepted c = let n = c.before in let s = start n in (number_zero (G s)).0 (sym n.network-number.ensures ∙ c.if1.false)
+accepted : (c : tie.Else-number-ne0) → Accepted (G (start c.before))
+accepted c = let n = c.before in let s = start n in (number_zero (G s)).0 (sym n.network_number-number.ensures ∙ c.if-number-ne0.false)
 
-network-number-requires : tie.Need-network-number-requires
-network-number-requires c κs = search rules
+network_number-number-requires : tie.Need-network_number-number-requires
+network_number-number-requires c κs = search rules
+
+returns-then-number-ne0 : tie.Need-returns-then-number-ne0
+unfolding distances_number
+returns-then-number-ne0 c = first_is _ _ _ c.before.network_number-number.ensures c.if-number-ne0.true
+
+overflow_sub-n : tie.Need-overflow_sub-n
+overflow_sub-n c = omega (arith, (accepted c).some)
+
+node_number-number-requires : tie.Need-node_number-number-requires
+node_number-number-requires c κs = search rules
+
+returns-then-number-ne0-2 : tie.Need-returns-then-number-ne0-2
+unfolding distances_number
+returns-then-number-ne0-2 c =
+    first_later _ _ _ _ c.before.before.before.network_number-number.ensures c.before.before.if-number-ne0.false
+    (first_is _ _ _ c.before.node_number-number.ensures c.if-number-ne0-2.true)
+
+scratch_number-number-requires : tie.Need-scratch_number-number-requires
+scratch_number-number-requires c κs = let ok = accepted c.before.before in (ok.few, ok.few_arcs, omega arith)
+
+returns-then-number-ne0-3 : tie.Need-returns-then-number-ne0-3
+unfolding distances_number
+returns-then-number-ne0-3 c =
+    first_later _ _ _ _ c.before.before.before.before.before.network_number-number.ensures c.before.before.before.before.if-number-ne0.false
+    (first_later _ _ _ _ c.before.before.before.node_number-number.ensures c.before.before.if-number-ne0-2.false
+    (first_is _ _ _ c.before.scratch_number-number.ensures c.if-number-ne0-3.true))
+
+short_number-requires : tie.Need-short_number-requires
+short_number-requires c κs = search rules
 
 returns : tie.Need-returns
 unfolding distances_number
-returns c = first_is _ _ _ c.before.network-number.ensures c.if1.true
+returns c =
+    first_later _ _ _ _ c.before.before.before.before.before.before.network_number-number.ensures c.before.before.before.before.before.if-number-ne0.false
+    (first_later _ _ _ _ c.before.before.before.before.node_number-number.ensures c.before.before.before.if-number-ne0-2.false
+    (first_later _ _ _ _ c.before.before.scratch_number-number.ensures c.before.if-number-ne0-3.false
+    (first_last _ _ c.short_number.ensures)))
 
-sub-n : tie.Need-overflow-sub-n
-sub-n c = omega (arith, (accepted c).some)
-
-node-number-requires : tie.Need-node-number-requires
-node-number-requires c κs = search rules
-
-returns-2 : tie.Need-returns-2
-unfolding distances_number
-returns-2 c =
-    first_later _ _ _ _ c.before.before.before.network-number.ensures c.before.before.if1.false
-    (first_is _ _ _ c.before.node-number.ensures c.if2.true)
-
-scratch-number-requires : tie.Need-scratch-number-requires
-scratch-number-requires c κs = let ok = accepted c.before.before in (ok.few, ok.few_arcs, omega arith)
-
-returns-3 : tie.Need-returns-3
-unfolding distances_number
-returns-3 c =
-    first_later _ _ _ _ c.before.before.before.before.before.network-number.ensures c.before.before.before.before.if1.false
-    (first_later _ _ _ _ c.before.before.before.node-number.ensures c.before.before.if2.false
-    (first_is _ _ _ c.before.scratch-number.ensures c.if3.true))
-
-short-number-requires : tie.Need-short-number-requires
-short-number-requires c κs = search rules
-
-returns-4 : tie.Need-returns-4
-unfolding distances_number
-returns-4 c =
-    first_later _ _ _ _ c.before.before.before.before.before.before.network-number.ensures c.before.before.before.before.before.if1.false
-    (first_later _ _ _ _ c.before.before.before.before.node-number.ensures c.before.before.before.if2.false
-    (first_later _ _ _ _ c.before.before.scratch-number.ensures c.before.if3.false
-    (first_last _ _ c.short-number.ensures)))
-
-pub distances-number-spec : {M : Type 1} → statement M
-distances-number-spec =
+pub distances_number_spec : {M : Type 1} → statement M
+distances_number_spec =
     tie.close
     (tie.spec
-    network-number-requires
-    returns
-    sub-n
-    node-number-requires
-    returns-2
-    scratch-number-requires
-    returns-3
-    short-number-requires
-    returns-4)
+    network_number-number-requires
+    returns-then-number-ne0
+    overflow_sub-n
+    node_number-number-requires
+    returns-then-number-ne0-2
+    scratch_number-number-requires
+    returns-then-number-ne0-3
+    short_number-requires
+    returns)

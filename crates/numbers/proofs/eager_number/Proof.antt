@@ -13,29 +13,29 @@ use Rattle.numbers.proofs.eager_number.Tie as tie
 abbrev G : tie.Start → Network
 G s = network s.args.starts.now s.args.neighbours.now s.args.weights.now
 
-limited-number-requires : tie.Need-limited-number-requires
-limited-number-requires c κs = search rules
+limited_number-number-requires : tie.Need-limited_number-number-requires
+limited_number-number-requires c κs = search rules
+
+returns-then-number-ne0 : tie.Need-returns-then-number-ne0
+unfolding eager_number
+returns-then-number-ne0 c =
+    first_is _ _ _ c.before.limited_number-number.ensures c.if-number-ne0.true
+
+overflow_sub-starts : tie.Need-overflow_sub-starts
+overflow_sub-starts c =
+    let n = c.before in
+    let s = n.before.before.before.before.before.before.before.before in
+    omega (arith, (limited_ready (G s) s.args.points.now s.args.q s.args.k s.args.scratch.now s.args.answers.now (sym n.limited_number-number.ensures ∙ c.if-number-ne0.false)).accepted.some)
+
+short_number-requires : tie.Need-short_number-requires
+short_number-requires c κs = search rules
 
 returns : tie.Need-returns
 unfolding eager_number
 returns c =
-    first_is _ _ _ c.before.limited-number.ensures c.if1.true
+    first_later _ _ _ _ c.before.before.limited_number-number.ensures c.before.if-number-ne0.false (first_last _ _ c.short_number.ensures)
 
-sub-short-number : tie.Need-overflow-sub-short-number
-sub-short-number c =
-    let n = c.before in
-    let s = n.before.before.before.before.before.before.before.before in
-    omega (arith, (limited_ready (G s) s.args.points.now s.args.q s.args.k s.args.scratch.now s.args.answers.now (sym n.limited-number.ensures ∙ c.if1.false)).accepted.some)
-
-short-number-requires : tie.Need-short-number-requires
-short-number-requires c κs = search rules
-
-returns-2 : tie.Need-returns-2
-unfolding eager_number
-returns-2 c =
-    first_later _ _ _ _ c.before.before.limited-number.ensures c.before.if1.false (first_last _ _ c.short-number.ensures)
-
-pub eager-number-spec : {M : Type 1} → statement M
-eager-number-spec =
+pub eager_number_spec : {M : Type 1} → statement M
+eager_number_spec =
     tie.close
-    (tie.spec limited-number-requires returns sub-short-number short-number-requires returns-2)
+    (tie.spec limited_number-number-requires returns-then-number-ne0 overflow_sub-starts short_number-requires returns)

@@ -8,48 +8,48 @@ use borrow.Author.Rules.{rules}
 use Rattle.numbers.proofs.nearest_number.Statement.{statement}
 use Rattle.numbers.proofs.nearest_number.Tie as tie
 
-query-number-requires : tie.Need-query-number-requires
-query-number-requires c κs = search rules
+query_number-number-requires : tie.Need-query_number-number-requires
+query_number-number-requires c κs = search rules
 
-returns : tie.Need-returns
+returns-then-number-ne0 : tie.Need-returns-then-number-ne0
 unfolding nearest_number
-returns c =
-    first_is _ _ _ c.before.query-number.ensures c.if1.true
+returns-then-number-ne0 c =
+    first_is _ _ _ c.before.query_number-number.ensures c.if-number-ne0.true
 
 wide-requires : tie.Need-wide-requires
 wide-requires c κs = search rules
 
-short-number-requires : tie.Need-short-number-requires
-short-number-requires c κs = search rules
+short_number-number-requires : tie.Need-short_number-number-requires
+short_number-number-requires c κs = search rules
 
-returns-2 : tie.Need-returns-2
+returns-then-number-ne0-2 : tie.Need-returns-then-number-ne0-2
 unfolding nearest_number
-returns-2 c =
-    first_later _ _ _ _ c.before.before.before.before.query-number.ensures c.before.before.before.if1.false
-    (first_is _ _ _ (c.before.short-number.ensures ∙ ap (short_number _) c.before.before.wide.ensures) c.if2.true)
+returns-then-number-ne0-2 c =
+    first_later _ _ _ _ c.before.before.before.before.query_number-number.ensures c.before.before.before.if-number-ne0.false
+    (first_is _ _ _ (c.before.short_number-number.ensures ∙ ap (short_number _) c.before.before.wide.ensures) c.if-number-ne0-2.true)
 
 wide-requires-2 : tie.Need-wide-requires-2
 wide-requires-2 c κs = search rules
 
-short-number-requires-2 : tie.Need-short-number-requires-2
-short-number-requires-2 c κs = search rules
+short_number-requires : tie.Need-short_number-requires
+short_number-requires c κs = search rules
 
-returns-3 : tie.Need-returns-3
+returns : tie.Need-returns
 unfolding nearest_number
-returns-3 c =
-    first_later _ _ _ _ c.before.before.before.before.before.before.query-number.ensures c.before.before.before.before.before.if1.false
-    (first_later _ _ _ _ (c.before.before.before.short-number.ensures ∙ ap (short_number _) c.before.before.before.before.wide.ensures) c.before.before.if2.false
-    (first_last _ _ (c.short-number2.ensures ∙ ap (short_number _) c.before.wide2.ensures)))
+returns c =
+    first_later _ _ _ _ c.before.before.before.before.before.before.query_number-number.ensures c.before.before.before.before.before.if-number-ne0.false
+    (first_later _ _ _ _ (c.before.before.before.short_number-number.ensures ∙ ap (short_number _) c.before.before.before.before.wide.ensures) c.before.before.if-number-ne0-2.false
+    (first_last _ _ (c.short_number.ensures ∙ ap (short_number _) c.before.wide-2.ensures)))
 
-pub nearest-number-spec : {M : Type 1} → statement M
-nearest-number-spec =
+pub nearest_number_spec : {M : Type 1} → statement M
+nearest_number_spec =
     tie.close
     (tie.spec
-    query-number-requires
-    returns
+    query_number-number-requires
+    returns-then-number-ne0
     wide-requires
-    short-number-requires
-    returns-2
+    short_number-number-requires
+    returns-then-number-ne0-2
     wide-requires-2
-    short-number-requires-2
-    returns-3)
+    short_number-requires
+    returns)

@@ -14,38 +14,38 @@ use Rattle.numbers.proofs.network_points_number.Tie as tie
 abbrev G : tie.Start → Network
 G s = network s.args.starts.now s.args.neighbours.now s.args.weights.now
 
-abbrev start : tie.After-network-number → tie.Start
+abbrev start : tie.After-network_number-number → tie.Start
 start c = c.before.before.before.before.before
 
 -- behind the first test the network is accepted
-accepted : (c : tie.Else1) → Accepted (G (start c.before))
-accepted c = let n = c.before in let s = start n in (number_zero (G s)).0 (sym n.network-number.ensures ∙ c.if1.false)
+accepted : (c : tie.Else-number-ne0) → Accepted (G (start c.before))
+accepted c = let n = c.before in let s = start n in (number_zero (G s)).0 (sym n.network_number-number.ensures ∙ c.if-number-ne0.false)
 
-network-number-requires : tie.Need-network-number-requires
-network-number-requires c κs = search rules
+network_number-number-requires : tie.Need-network_number-number-requires
+network_number-number-requires c κs = search rules
+
+returns-then-number-ne0 : tie.Need-returns-then-number-ne0
+unfolding network_points_number
+returns-then-number-ne0 c = first_is _ _ _ c.before.network_number-number.ensures c.if-number-ne0.true
+
+overflow_sub-starts : tie.Need-overflow_sub-starts
+overflow_sub-starts c = omega (arith, (accepted c).some)
+
+points_number-requires : tie.Need-points_number-requires
+points_number-requires c κs = search rules
 
 returns : tie.Need-returns
 unfolding network_points_number
-returns c = first_is _ _ _ c.before.network-number.ensures c.if1.true
+returns c =
+    first_later _ _ _ _ c.before.before.network_number-number.ensures c.before.if-number-ne0.false
+    (first_last _ _ c.points_number.ensures)
 
-sub-points-number : tie.Need-overflow-sub-points-number
-sub-points-number c = omega (arith, (accepted c).some)
-
-points-number-requires : tie.Need-points-number-requires
-points-number-requires c κs = search rules
-
-returns-2 : tie.Need-returns-2
-unfolding network_points_number
-returns-2 c =
-    first_later _ _ _ _ c.before.before.network-number.ensures c.before.if1.false
-    (first_last _ _ c.points-number.ensures)
-
-pub network-points-number-spec : {M : Type 1} → statement M
-network-points-number-spec =
+pub network_points_number_spec : {M : Type 1} → statement M
+network_points_number_spec =
     tie.close
     (tie.spec
-    network-number-requires
-    returns
-    sub-points-number
-    points-number-requires
-    returns-2)
+    network_number-number-requires
+    returns-then-number-ne0
+    overflow_sub-starts
+    points_number-requires
+    returns)

@@ -14,52 +14,52 @@ use Rattle.numbers.proofs.query_number.Tie as tie
 abbrev G : tie.Start → Network
 G s = network s.args.starts.now s.args.neighbours.now s.args.weights.now
 
-abbrev start : tie.After-site-number → tie.Start
+abbrev start : tie.After-site_number-number → tie.Start
 start c = c.before.before.before.before.before.before
 
 -- behind the first test the network is accepted
-accepted : (c : tie.Else1) → Accepted (G (start c.before))
-accepted c = let n = c.before in let s = start n in (site_ready (G s) s.args.points.now s.args.node (sym n.site-number.ensures ∙ c.if1.false)).0
+accepted : (c : tie.Else-number-ne0) → Accepted (G (start c.before))
+accepted c = let n = c.before in let s = start n in (site_ready (G s) s.args.points.now s.args.node (sym n.site_number-number.ensures ∙ c.if-number-ne0.false)).0
 
-site-number-requires : tie.Need-site-number-requires
-site-number-requires c κs = search rules
+site_number-number-requires : tie.Need-site_number-number-requires
+site_number-number-requires c κs = search rules
+
+returns-then-number-ne0 : tie.Need-returns-then-number-ne0
+unfolding query_number
+returns-then-number-ne0 c = first_is _ _ _ c.before.site_number-number.ensures c.if-number-ne0.true
+
+k_number-number-requires : tie.Need-k_number-number-requires
+k_number-number-requires c κs = search rules
+
+returns-then-number-ne0-2 : tie.Need-returns-then-number-ne0-2
+unfolding query_number
+returns-then-number-ne0-2 c =
+    first_later _ _ _ _ c.before.before.before.site_number-number.ensures c.before.before.if-number-ne0.false
+    (first_is _ _ _ c.before.k_number-number.ensures c.if-number-ne0-2.true)
+
+overflow_sub-starts : tie.Need-overflow_sub-starts
+overflow_sub-starts c = omega (arith, (accepted c.before.before).some)
+
+scratch_number-requires : tie.Need-scratch_number-requires
+scratch_number-requires c κs =
+    let ok = accepted c.before.before in
+    (ok.few, ok.few_arcs, omega (arith, (k_ready _ (sym c.before.k_number-number.ensures ∙ c.if-number-ne0-2.false)).1))
 
 returns : tie.Need-returns
 unfolding query_number
-returns c = first_is _ _ _ c.before.site-number.ensures c.if1.true
+returns c =
+    first_later _ _ _ _ c.before.before.before.before.site_number-number.ensures c.before.before.before.if-number-ne0.false
+    (first_later _ _ _ _ c.before.before.k_number-number.ensures c.before.if-number-ne0-2.false
+    (first_last _ _ c.scratch_number.ensures))
 
-k-number-requires : tie.Need-k-number-requires
-k-number-requires c κs = search rules
-
-returns-2 : tie.Need-returns-2
-unfolding query_number
-returns-2 c =
-    first_later _ _ _ _ c.before.before.before.site-number.ensures c.before.before.if1.false
-    (first_is _ _ _ c.before.k-number.ensures c.if2.true)
-
-sub-scratch-number : tie.Need-overflow-sub-scratch-number
-sub-scratch-number c = omega (arith, (accepted c.before.before).some)
-
-scratch-number-requires : tie.Need-scratch-number-requires
-scratch-number-requires c κs =
-    let ok = accepted c.before.before in
-    (ok.few, ok.few_arcs, omega (arith, (k_ready _ (sym c.before.k-number.ensures ∙ c.if2.false)).1))
-
-returns-3 : tie.Need-returns-3
-unfolding query_number
-returns-3 c =
-    first_later _ _ _ _ c.before.before.before.before.site-number.ensures c.before.before.before.if1.false
-    (first_later _ _ _ _ c.before.before.k-number.ensures c.before.if2.false
-    (first_last _ _ c.scratch-number.ensures))
-
-pub query-number-spec : {M : Type 1} → statement M
-query-number-spec =
+pub query_number_spec : {M : Type 1} → statement M
+query_number_spec =
     tie.close
     (tie.spec
-    site-number-requires
-    returns
-    k-number-requires
-    returns-2
-    sub-scratch-number
-    scratch-number-requires
-    returns-3)
+    site_number-number-requires
+    returns-then-number-ne0
+    k_number-number-requires
+    returns-then-number-ne0-2
+    overflow_sub-starts
+    scratch_number-requires
+    returns)

@@ -13,29 +13,29 @@ use Rattle.numbers.proofs.search_number.Tie as tie
 abbrev G : tie.Start → Network
 G s = network s.args.starts.now s.args.neighbours.now s.args.weights.now
 
-query-number-requires : tie.Need-query-number-requires
-query-number-requires c κs = search rules
+query_number-number-requires : tie.Need-query_number-number-requires
+query_number-number-requires c κs = search rules
+
+returns-then-number-ne0 : tie.Need-returns-then-number-ne0
+unfolding search_number
+returns-then-number-ne0 c =
+    first_is _ _ _ c.before.query_number-number.ensures c.if-number-ne0.true
+
+overflow_sub-starts : tie.Need-overflow_sub-starts
+overflow_sub-starts c =
+    let n = c.before in
+    let s = n.before.before.before.before.before.before.before in
+    omega (arith, (query_ready (G s) s.args.points.now s.args.q s.args.k s.args.scratch.now (sym n.query_number-number.ensures ∙ c.if-number-ne0.false)).accepted.some)
+
+short_number-requires : tie.Need-short_number-requires
+short_number-requires c κs = search rules
 
 returns : tie.Need-returns
 unfolding search_number
 returns c =
-    first_is _ _ _ c.before.query-number.ensures c.if1.true
+    first_later _ _ _ _ c.before.before.query_number-number.ensures c.before.if-number-ne0.false (first_last _ _ c.short_number.ensures)
 
-sub-short-number : tie.Need-overflow-sub-short-number
-sub-short-number c =
-    let n = c.before in
-    let s = n.before.before.before.before.before.before.before in
-    omega (arith, (query_ready (G s) s.args.points.now s.args.q s.args.k s.args.scratch.now (sym n.query-number.ensures ∙ c.if1.false)).accepted.some)
-
-short-number-requires : tie.Need-short-number-requires
-short-number-requires c κs = search rules
-
-returns-2 : tie.Need-returns-2
-unfolding search_number
-returns-2 c =
-    first_later _ _ _ _ c.before.before.query-number.ensures c.before.if1.false (first_last _ _ c.short-number.ensures)
-
-pub search-number-spec : {M : Type 1} → statement M
-search-number-spec =
+pub search_number_spec : {M : Type 1} → statement M
+search_number_spec =
     tie.close
-    (tie.spec query-number-requires returns sub-short-number short-number-requires returns-2)
+    (tie.spec query_number-number-requires returns-then-number-ne0 overflow_sub-starts short_number-requires returns)

@@ -14,38 +14,38 @@ use Rattle.numbers.proofs.site_number.Tie as tie
 abbrev G : tie.Start → Network
 G s = network s.args.starts.now s.args.neighbours.now s.args.weights.now
 
-abbrev start : tie.After-network-points-number → tie.Start
+abbrev start : tie.After-network_points_number-number → tie.Start
 start c = c.before.before.before.before.before
 
 -- behind the first test the network is accepted
-accepted : (c : tie.Else1) → Accepted (G (start c.before))
-accepted c = let n = c.before in let s = start n in (network_points_ready (G s) s.args.points.now (sym n.network-points-number.ensures ∙ c.if1.false)).0
+accepted : (c : tie.Else-number-ne0) → Accepted (G (start c.before))
+accepted c = let n = c.before in let s = start n in (network_points_ready (G s) s.args.points.now (sym n.network_points_number-number.ensures ∙ c.if-number-ne0.false)).0
 
-network-points-number-requires : tie.Need-network-points-number-requires
-network-points-number-requires c κs = search rules
+network_points_number-number-requires : tie.Need-network_points_number-number-requires
+network_points_number-number-requires c κs = search rules
+
+returns-then-number-ne0 : tie.Need-returns-then-number-ne0
+unfolding site_number
+returns-then-number-ne0 c = first_is _ _ _ c.before.network_points_number-number.ensures c.if-number-ne0.true
+
+overflow_sub-starts : tie.Need-overflow_sub-starts
+overflow_sub-starts c = omega (arith, (accepted c).some)
+
+node_number-requires : tie.Need-node_number-requires
+node_number-requires c κs = search rules
 
 returns : tie.Need-returns
 unfolding site_number
-returns c = first_is _ _ _ c.before.network-points-number.ensures c.if1.true
+returns c =
+    first_later _ _ _ _ c.before.before.network_points_number-number.ensures c.before.if-number-ne0.false
+    (first_last _ _ c.node_number.ensures)
 
-sub-node-number : tie.Need-overflow-sub-node-number
-sub-node-number c = omega (arith, (accepted c).some)
-
-node-number-requires : tie.Need-node-number-requires
-node-number-requires c κs = search rules
-
-returns-2 : tie.Need-returns-2
-unfolding site_number
-returns-2 c =
-    first_later _ _ _ _ c.before.before.network-points-number.ensures c.before.if1.false
-    (first_last _ _ c.node-number.ensures)
-
-pub site-number-spec : {M : Type 1} → statement M
-site-number-spec =
+pub site_number_spec : {M : Type 1} → statement M
+site_number_spec =
     tie.close
     (tie.spec
-    network-points-number-requires
-    returns
-    sub-node-number
-    node-number-requires
-    returns-2)
+    network_points_number-number-requires
+    returns-then-number-ne0
+    overflow_sub-starts
+    node_number-requires
+    returns)

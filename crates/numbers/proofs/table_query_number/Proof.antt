@@ -14,69 +14,69 @@ use Rattle.numbers.proofs.table_query_number.Tie as tie
 abbrev G : tie.Start → Network
 G s = network s.args.starts.now s.args.neighbours.now s.args.weights.now
 
-abbrev start : tie.After-table-node-number → tie.Start
+abbrev start : tie.After-table_node_number-number → tie.Start
 start c = c.before.before.before.before.before.before.before.before.before
 
 -- behind the first test the network is accepted, and K in range
-ready : (c : tie.Else1) → let s = start c.before in TableReady (G s) s.args.points.now s.args.places s.args.ids.now s.args.distances.now
+ready : (c : tie.Else-number-ne0) → let s = start c.before in TableReady (G s) s.args.points.now s.args.places s.args.ids.now s.args.distances.now
 ready c =
     let n = c.before in
     let s = start n in
-    (table_node_ready (G s) s.args.points.now s.args.q s.args.places s.args.ids.now s.args.distances.now (sym n.table-node-number.ensures ∙ c.if1.false)).1
+    (table_node_ready (G s) s.args.points.now s.args.q s.args.places s.args.ids.now s.args.distances.now (sym n.table_node_number-number.ensures ∙ c.if-number-ne0.false)).1
 
-table-node-number-requires : tie.Need-table-node-number-requires
-table-node-number-requires c κs = search rules
+table_node_number-number-requires : tie.Need-table_node_number-number-requires
+table_node_number-number-requires c κs = search rules
+
+returns-then-number-ne0 : tie.Need-returns-then-number-ne0
+unfolding table_query_number
+returns-then-number-ne0 c = first_is _ _ _ c.before.table_node_number-number.ensures c.if-number-ne0.true
+
+table_k_number-number-requires : tie.Need-table_k_number-number-requires
+table_k_number-number-requires c κs = search rules
+
+returns-then-number-ne0-2 : tie.Need-returns-then-number-ne0-2
+unfolding table_query_number
+returns-then-number-ne0-2 c =
+    first_later _ _ _ _ c.before.before.before.table_node_number-number.ensures c.before.before.if-number-ne0.false
+    (first_is _ _ _ c.before.table_k_number-number.ensures c.if-number-ne0-2.true)
+
+overflow_sub-n : tie.Need-overflow_sub-n
+overflow_sub-n c = omega (arith, (ready c.before.before).accepted.some)
+
+scratch_number-number-requires : tie.Need-scratch_number-number-requires
+scratch_number-number-requires c κs =
+    let r = ready c.before.before in
+    let k = table_k_ready _ _ (sym c.before.table_k_number-number.ensures ∙ c.if-number-ne0-2.false) in
+    (r.accepted.few, r.accepted.few_arcs, omega (arith, k.1, r.most))
+
+returns-then-number-ne0-3 : tie.Need-returns-then-number-ne0-3
+unfolding table_query_number
+returns-then-number-ne0-3 c =
+    first_later _ _ _ _ c.before.before.before.before.before.table_node_number-number.ensures c.before.before.before.before.if-number-ne0.false
+    (first_later _ _ _ _ c.before.before.before.table_k_number-number.ensures c.before.before.if-number-ne0-2.false
+    (first_is _ _ _ c.before.scratch_number-number.ensures c.if-number-ne0-3.true))
+
+short_number-requires : tie.Need-short_number-requires
+short_number-requires c κs = search rules
 
 returns : tie.Need-returns
 unfolding table_query_number
-returns c = first_is _ _ _ c.before.table-node-number.ensures c.if1.true
+returns c =
+    first_later _ _ _ _ c.before.before.before.before.before.before.table_node_number-number.ensures c.before.before.before.before.before.if-number-ne0.false
+    (first_later _ _ _ _ c.before.before.before.before.table_k_number-number.ensures c.before.before.before.if-number-ne0-2.false
+    (first_later _ _ _ _ c.before.before.scratch_number-number.ensures c.before.if-number-ne0-3.false
+    (first_last _ _ c.short_number.ensures)))
 
-table-k-number-requires : tie.Need-table-k-number-requires
-table-k-number-requires c κs = search rules
-
-returns-2 : tie.Need-returns-2
-unfolding table_query_number
-returns-2 c =
-    first_later _ _ _ _ c.before.before.before.table-node-number.ensures c.before.before.if1.false
-    (first_is _ _ _ c.before.table-k-number.ensures c.if2.true)
-
-sub-n : tie.Need-overflow-sub-n
-sub-n c = omega (arith, (ready c.before.before).accepted.some)
-
-scratch-number-requires : tie.Need-scratch-number-requires
-scratch-number-requires c κs =
-    let r = ready c.before.before in
-    let k = table_k_ready _ _ (sym c.before.table-k-number.ensures ∙ c.if2.false) in
-    (r.accepted.few, r.accepted.few_arcs, omega (arith, k.1, r.most))
-
-returns-3 : tie.Need-returns-3
-unfolding table_query_number
-returns-3 c =
-    first_later _ _ _ _ c.before.before.before.before.before.table-node-number.ensures c.before.before.before.before.if1.false
-    (first_later _ _ _ _ c.before.before.before.table-k-number.ensures c.before.before.if2.false
-    (first_is _ _ _ c.before.scratch-number.ensures c.if3.true))
-
-short-number-requires : tie.Need-short-number-requires
-short-number-requires c κs = search rules
-
-returns-4 : tie.Need-returns-4
-unfolding table_query_number
-returns-4 c =
-    first_later _ _ _ _ c.before.before.before.before.before.before.table-node-number.ensures c.before.before.before.before.before.if1.false
-    (first_later _ _ _ _ c.before.before.before.before.table-k-number.ensures c.before.before.before.if2.false
-    (first_later _ _ _ _ c.before.before.scratch-number.ensures c.before.if3.false
-    (first_last _ _ c.short-number.ensures)))
-
-pub table-query-number-spec : {M : Type 1} → statement M
-table-query-number-spec =
+pub table_query_number_spec : {M : Type 1} → statement M
+table_query_number_spec =
     tie.close
     (tie.spec
-    table-node-number-requires
-    returns
-    table-k-number-requires
-    returns-2
-    sub-n
-    scratch-number-requires
-    returns-3
-    short-number-requires
-    returns-4)
+    table_node_number-number-requires
+    returns-then-number-ne0
+    table_k_number-number-requires
+    returns-then-number-ne0-2
+    overflow_sub-n
+    scratch_number-number-requires
+    returns-then-number-ne0-3
+    short_number-requires
+    returns)

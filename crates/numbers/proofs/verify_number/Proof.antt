@@ -14,77 +14,77 @@ use Rattle.numbers.proofs.verify_number.Tie as tie
 abbrev G : tie.Start → Network
 G s = network s.args.starts.now s.args.neighbours.now s.args.weights.now
 
-abbrev start : tie.After-site-number → tie.Start
+abbrev start : tie.After-site_number-number → tie.Start
 start c = c.before.before.before.before.before.before
 
 -- behind the first test the network is accepted
-ready : (c : tie.Else1) → let s = start c.before in Accepted (G s)
-ready c = let n = c.before in let s = start n in (site_ready (G s) s.args.points.now s.args.p (sym n.site-number.ensures ∙ c.if1.false)).0
+ready : (c : tie.Else-number-ne0) → let s = start c.before in Accepted (G s)
+ready c = let n = c.before in let s = start n in (site_ready (G s) s.args.points.now s.args.p (sym n.site_number-number.ensures ∙ c.if-number-ne0.false)).0
 
-site-number-requires : tie.Need-site-number-requires
-site-number-requires c κs = search rules
+site_number-number-requires : tie.Need-site_number-number-requires
+site_number-number-requires c κs = search rules
+
+returns-then-number-ne0 : tie.Need-returns-then-number-ne0
+unfolding verify_number
+returns-then-number-ne0 c = first_is _ _ _ c.before.site_number-number.ensures c.if-number-ne0.true
+
+overflow_sub-n : tie.Need-overflow_sub-n
+overflow_sub-n c = omega (arith, (ready c).some)
+
+node_number-number-requires : tie.Need-node_number-number-requires
+node_number-number-requires c κs = search rules
+
+returns-then-number-ne0-2 : tie.Need-returns-then-number-ne0-2
+unfolding verify_number
+returns-then-number-ne0-2 c =
+    first_later _ _ _ _ c.before.before.before.site_number-number.ensures c.before.before.if-number-ne0.false
+    (first_is _ _ _ c.before.node_number-number.ensures c.if-number-ne0-2.true)
+
+k_number-number-requires : tie.Need-k_number-number-requires
+k_number-number-requires c κs = search rules
+
+returns-then-number-ne0-3 : tie.Need-returns-then-number-ne0-3
+unfolding verify_number
+returns-then-number-ne0-3 c =
+    first_later _ _ _ _ c.before.before.before.before.before.site_number-number.ensures c.before.before.before.before.if-number-ne0.false
+    (first_later _ _ _ _ c.before.before.before.node_number-number.ensures c.before.before.if-number-ne0-2.false
+    (first_is _ _ _ c.before.k_number-number.ensures c.if-number-ne0-3.true))
+
+eager_scratch_number-number-requires : tie.Need-eager_scratch_number-number-requires
+eager_scratch_number-number-requires c κs = (ready c.before.before.before.before).few
+
+returns-then-number-ne0-4 : tie.Need-returns-then-number-ne0-4
+unfolding verify_number
+returns-then-number-ne0-4 c =
+    first_later _ _ _ _ c.before.before.before.before.before.before.before.site_number-number.ensures c.before.before.before.before.before.before.if-number-ne0.false
+    (first_later _ _ _ _ c.before.before.before.before.before.node_number-number.ensures c.before.before.before.before.if-number-ne0-2.false
+    (first_later _ _ _ _ c.before.before.before.k_number-number.ensures c.before.before.if-number-ne0-3.false
+    (first_is _ _ _ c.before.eager_scratch_number-number.ensures c.if-number-ne0-4.true)))
+
+unmarked_number-requires : tie.Need-unmarked_number-requires
+unmarked_number-requires c κs = search rules
 
 returns : tie.Need-returns
 unfolding verify_number
-returns c = first_is _ _ _ c.before.site-number.ensures c.if1.true
+returns c =
+    first_later _ _ _ _ c.before.before.before.before.before.before.before.before.site_number-number.ensures c.before.before.before.before.before.before.before.if-number-ne0.false
+    (first_later _ _ _ _ c.before.before.before.before.before.before.node_number-number.ensures c.before.before.before.before.before.if-number-ne0-2.false
+    (first_later _ _ _ _ c.before.before.before.before.k_number-number.ensures c.before.before.before.if-number-ne0-3.false
+    (first_later _ _ _ _ c.before.before.eager_scratch_number-number.ensures c.before.if-number-ne0-4.false
+    (first_last _ _ c.unmarked_number.ensures))))
 
-sub-n : tie.Need-overflow-sub-n
-sub-n c = omega (arith, (ready c).some)
-
-node-number-requires : tie.Need-node-number-requires
-node-number-requires c κs = search rules
-
-returns-2 : tie.Need-returns-2
-unfolding verify_number
-returns-2 c =
-    first_later _ _ _ _ c.before.before.before.site-number.ensures c.before.before.if1.false
-    (first_is _ _ _ c.before.node-number.ensures c.if2.true)
-
-k-number-requires : tie.Need-k-number-requires
-k-number-requires c κs = search rules
-
-returns-3 : tie.Need-returns-3
-unfolding verify_number
-returns-3 c =
-    first_later _ _ _ _ c.before.before.before.before.before.site-number.ensures c.before.before.before.before.if1.false
-    (first_later _ _ _ _ c.before.before.before.node-number.ensures c.before.before.if2.false
-    (first_is _ _ _ c.before.k-number.ensures c.if3.true))
-
-eager-scratch-number-requires : tie.Need-eager-scratch-number-requires
-eager-scratch-number-requires c κs = (ready c.before.before.before.before).few
-
-returns-4 : tie.Need-returns-4
-unfolding verify_number
-returns-4 c =
-    first_later _ _ _ _ c.before.before.before.before.before.before.before.site-number.ensures c.before.before.before.before.before.before.if1.false
-    (first_later _ _ _ _ c.before.before.before.before.before.node-number.ensures c.before.before.before.before.if2.false
-    (first_later _ _ _ _ c.before.before.before.k-number.ensures c.before.before.if3.false
-    (first_is _ _ _ c.before.eager-scratch-number.ensures c.if4.true)))
-
-unmarked-number-requires : tie.Need-unmarked-number-requires
-unmarked-number-requires c κs = search rules
-
-returns-5 : tie.Need-returns-5
-unfolding verify_number
-returns-5 c =
-    first_later _ _ _ _ c.before.before.before.before.before.before.before.before.site-number.ensures c.before.before.before.before.before.before.before.if1.false
-    (first_later _ _ _ _ c.before.before.before.before.before.before.node-number.ensures c.before.before.before.before.before.if2.false
-    (first_later _ _ _ _ c.before.before.before.before.k-number.ensures c.before.before.before.if3.false
-    (first_later _ _ _ _ c.before.before.eager-scratch-number.ensures c.before.if4.false
-    (first_last _ _ c.unmarked-number.ensures))))
-
-pub verify-number-spec : {M : Type 1} → statement M
-verify-number-spec =
+pub verify_number_spec : {M : Type 1} → statement M
+verify_number_spec =
     tie.close
     (tie.spec
-    site-number-requires
-    returns
-    sub-n
-    node-number-requires
-    returns-2
-    k-number-requires
-    returns-3
-    eager-scratch-number-requires
-    returns-4
-    unmarked-number-requires
-    returns-5)
+    site_number-number-requires
+    returns-then-number-ne0
+    overflow_sub-n
+    node_number-number-requires
+    returns-then-number-ne0-2
+    k_number-number-requires
+    returns-then-number-ne0-3
+    eager_scratch_number-number-requires
+    returns-then-number-ne0-4
+    unmarked_number-requires
+    returns)

@@ -8,21 +8,21 @@ use Rattle.overlap.proofs.overlap_eager.Tie as tie
 answer-requires : tie.Need-answer-requires
 answer-requires c κs = search rules
 
-listing-of-requires : tie.Need-listing-of-requires
-listing-of-requires c κs = search rules
+listing_of-requires : tie.Need-listing_of-requires
+listing_of-requires c κs = search rules
 
-same_length : tie.Need-same-length
-same_length c = search rules
+shape_of-scratch : tie.Need-shape_of-scratch
+shape_of-scratch c = search rules
 
-same-length-2 : tie.Need-same-length-2
-same-length-2 c = search rules
+shape_of-answers : tie.Need-shape_of-answers
+shape_of-answers c = search rules
 
-same-length-3 : tie.Need-same-length-3
-same-length-3 c = search rules
+shape_of-visits : tie.Need-shape_of-visits
+shape_of-visits c = search rules
 
 returns : tie.Need-returns
-returns c = eager_exported c.listing-of.ensures c.before.before.before.before.before.before.before.answer.ensures
+returns c = eager_exported c.listing_of.ensures c.before.before.before.before.before.before.before.answer.ensures
 
-pub overlap-eager-spec : {M : Type 1} → statement M
-overlap-eager-spec =
-    tie.close (tie.spec answer-requires listing-of-requires same_length same-length-2 same-length-3 returns)
+pub overlap_eager_spec : {M : Type 1} → statement M
+overlap_eager_spec =
+    tie.close (tie.spec answer-requires listing_of-requires shape_of-scratch shape_of-answers shape_of-visits returns)

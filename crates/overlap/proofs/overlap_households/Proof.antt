@@ -8,18 +8,18 @@ use Rattle.overlap.proofs.overlap_households.Tie as tie
 answer-requires : tie.Need-answer-requires
 answer-requires c κs = search rules
 
-listing-of-requires : tie.Need-listing-of-requires
-listing-of-requires c κs = search rules
+listing_of-requires : tie.Need-listing_of-requires
+listing_of-requires c κs = search rules
 
-same_length : tie.Need-same-length
-same_length c = search rules
+shape_of-scratch : tie.Need-shape_of-scratch
+shape_of-scratch c = search rules
 
-same-length-2 : tie.Need-same-length-2
-same-length-2 c = search rules
+shape_of-answers : tie.Need-shape_of-answers
+shape_of-answers c = search rules
 
 returns : tie.Need-returns
-returns c = search_exported c.listing-of.ensures c.before.before.before.before.before.answer.ensures
+returns c = search_exported c.listing_of.ensures c.before.before.before.before.before.answer.ensures
 
-pub overlap-households-spec : {M : Type 1} → statement M
-overlap-households-spec =
-    tie.close (tie.spec answer-requires listing-of-requires same_length same-length-2 returns)
+pub overlap_households_spec : {M : Type 1} → statement M
+overlap_households_spec =
+    tie.close (tie.spec answer-requires listing_of-requires shape_of-scratch shape_of-answers returns)

@@ -7,33 +7,33 @@ use Rattle.overlap.proofs.overlap_insert.Tie as tie
 answer-requires : tie.Need-answer-requires
 answer-requires c κs = search rules
 
-update-of-requires : tie.Need-update-of-requires
-update-of-requires c κs = search rules
+update_of-requires : tie.Need-update_of-requires
+update_of-requires c κs = search rules
 
-same_length : tie.Need-same-length
-same_length c = search rules
+shape_of-points : tie.Need-shape_of-points
+shape_of-points c = search rules
 
-same-length-2 : tie.Need-same-length-2
-same-length-2 c = search rules
+shape_of-scratch : tie.Need-shape_of-scratch
+shape_of-scratch c = search rules
 
-same-length-3 : tie.Need-same-length-3
-same-length-3 c = search rules
+shape_of-ids : tie.Need-shape_of-ids
+shape_of-ids c = search rules
 
-same-length-4 : tie.Need-same-length-4
-same-length-4 c = search rules
+shape_of-distances : tie.Need-shape_of-distances
+shape_of-distances c = search rules
 
 returns : tie.Need-returns
 returns c =
-    record { answer = c.before.before.before.before.before.before.before.before.before.answer.result; values = c.update-of.ensures; left = c.before.before.before.before.before.before.before.before.before.answer.ensures }
+    record { answer = c.before.before.before.before.before.before.before.before.before.answer.result; values = c.update_of.ensures; left = c.before.before.before.before.before.before.before.before.before.answer.ensures }
 
-pub overlap-insert-spec : {M : Type 1} → statement M
-overlap-insert-spec =
+pub overlap_insert_spec : {M : Type 1} → statement M
+overlap_insert_spec =
     tie.close
     (tie.spec
     answer-requires
-    update-of-requires
-    same_length
-    same-length-2
-    same-length-3
-    same-length-4
+    update_of-requires
+    shape_of-points
+    shape_of-scratch
+    shape_of-ids
+    shape_of-distances
     returns)

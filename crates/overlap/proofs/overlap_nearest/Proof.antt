@@ -8,21 +8,21 @@ use Rattle.overlap.proofs.overlap_nearest.Tie as tie
 answer-requires : tie.Need-answer-requires
 answer-requires c κs = search rules
 
-listing-of-requires : tie.Need-listing-of-requires
-listing-of-requires c κs = search rules
+listing_of-requires : tie.Need-listing_of-requires
+listing_of-requires c κs = search rules
 
-same_length : tie.Need-same-length
-same_length c = search rules
+shape_of-scratch : tie.Need-shape_of-scratch
+shape_of-scratch c = search rules
 
-same-length-2 : tie.Need-same-length-2
-same-length-2 c = search rules
+shape_of-ids : tie.Need-shape_of-ids
+shape_of-ids c = search rules
 
-same-length-3 : tie.Need-same-length-3
-same-length-3 c = search rules
+shape_of-distances : tie.Need-shape_of-distances
+shape_of-distances c = search rules
 
 returns : tie.Need-returns
-returns c = nearest_exported c.listing-of.ensures c.before.before.before.before.before.before.before.answer.ensures
+returns c = nearest_exported c.listing_of.ensures c.before.before.before.before.before.before.before.answer.ensures
 
-pub overlap-nearest-spec : {M : Type 1} → statement M
-overlap-nearest-spec =
-    tie.close (tie.spec answer-requires listing-of-requires same_length same-length-2 same-length-3 returns)
+pub overlap_nearest_spec : {M : Type 1} → statement M
+overlap_nearest_spec =
+    tie.close (tie.spec answer-requires listing_of-requires shape_of-scratch shape_of-ids shape_of-distances returns)

@@ -9,16 +9,16 @@ use Rattle.overlap.proofs.overlap_table_check.Tie as tie
 answer-requires : tie.Need-answer-requires
 answer-requires c κs = search rules
 
-verdict-of-requires : tie.Need-verdict-of-requires
-verdict-of-requires c κs = search rules
+verdict_of-requires : tie.Need-verdict_of-requires
+verdict_of-requires c κs = search rules
 
 returns : tie.Need-returns
-returns c = c.verdict-of.ensures ∙ ap rule_verdict c.before.answer.ensures
+returns c = c.verdict_of.ensures ∙ ap rule_verdict c.before.answer.ensures
 
-pub overlap-table-check-spec : {M : Type 1} → statement M
-overlap-table-check-spec =
+pub overlap_table_check_spec : {M : Type 1} → statement M
+overlap_table_check_spec =
     tie.close
     (tie.spec
     answer-requires
-    verdict-of-requires
+    verdict_of-requires
     returns)

@@ -7,25 +7,25 @@ use Rattle.overlap.proofs.overlap_table_query.Tie as tie
 answer-requires : tie.Need-answer-requires
 answer-requires c κs = search rules
 
-listing-of-requires : tie.Need-listing-of-requires
-listing-of-requires c κs = search rules
+listing_of-requires : tie.Need-listing_of-requires
+listing_of-requires c κs = search rules
 
-same_length : tie.Need-same-length
-same_length c = search rules
+shape_of-scratch : tie.Need-shape_of-scratch
+shape_of-scratch c = search rules
 
-same-length-2 : tie.Need-same-length-2
-same-length-2 c = search rules
+shape_of-answers : tie.Need-shape_of-answers
+shape_of-answers c = search rules
 
 returns : tie.Need-returns
 returns c =
-    record { answer = c.before.before.before.before.before.answer.result; values = c.listing-of.ensures; left = c.before.before.before.before.before.answer.ensures }
+    record { answer = c.before.before.before.before.before.answer.result; values = c.listing_of.ensures; left = c.before.before.before.before.before.answer.ensures }
 
-pub overlap-table-query-spec : {M : Type 1} → statement M
-overlap-table-query-spec =
+pub overlap_table_query_spec : {M : Type 1} → statement M
+overlap_table_query_spec =
     tie.close
     (tie.spec
     answer-requires
-    listing-of-requires
-    same_length
-    same-length-2
+    listing_of-requires
+    shape_of-scratch
+    shape_of-answers
     returns)

@@ -10,25 +10,25 @@ use Rattle.overlap.proofs.overlap_verify.Tie as tie
 answer-requires : tie.Need-answer-requires
 answer-requires c κs = search rules
 
-verdict-of-requires : tie.Need-verdict-of-requires
-verdict-of-requires c κs = search rules
+verdict_of-requires : tie.Need-verdict_of-requires
+verdict_of-requires c κs = search rules
 
-same_length : tie.Need-same-length
-same_length c = search rules
+shape_of-scratch : tie.Need-shape_of-scratch
+shape_of-scratch c = search rules
 
 returns : tie.Need-returns
 returns c =
     let e = c.before.before.before.answer.ensures in
     record {
-      answer = c.verdict-of.ensures ∙ ap (λ (o : VerifyOutcome). rule_verdict o.answer) e;
-      scratch_left = ap (λ (o : VerifyOutcome). o.scratch) e;
+      answer = c.verdict_of.ensures ∙ ap (λ (o : VerifyOutcome). rule_verdict o.answer) e;
+      scratch_left = ap (λ (o : VerifyOutcome). o.scratch-1) e;
     }
 
-pub overlap-verify-spec : {M : Type 1} → statement M
-overlap-verify-spec =
+pub overlap_verify_spec : {M : Type 1} → statement M
+overlap_verify_spec =
     tie.close
     (tie.spec
     answer-requires
-    verdict-of-requires
-    same_length
+    verdict_of-requires
+    shape_of-scratch
     returns)

@@ -12,49 +12,49 @@ use borrow.Author.Rules.{rules}
 use Rattle.replay.proofs.asks_more.Statement.{statement}
 use Rattle.replay.proofs.asks_more.Tie as tie
 
-abbrev invariant-loop : tie.invariant-loop
-invariant-loop lengths words j₀ j = (j ≤ length lengths) × (any (asks_more_at words lengths) j ≡ false)
+abbrev invariant-loop-j : tie.invariant-loop-j
+invariant-loop-j lengths words j₀ j = (j ≤ length lengths) × (any (asks_more_at words lengths) j ≡ false)
 
-abbrev decreases-loop : tie.decreases-loop
-decreases-loop lengths words j₀ j = length lengths - j
+abbrev decreases-loop-j : tie.decreases-loop-j
+decreases-loop-j lengths words j₀ j = length lengths - j
 
-loop-holds : tie.Need-loop-init invariant-loop decreases-loop
+loop-holds : tie.Need-loop-j-init invariant-loop-j decreases-loop-j
 loop-holds c = (search rules, any_start _)
 
-mul-length : tie.Need-overflow-mul-length invariant-loop decreases-loop
-mul-length c = search rules
+offset_bounds-lengths-j : tie.Need-offset_bounds-lengths-j invariant-loop-j decreases-loop-j
+offset_bounds-lengths-j c = search rules
 
-shared-slice-read-length : tie.Need-shared-slice-read-length invariant-loop decreases-loop
-shared-slice-read-length c = search rules
+bounds-lengths-j : tie.Need-bounds-lengths-j invariant-loop-j decreases-loop-j
+bounds-lengths-j c = search rules
 
-returns : tie.Need-returns invariant-loop decreases-loop
+returns-then-words-length : tie.Need-returns-then-words-length invariant-loop-j decreases-loop-j
 unfolding asks_more_at
-returns c = found _ _ _ c.before.before.loop-test.true (lt-ltb _ _ c.if1.true)
+returns-then-words-length c = found _ _ _ c.before.before.loop-j-test.true (lt-ltb _ _ c.if-words-length.true)
 
-add-j : tie.Need-overflow-add-j invariant-loop decreases-loop
-add-j c = search rules
+overflow_add-j : tie.Need-overflow_add-j invariant-loop-j decreases-loop-j
+overflow_add-j c = search rules
 
-loop-less : tie.Need-loop-smaller invariant-loop decreases-loop
+loop-less : tie.Need-loop-j-smaller invariant-loop-j decreases-loop-j
 loop-less c = search rules
 
-loop-again : tie.Need-loop-preserved invariant-loop decreases-loop
+loop-again : tie.Need-loop-j-preserved invariant-loop-j decreases-loop-j
 unfolding asks_more_at
-loop-again c = (search rules, any_more _ _ c.before.before.before.loop.invariant.1 (le-ltb _ _ c.if1.false))
+loop-again c = (search rules, any_more _ _ c.before.before.before.loop-j.invariant.1 (le-ltb _ _ c.if-words-length.false))
 
-returns-2 : tie.Need-returns-2 invariant-loop decreases-loop
-returns-2 c = not_found _ _ _ c.before.loop.invariant.0 c.loop-test.false c.before.loop.invariant.1
+returns : tie.Need-returns invariant-loop-j decreases-loop-j
+returns c = not_found _ _ _ c.before.loop-j.invariant.0 c.loop-j-test.false c.before.loop-j.invariant.1
 
-pub asks-more-spec : {M : Type 1} → statement M
-asks-more-spec =
+pub asks_more_spec : {M : Type 1} → statement M
+asks_more_spec =
     tie.close
     (tie.spec
-    invariant-loop
-    decreases-loop
+    invariant-loop-j
+    decreases-loop-j
     loop-holds
-    mul-length
-    shared-slice-read-length
-    returns
-    add-j
+    offset_bounds-lengths-j
+    bounds-lengths-j
+    returns-then-words-length
+    overflow_add-j
     loop-less
     loop-again
-    returns-2)
+    returns)

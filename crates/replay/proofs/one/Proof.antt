@@ -5,59 +5,59 @@ use borrow.Author.Rules.{rules}
 use Rattle.replay.proofs.one.Statement.{statement}
 use Rattle.replay.proofs.one.Tie as tie
 
-overlap-insert-requires : tie.Need-overlap-insert-requires
-overlap-insert-requires c κs = search rules
+overlap_insert-requires : tie.Need-overlap_insert-requires
+overlap_insert-requires c κs = search rules
 
-same_length : tie.Need-same-length
-same_length c = search rules
+shape_of-points-then-kind-eq0 : tie.Need-shape_of-points-then-kind-eq0
+shape_of-points-then-kind-eq0 c = search rules
 
-same-length-2 : tie.Need-same-length-2
-same-length-2 c = search rules
+shape_of-scratch-then-kind-eq0 : tie.Need-shape_of-scratch-then-kind-eq0
+shape_of-scratch-then-kind-eq0 c = search rules
 
-same-length-3 : tie.Need-same-length-3
-same-length-3 c = search rules
+shape_of-ids-then-kind-eq0 : tie.Need-shape_of-ids-then-kind-eq0
+shape_of-ids-then-kind-eq0 c = search rules
 
-same-length-4 : tie.Need-same-length-4
-same-length-4 c = search rules
+shape_of-distances-then-kind-eq0 : tie.Need-shape_of-distances-then-kind-eq0
+shape_of-distances-then-kind-eq0 c = search rules
+
+returns-then-kind-eq0 : tie.Need-returns-then-kind-eq0
+returns-then-kind-eq0 c =
+    let r = c.before.before.before.before.before.before.before.before in
+    rw (insert_word _ r.before.before.before.before.before.if-kind-eq0.true) r.overlap_insert.ensures
+
+overlap_remove-requires : tie.Need-overlap_remove-requires
+overlap_remove-requires c κs = search rules
+
+shape_of-points : tie.Need-shape_of-points
+shape_of-points c = search rules
+
+shape_of-scratch : tie.Need-shape_of-scratch
+shape_of-scratch c = search rules
+
+shape_of-ids : tie.Need-shape_of-ids
+shape_of-ids c = search rules
+
+shape_of-distances : tie.Need-shape_of-distances
+shape_of-distances c = search rules
 
 returns : tie.Need-returns
 returns c =
     let r = c.before.before.before.before.before.before.before.before in
-    rw (insert_word _ r.before.before.before.before.before.if1.true) r.overlap-insert.ensures
-
-overlap-remove-requires : tie.Need-overlap-remove-requires
-overlap-remove-requires c κs = search rules
-
-same-length-5 : tie.Need-same-length-5
-same-length-5 c = search rules
-
-same-length-6 : tie.Need-same-length-6
-same-length-6 c = search rules
-
-same-length-7 : tie.Need-same-length-7
-same-length-7 c = search rules
-
-same-length-8 : tie.Need-same-length-8
-same-length-8 c = search rules
-
-returns-2 : tie.Need-returns-2
-returns-2 c =
-    let r = c.before.before.before.before.before.before.before.before in
-    rw (remove_word _ r.before.before.before.before.before.if1.false) r.overlap-remove.ensures
+    rw (remove_word _ r.before.before.before.before.before.if-kind-eq0.false) r.overlap_remove.ensures
 
 pub one_spec : {M : Type 1} → statement M
 one_spec =
     tie.close
     (tie.spec
-    overlap-insert-requires
-    same_length
-    same-length-2
-    same-length-3
-    same-length-4
-    returns
-    overlap-remove-requires
-    same-length-5
-    same-length-6
-    same-length-7
-    same-length-8
-    returns-2)
+    overlap_insert-requires
+    shape_of-points-then-kind-eq0
+    shape_of-scratch-then-kind-eq0
+    shape_of-ids-then-kind-eq0
+    shape_of-distances-then-kind-eq0
+    returns-then-kind-eq0
+    overlap_remove-requires
+    shape_of-points
+    shape_of-scratch
+    shape_of-ids
+    shape_of-distances
+    returns)

@@ -24,62 +24,62 @@ abbrev start_of : tie.After-unfit → tie.Start
 start_of u = u.before.before.before.before.before.before.before.before.before.before.before.before.before.before.before.before.before
 
 -- behind the first test; and what build left
-abbrev fit_of : tie.After-overlap-build → tie.Else1
+abbrev fit_of : tie.After-overlap_build-number → tie.Else-unfit
 fit_of o = o.before.before.before.before.before
 
-fits : (e : tie.Else1) → unfit_of (list_of (start_of e.before)) (old_of (start_of e.before)) ≡ false
-fits e = sym e.before.unfit.ensures ∙ e.if1.false
+fits : (e : tie.Else-unfit) → unfit_of (list_of (start_of e.before)) (old_of (start_of e.before)) ≡ false
+fits e = sym e.before.unfit.ensures ∙ e.if-unfit.false
 
-abbrev left_by : tie.After-overlap-build → BuildOutcome
+abbrev left_by : tie.After-overlap_build-number → BuildOutcome
 left_by o =
-    let m = o.overlap-build.new in
-    record { number = o.overlap-build.result; scratch = m.1.1.1.1.1.0; ids = m.1.1.1.1.1.1.0; distances = m.1.1.1.1.1.1.1.0 }
+    let m = o.overlap_build-number.new in
+    record { number = o.overlap_build-number.result; scratch = m.1.1.1.1.1.0; ids = m.1.1.1.1.1.1.0; distances = m.1.1.1.1.1.1.1.0 }
 
 unfit-requires : tie.Need-unfit-requires
 unfit-requires c κs = search rules
 
-same_length : tie.Need-same-length
-same_length c = search rules
+shape_of-scratch-then-unfit : tie.Need-shape_of-scratch-then-unfit
+shape_of-scratch-then-unfit c = search rules
 
-same-length-2 : tie.Need-same-length-2
-same-length-2 c = search rules
+shape_of-numbers-then-unfit : tie.Need-shape_of-numbers-then-unfit
+shape_of-numbers-then-unfit c = search rules
 
-same-length-3 : tie.Need-same-length-3
-same-length-3 c = search rules
+shape_of-counts-then-unfit : tie.Need-shape_of-counts-then-unfit
+shape_of-counts-then-unfit c = search rules
 
-returns : tie.Need-returns
-returns c =
+returns-then-unfit : tie.Need-returns-then-unfit
+returns-then-unfit c =
     let u = c.before in
     let s = start_of u in
-    replay_unfit (G s) s.args.places (list_of s) (old_of s) (sym u.unfit.ensures ∙ c.if1.true)
+    replay_unfit (G s) s.args.places (list_of s) (old_of s) (sym u.unfit.ensures ∙ c.if-unfit.true)
 
-overlap-build-requires : tie.Need-overlap-build-requires
-overlap-build-requires c κs = search rules
+overlap_build-number-requires : tie.Need-overlap_build-number-requires
+overlap_build-number-requires c κs = search rules
 
-same-length-4 : tie.Need-same-length-4
-same-length-4 c = search rules
+shape_of-points-then-number-ne0 : tie.Need-shape_of-points-then-number-ne0
+shape_of-points-then-number-ne0 c = search rules
 
-same-length-5 : tie.Need-same-length-5
-same-length-5 c = search rules
+shape_of-scratch-then-number-ne0 : tie.Need-shape_of-scratch-then-number-ne0
+shape_of-scratch-then-number-ne0 c = search rules
 
-same-length-6 : tie.Need-same-length-6
-same-length-6 c = search rules
+shape_of-ids-then-number-ne0 : tie.Need-shape_of-ids-then-number-ne0
+shape_of-ids-then-number-ne0 c = search rules
 
-same-length-7 : tie.Need-same-length-7
-same-length-7 c = search rules
+shape_of-distances-then-number-ne0 : tie.Need-shape_of-distances-then-number-ne0
+shape_of-distances-then-number-ne0 c = search rules
 
-same-length-8 : tie.Need-same-length-8
-same-length-8 c = search rules
+shape_of-numbers-then-number-ne0 : tie.Need-shape_of-numbers-then-number-ne0
+shape_of-numbers-then-number-ne0 c = search rules
 
-same-length-9 : tie.Need-same-length-9
-same-length-9 c = search rules
+shape_of-counts-then-number-ne0 : tie.Need-shape_of-counts-then-number-ne0
+shape_of-counts-then-number-ne0 c = search rules
 
-returns-2 : tie.Need-returns-2
-returns-2 c =
+returns-then-number-ne0 : tie.Need-returns-then-number-ne0
+returns-then-number-ne0 c =
     let o = c.before.before.before.before.before.before.before in
     let e = fit_of o in
     let s = start_of e.before in
-    replay_refused (G s) s.args.places (list_of s) (old_of s) (fits e) (left_by o) o.overlap-build.ensures c.if2.true
+    replay_refused (G s) s.args.places (list_of s) (old_of s) (fits e) (left_by o) o.overlap_build-number.ensures c.if-number-ne0.true
 
 follow-requires : tie.Need-follow-requires
 follow-requires c κs =
@@ -87,57 +87,57 @@ follow-requires c κs =
     let o = f.before.before.before.before.before.before.before in
     let e = fit_of o in
     let s = start_of e.before in
-    replay_fit (G s) s.args.places (list_of s) (old_of s) (fits e) (left_by o) o.overlap-build.ensures f.if2.false
+    replay_fit (G s) s.args.places (list_of s) (old_of s) (fits e) (left_by o) o.overlap_build-number.ensures f.if-number-ne0.false
 
-same-length-10 : tie.Need-same-length-10
-same-length-10 c = search rules
+shape_of-points : tie.Need-shape_of-points
+shape_of-points c = search rules
 
-same-length-11 : tie.Need-same-length-11
-same-length-11 c = search rules
+shape_of-scratch : tie.Need-shape_of-scratch
+shape_of-scratch c = search rules
 
-same-length-12 : tie.Need-same-length-12
-same-length-12 c = search rules
+shape_of-ids : tie.Need-shape_of-ids
+shape_of-ids c = search rules
 
-same-length-13 : tie.Need-same-length-13
-same-length-13 c = search rules
+shape_of-distances : tie.Need-shape_of-distances
+shape_of-distances c = search rules
 
-same-length-14 : tie.Need-same-length-14
-same-length-14 c = search rules
+shape_of-numbers : tie.Need-shape_of-numbers
+shape_of-numbers c = search rules
 
-same-length-15 : tie.Need-same-length-15
-same-length-15 c = search rules
+shape_of-counts : tie.Need-shape_of-counts
+shape_of-counts c = search rules
 
-returns-3 : tie.Need-returns-3
-returns-3 c =
+returns : tie.Need-returns
+returns c =
     let w = c.before.before.before.before.before.before.before.before.before.before.before.before in
     let f = w.before.before.before.before.before.before.before in
     let o = f.before.before.before.before.before.before.before in
     let e = fit_of o in
     let s = start_of e.before in
-    replay_done (G s) s.args.places (list_of s) (old_of s) (fits e) (left_by o) o.overlap-build.ensures f.if2.false _ w.follow.ensures
+    replay_done (G s) s.args.places (list_of s) (old_of s) (fits e) (left_by o) o.overlap_build-number.ensures f.if-number-ne0.false _ w.follow.ensures
 
-pub replay-spec : {M : Type 1} → statement M
-replay-spec =
+pub replay_spec : {M : Type 1} → statement M
+replay_spec =
     tie.close
     (tie.spec
     unfit-requires
-    same_length
-    same-length-2
-    same-length-3
-    returns
-    overlap-build-requires
-    same-length-4
-    same-length-5
-    same-length-6
-    same-length-7
-    same-length-8
-    same-length-9
-    returns-2
+    shape_of-scratch-then-unfit
+    shape_of-numbers-then-unfit
+    shape_of-counts-then-unfit
+    returns-then-unfit
+    overlap_build-number-requires
+    shape_of-points-then-number-ne0
+    shape_of-scratch-then-number-ne0
+    shape_of-ids-then-number-ne0
+    shape_of-distances-then-number-ne0
+    shape_of-numbers-then-number-ne0
+    shape_of-counts-then-number-ne0
+    returns-then-number-ne0
     follow-requires
-    same-length-10
-    same-length-11
-    same-length-12
-    same-length-13
-    same-length-14
-    same-length-15
-    returns-3)
+    shape_of-points
+    shape_of-scratch
+    shape_of-ids
+    shape_of-distances
+    shape_of-numbers
+    shape_of-counts
+    returns)

@@ -6,34 +6,34 @@ use borrow.Author.Rules.{rules}
 use Rattle.replay.proofs.unfit.Statement.{statement}
 use Rattle.replay.proofs.unfit.Tie as tie
 
+returns-then-nodes-calls : tie.Need-returns-then-nodes-calls
+unfolding is_unfit
+returns-then-nodes-calls c = rw (ne_eqb _ _ c.if-nodes-calls.true)
+
+returns-then-each_places-calls : tie.Need-returns-then-each_places-calls
+unfolding is_unfit
+returns-then-each_places-calls c = rw (eq-eqb _ _ c.before.if-nodes-calls.false, ne_eqb _ _ c.if-each_places-calls.true)
+
+returns-then-lengths-calls : tie.Need-returns-then-lengths-calls
+unfolding is_unfit
+returns-then-lengths-calls c = rw (eq-eqb _ _ c.before.before.if-nodes-calls.false, eq-eqb _ _ c.before.if-each_places-calls.false, ne_eqb _ _ c.if-lengths-calls.true)
+
+returns-then-numbers-calls : tie.Need-returns-then-numbers-calls
+unfolding is_unfit
+returns-then-numbers-calls c = rw (eq-eqb _ _ c.before.before.before.if-nodes-calls.false, eq-eqb _ _ c.before.before.if-each_places-calls.false, eq-eqb _ _ c.before.if-lengths-calls.false, ne_eqb _ _ c.if-numbers-calls.true)
+
+returns-then-counts-calls : tie.Need-returns-then-counts-calls
+unfolding is_unfit
+returns-then-counts-calls c = rw (eq-eqb _ _ c.before.before.before.before.if-nodes-calls.false, eq-eqb _ _ c.before.before.before.if-each_places-calls.false, eq-eqb _ _ c.before.before.if-lengths-calls.false, eq-eqb _ _ c.before.if-numbers-calls.false, ne_eqb _ _ c.if-counts-calls.true)
+
+asks_more-requires : tie.Need-asks_more-requires
+asks_more-requires c κs = search rules
+
 returns : tie.Need-returns
 unfolding is_unfit
-returns c = rw (ne_eqb _ _ c.if1.true)
+returns c = rw (eq-eqb _ _ c.before.before.before.before.before.if-nodes-calls.false, eq-eqb _ _ c.before.before.before.before.if-each_places-calls.false, eq-eqb _ _ c.before.before.before.if-lengths-calls.false, eq-eqb _ _ c.before.before.if-numbers-calls.false, eq-eqb _ _ c.before.if-counts-calls.false) c.asks_more.ensures
 
-returns-2 : tie.Need-returns-2
-unfolding is_unfit
-returns-2 c = rw (eq-eqb _ _ c.before.if1.false, ne_eqb _ _ c.if2.true)
-
-returns-3 : tie.Need-returns-3
-unfolding is_unfit
-returns-3 c = rw (eq-eqb _ _ c.before.before.if1.false, eq-eqb _ _ c.before.if2.false, ne_eqb _ _ c.if3.true)
-
-returns-4 : tie.Need-returns-4
-unfolding is_unfit
-returns-4 c = rw (eq-eqb _ _ c.before.before.before.if1.false, eq-eqb _ _ c.before.before.if2.false, eq-eqb _ _ c.before.if3.false, ne_eqb _ _ c.if4.true)
-
-returns-5 : tie.Need-returns-5
-unfolding is_unfit
-returns-5 c = rw (eq-eqb _ _ c.before.before.before.before.if1.false, eq-eqb _ _ c.before.before.before.if2.false, eq-eqb _ _ c.before.before.if3.false, eq-eqb _ _ c.before.if4.false, ne_eqb _ _ c.if5.true)
-
-asks-more-requires : tie.Need-asks-more-requires
-asks-more-requires c κs = search rules
-
-returns-6 : tie.Need-returns-6
-unfolding is_unfit
-returns-6 c = rw (eq-eqb _ _ c.before.before.before.before.before.if1.false, eq-eqb _ _ c.before.before.before.before.if2.false, eq-eqb _ _ c.before.before.before.if3.false, eq-eqb _ _ c.before.before.if4.false, eq-eqb _ _ c.before.if5.false) c.asks-more.ensures
-
-pub unfit-spec : {M : Type 1} → statement M
-unfit-spec =
+pub unfit_spec : {M : Type 1} → statement M
+unfit_spec =
     tie.close
-    (tie.spec returns returns-2 returns-3 returns-4 returns-5 asks-more-requires returns-6)
+    (tie.spec returns-then-nodes-calls returns-then-each_places-calls returns-then-lengths-calls returns-then-numbers-calls returns-then-counts-calls asks_more-requires returns)

@@ -6,71 +6,71 @@ use borrow.Author.Rules.{rules}
 use Rattle.replay_n.proofs.print_calls.Statement.{statement}
 use Rattle.replay_n.proofs.print_calls.Tie as tie
 
-abbrev invariant-loop : tie.invariant-loop
-invariant-loop kinds nodes numbers counts j₀ j = j ≤ length kinds
+abbrev invariant-loop-j : tie.invariant-loop-j
+invariant-loop-j kinds nodes numbers counts j₀ j = j ≤ length kinds
 
-abbrev decreases-loop : tie.decreases-loop
-decreases-loop kinds nodes numbers counts j₀ j = length kinds - j
+abbrev decreases-loop-j : tie.decreases-loop-j
+decreases-loop-j kinds nodes numbers counts j₀ j = length kinds - j
 
-loop-holds : tie.Need-loop-init invariant-loop decreases-loop
+loop-holds : tie.Need-loop-j-init invariant-loop-j decreases-loop-j
 loop-holds c = search rules
 
-mul-print-call : tie.Need-overflow-mul-print-call invariant-loop decreases-loop
-mul-print-call c = search rules
+offset_bounds-kinds-j : tie.Need-offset_bounds-kinds-j invariant-loop-j decreases-loop-j
+offset_bounds-kinds-j c = search rules
 
-shared-slice-read-print-call : tie.Need-shared-slice-read-print-call invariant-loop decreases-loop
-shared-slice-read-print-call c = search rules
+bounds-kinds-j : tie.Need-bounds-kinds-j invariant-loop-j decreases-loop-j
+bounds-kinds-j c = search rules
 
-mul-print-call-2 : tie.Need-overflow-mul-print-call-2 invariant-loop decreases-loop
-mul-print-call-2 c = search rules
+offset_bounds-nodes-j : tie.Need-offset_bounds-nodes-j invariant-loop-j decreases-loop-j
+offset_bounds-nodes-j c = search rules
 
-shared-slice-read-print-call-2 : tie.Need-shared-slice-read-print-call-2 invariant-loop decreases-loop
-shared-slice-read-print-call-2 c = search rules
+bounds-nodes-j : tie.Need-bounds-nodes-j invariant-loop-j decreases-loop-j
+bounds-nodes-j c = search rules
 
-mul-print-call-3 : tie.Need-overflow-mul-print-call-3 invariant-loop decreases-loop
-mul-print-call-3 c = search rules
+offset_bounds-numbers-j : tie.Need-offset_bounds-numbers-j invariant-loop-j decreases-loop-j
+offset_bounds-numbers-j c = search rules
 
-shared-slice-read-print-call-3 : tie.Need-shared-slice-read-print-call-3 invariant-loop decreases-loop
-shared-slice-read-print-call-3 c = search rules
+bounds-numbers-j : tie.Need-bounds-numbers-j invariant-loop-j decreases-loop-j
+bounds-numbers-j c = search rules
 
-mul-print-call-4 : tie.Need-overflow-mul-print-call-4 invariant-loop decreases-loop
-mul-print-call-4 c = search rules
+offset_bounds-counts-j : tie.Need-offset_bounds-counts-j invariant-loop-j decreases-loop-j
+offset_bounds-counts-j c = search rules
 
-shared-slice-read-print-call-4 : tie.Need-shared-slice-read-print-call-4 invariant-loop decreases-loop
-shared-slice-read-print-call-4 c = search rules
+bounds-counts-j : tie.Need-bounds-counts-j invariant-loop-j decreases-loop-j
+bounds-counts-j c = search rules
 
-print-call-requires : tie.Need-print-call-requires invariant-loop decreases-loop
-print-call-requires c κs = search rules
+print_call-requires : tie.Need-print_call-requires invariant-loop-j decreases-loop-j
+print_call-requires c κs = search rules
 
-add-j : tie.Need-overflow-add-j invariant-loop decreases-loop
-add-j c = search rules
+overflow_add-j : tie.Need-overflow_add-j invariant-loop-j decreases-loop-j
+overflow_add-j c = search rules
 
-loop-less : tie.Need-loop-smaller invariant-loop decreases-loop
+loop-less : tie.Need-loop-j-smaller invariant-loop-j decreases-loop-j
 loop-less c = search rules
 
-loop-again : tie.Need-loop-preserved invariant-loop decreases-loop
+loop-again : tie.Need-loop-j-preserved invariant-loop-j decreases-loop-j
 loop-again c = search rules
 
-returns : tie.Need-returns invariant-loop decreases-loop
+returns : tie.Need-returns invariant-loop-j decreases-loop-j
 returns c = search rules
 
-pub print-calls-spec : {M : Type 1} → statement M
-print-calls-spec =
+pub print_calls_spec : {M : Type 1} → statement M
+print_calls_spec =
     tie.close
     (tie.spec
-    invariant-loop
-    decreases-loop
+    invariant-loop-j
+    decreases-loop-j
     loop-holds
-    mul-print-call
-    shared-slice-read-print-call
-    mul-print-call-2
-    shared-slice-read-print-call-2
-    mul-print-call-3
-    shared-slice-read-print-call-3
-    mul-print-call-4
-    shared-slice-read-print-call-4
-    print-call-requires
-    add-j
+    offset_bounds-kinds-j
+    bounds-kinds-j
+    offset_bounds-nodes-j
+    bounds-nodes-j
+    offset_bounds-numbers-j
+    bounds-numbers-j
+    offset_bounds-counts-j
+    bounds-counts-j
+    print_call-requires
+    overflow_add-j
     loop-less
     loop-again
     returns)

@@ -5,111 +5,111 @@ use borrow.Author.Rules.{rules}
 use Rattle.replay_n.proofs.print_rows.Statement.{statement}
 use Rattle.replay_n.proofs.print_rows.Tie as tie
 
-abbrev invariant-loop : tie.invariant-loop
-invariant-loop ids distances i₀ t5 t6 i = i ≤ 6
+abbrev invariant-loop-i : tie.invariant-loop-i
+invariant-loop-i ids distances i₀ t5 t6 i = i ≤ 6
 
-abbrev decreases-loop : tie.decreases-loop
-decreases-loop ids distances i₀ t5 t6 i = 6 - i
+abbrev decreases-loop-i : tie.decreases-loop-i
+decreases-loop-i ids distances i₀ t5 t6 i = 6 - i
 
-loop-holds : tie.Need-loop-init invariant-loop decreases-loop
+loop-holds : tie.Need-loop-i-init invariant-loop-i decreases-loop-i
 loop-holds c = search rules
 
-mul_at : tie.Need-overflow-mul-at invariant-loop decreases-loop
-mul_at c = search rules
+overflow_mul-at : tie.Need-overflow_mul-at invariant-loop-i decreases-loop-i
+overflow_mul-at c = search rules
 
-slice-aggregate-write-all : tie.Need-slice-aggregate-write-all invariant-loop decreases-loop
+slice-aggregate-write-all : tie.Need-slice-aggregate-write-all invariant-loop-i decreases-loop-i
 slice-aggregate-write-all c = search rules
 
-write-all-requires : tie.Need-write-all-requires invariant-loop decreases-loop
-write-all-requires c κs = search rules
+write_all-requires : tie.Need-write_all-requires invariant-loop-i decreases-loop-i
+write_all-requires c κs = search rules
 
-mul-print-number : tie.Need-overflow-mul-print-number invariant-loop decreases-loop
-mul-print-number c = search rules
+offset_bounds-ids-at : tie.Need-offset_bounds-ids-at invariant-loop-i decreases-loop-i
+offset_bounds-ids-at c = search rules
 
-element-copy-out-print-number : tie.Need-element-copy-out-print-number invariant-loop decreases-loop
-element-copy-out-print-number c = search rules
+bounds-ids-at : tie.Need-bounds-ids-at invariant-loop-i decreases-loop-i
+bounds-ids-at c = search rules
 
-print-number-requires : tie.Need-print-number-requires invariant-loop decreases-loop
-print-number-requires c κs = search rules
+print_number-requires : tie.Need-print_number-requires invariant-loop-i decreases-loop-i
+print_number-requires c κs = search rules
 
-mul-print-number-2 : tie.Need-overflow-mul-print-number-2 invariant-loop decreases-loop
-mul-print-number-2 c = search rules
+offset_bounds-distances-at : tie.Need-offset_bounds-distances-at invariant-loop-i decreases-loop-i
+offset_bounds-distances-at c = search rules
 
-element-copy-out-print-number-2 : tie.Need-element-copy-out-print-number-2 invariant-loop decreases-loop
-element-copy-out-print-number-2 c = search rules
+bounds-distances-at : tie.Need-bounds-distances-at invariant-loop-i decreases-loop-i
+bounds-distances-at c = search rules
 
-print-number-requires-2 : tie.Need-print-number-requires-2 invariant-loop decreases-loop
-print-number-requires-2 c κs = search rules
+print_number-requires-in-loop-i : tie.Need-print_number-requires-in-loop-i invariant-loop-i decreases-loop-i
+print_number-requires-in-loop-i c κs = search rules
 
-add-print-number : tie.Need-overflow-add-print-number invariant-loop decreases-loop
-add-print-number c = search rules
+overflow_add-at : tie.Need-overflow_add-at invariant-loop-i decreases-loop-i
+overflow_add-at c = search rules
 
-mul-print-number-3 : tie.Need-overflow-mul-print-number-3 invariant-loop decreases-loop
-mul-print-number-3 c = search rules
+offset_bounds-ids-at-in-loop-i : tie.Need-offset_bounds-ids-at-in-loop-i invariant-loop-i decreases-loop-i
+offset_bounds-ids-at-in-loop-i c = search rules
 
-element-copy-out-print-number-3 : tie.Need-element-copy-out-print-number-3 invariant-loop decreases-loop
-element-copy-out-print-number-3 c = search rules
+bounds-ids-at-in-loop-i : tie.Need-bounds-ids-at-in-loop-i invariant-loop-i decreases-loop-i
+bounds-ids-at-in-loop-i c = search rules
 
-print-number-requires-3 : tie.Need-print-number-requires-3 invariant-loop decreases-loop
-print-number-requires-3 c κs = search rules
+print_number-requires-in-loop-i-2 : tie.Need-print_number-requires-in-loop-i-2 invariant-loop-i decreases-loop-i
+print_number-requires-in-loop-i-2 c κs = search rules
 
-add-print-number-2 : tie.Need-overflow-add-print-number-2 invariant-loop decreases-loop
-add-print-number-2 c = search rules
+overflow_add-at-in-loop-i : tie.Need-overflow_add-at-in-loop-i invariant-loop-i decreases-loop-i
+overflow_add-at-in-loop-i c = search rules
 
-mul-print-number-4 : tie.Need-overflow-mul-print-number-4 invariant-loop decreases-loop
-mul-print-number-4 c = search rules
+offset_bounds-distances-at-in-loop-i : tie.Need-offset_bounds-distances-at-in-loop-i invariant-loop-i decreases-loop-i
+offset_bounds-distances-at-in-loop-i c = search rules
 
-element-copy-out-print-number-4 : tie.Need-element-copy-out-print-number-4 invariant-loop decreases-loop
-element-copy-out-print-number-4 c = search rules
+bounds-distances-at-in-loop-i : tie.Need-bounds-distances-at-in-loop-i invariant-loop-i decreases-loop-i
+bounds-distances-at-in-loop-i c = search rules
 
-print-number-requires-4 : tie.Need-print-number-requires-4 invariant-loop decreases-loop
-print-number-requires-4 c κs = search rules
+print_number-requires-in-loop-i-3 : tie.Need-print_number-requires-in-loop-i-3 invariant-loop-i decreases-loop-i
+print_number-requires-in-loop-i-3 c κs = search rules
 
-slice-aggregate-write-all-2 : tie.Need-slice-aggregate-write-all-2 invariant-loop decreases-loop
+slice-aggregate-write-all-2 : tie.Need-slice-aggregate-write-all-2 invariant-loop-i decreases-loop-i
 slice-aggregate-write-all-2 c = search rules
 
-write-all-requires-2 : tie.Need-write-all-requires-2 invariant-loop decreases-loop
-write-all-requires-2 c κs = search rules
+write_all-requires-in-loop-i : tie.Need-write_all-requires-in-loop-i invariant-loop-i decreases-loop-i
+write_all-requires-in-loop-i c κs = search rules
 
-add-i : tie.Need-overflow-add-i invariant-loop decreases-loop
-add-i c = search rules
+overflow_add-i : tie.Need-overflow_add-i invariant-loop-i decreases-loop-i
+overflow_add-i c = search rules
 
-loop-less : tie.Need-loop-smaller invariant-loop decreases-loop
+loop-less : tie.Need-loop-i-smaller invariant-loop-i decreases-loop-i
 loop-less c = search rules
 
-loop-again : tie.Need-loop-preserved invariant-loop decreases-loop
+loop-again : tie.Need-loop-i-preserved invariant-loop-i decreases-loop-i
 loop-again c = search rules
 
-returns : tie.Need-returns invariant-loop decreases-loop
+returns : tie.Need-returns invariant-loop-i decreases-loop-i
 returns c = search rules
 
-pub print-rows-spec : {M : Type 1} → statement M
-print-rows-spec =
+pub print_rows_spec : {M : Type 1} → statement M
+print_rows_spec =
     tie.close
     (tie.spec
-    invariant-loop
-    decreases-loop
+    invariant-loop-i
+    decreases-loop-i
     loop-holds
-    mul_at
+    overflow_mul-at
     slice-aggregate-write-all
-    write-all-requires
-    mul-print-number
-    element-copy-out-print-number
-    print-number-requires
-    mul-print-number-2
-    element-copy-out-print-number-2
-    print-number-requires-2
-    add-print-number
-    mul-print-number-3
-    element-copy-out-print-number-3
-    print-number-requires-3
-    add-print-number-2
-    mul-print-number-4
-    element-copy-out-print-number-4
-    print-number-requires-4
+    write_all-requires
+    offset_bounds-ids-at
+    bounds-ids-at
+    print_number-requires
+    offset_bounds-distances-at
+    bounds-distances-at
+    print_number-requires-in-loop-i
+    overflow_add-at
+    offset_bounds-ids-at-in-loop-i
+    bounds-ids-at-in-loop-i
+    print_number-requires-in-loop-i-2
+    overflow_add-at-in-loop-i
+    offset_bounds-distances-at-in-loop-i
+    bounds-distances-at-in-loop-i
+    print_number-requires-in-loop-i-3
     slice-aggregate-write-all-2
-    write-all-requires-2
-    add-i
+    write_all-requires-in-loop-i
+    overflow_add-i
     loop-less
     loop-again
     returns)

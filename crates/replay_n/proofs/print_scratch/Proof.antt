@@ -7,67 +7,67 @@ use borrow.Author.Rules.{rules}
 use Rattle.replay_n.proofs.print_scratch.Statement.{statement}
 use Rattle.replay_n.proofs.print_scratch.Tie as tie
 
-abbrev invariant-loop : tie.invariant-loop
-invariant-loop scratch used₀ i₀ t4 t5 used i = (i ≤ 360) × (used ≤ i)
+abbrev invariant-loop-i : tie.invariant-loop-i
+invariant-loop-i scratch used₀ i₀ t4 t5 used i = (i ≤ 360) × (used ≤ i)
 
-abbrev decreases-loop : tie.decreases-loop
-decreases-loop scratch used₀ i₀ t4 t5 used i = 360 - i
+abbrev decreases-loop-i : tie.decreases-loop-i
+decreases-loop-i scratch used₀ i₀ t4 t5 used i = 360 - i
 
-loop-holds : tie.Need-loop-init invariant-loop decreases-loop
+loop-holds : tie.Need-loop-i-init invariant-loop-i decreases-loop-i
 loop-holds c = search rules
 
-mul-if1 : tie.Need-overflow-mul-if1 invariant-loop decreases-loop
-mul-if1 c = search rules
+offset_bounds-scratch-i : tie.Need-offset_bounds-scratch-i invariant-loop-i decreases-loop-i
+offset_bounds-scratch-i c = search rules
 
-element-copy-out-if1 : tie.Need-element-copy-out-if1 invariant-loop decreases-loop
-element-copy-out-if1 c = search rules
+bounds-scratch-i : tie.Need-bounds-scratch-i invariant-loop-i decreases-loop-i
+bounds-scratch-i c = search rules
 
-add-used : tie.Need-overflow-add-used invariant-loop decreases-loop
-add-used c = search rules
+overflow_add-used : tie.Need-overflow_add-used invariant-loop-i decreases-loop-i
+overflow_add-used c = search rules
 
-add-i : tie.Need-overflow-add-i invariant-loop decreases-loop
-add-i c = search rules
+overflow_add-i : tie.Need-overflow_add-i invariant-loop-i decreases-loop-i
+overflow_add-i c = search rules
 
-loop-less : tie.Need-loop-smaller invariant-loop decreases-loop
+loop-less : tie.Need-loop-i-smaller invariant-loop-i decreases-loop-i
 loop-less c = search rules
 
-loop-again : tie.Need-loop-preserved invariant-loop decreases-loop
-loop-again c = ⊎_elim (λ w. (omega arith, omega arith)) (λ w. (omega arith, omega arith)) c.if1.branch
+loop-again : tie.Need-loop-i-preserved invariant-loop-i decreases-loop-i
+loop-again c = ⊎_elim (λ w. (omega arith, omega arith)) (λ w. (omega arith, omega arith)) c.if-scratch-i-ne0.branch
 
-slice-aggregate-write-all : tie.Need-slice-aggregate-write-all invariant-loop decreases-loop
+slice-aggregate-write-all : tie.Need-slice-aggregate-write-all invariant-loop-i decreases-loop-i
 slice-aggregate-write-all c = search rules
 
-write-all-requires : tie.Need-write-all-requires invariant-loop decreases-loop
-write-all-requires c κs = search rules
+write_all-requires : tie.Need-write_all-requires invariant-loop-i decreases-loop-i
+write_all-requires c κs = search rules
 
-print-number-requires : tie.Need-print-number-requires invariant-loop decreases-loop
-print-number-requires c κs = search rules
+print_number-requires : tie.Need-print_number-requires invariant-loop-i decreases-loop-i
+print_number-requires c κs = search rules
 
-slice-aggregate-write-all-2 : tie.Need-slice-aggregate-write-all-2 invariant-loop decreases-loop
+slice-aggregate-write-all-2 : tie.Need-slice-aggregate-write-all-2 invariant-loop-i decreases-loop-i
 slice-aggregate-write-all-2 c = search rules
 
-write-all-requires-2 : tie.Need-write-all-requires-2 invariant-loop decreases-loop
-write-all-requires-2 c κs = search rules
+write_all-requires-2 : tie.Need-write_all-requires-2 invariant-loop-i decreases-loop-i
+write_all-requires-2 c κs = search rules
 
-returns : tie.Need-returns invariant-loop decreases-loop
+returns : tie.Need-returns invariant-loop-i decreases-loop-i
 returns c = search rules
 
-pub print-scratch-spec : {M : Type 1} → statement M
-print-scratch-spec =
+pub print_scratch_spec : {M : Type 1} → statement M
+print_scratch_spec =
     tie.close
     (tie.spec
-    invariant-loop
-    decreases-loop
+    invariant-loop-i
+    decreases-loop-i
     loop-holds
-    mul-if1
-    element-copy-out-if1
-    add-used
-    add-i
+    offset_bounds-scratch-i
+    bounds-scratch-i
+    overflow_add-used
+    overflow_add-i
     loop-less
     loop-again
     slice-aggregate-write-all
-    write-all-requires
-    print-number-requires
+    write_all-requires
+    print_number-requires
     slice-aggregate-write-all-2
-    write-all-requires-2
+    write_all-requires-2
     returns)

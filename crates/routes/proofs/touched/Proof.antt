@@ -10,59 +10,59 @@ use borrow.Author.Rules.{rules}
 use Rattle.routes.proofs.touched.Statement.{statement}
 use Rattle.routes.proofs.touched.Tie as tie
 
-abbrev start_of : tie.After-explore → tie.Start
+abbrev start_of : tie.After-explore-settled → tie.Start
 start_of e = e.before.before.before.before.before.before.before.before.before
 
-abbrev explore-of : tie.After-write-found → tie.After-explore
+abbrev explore-of : tie.After-write_found-size → tie.After-explore-settled
 explore-of w = w.before.before.before.before.before
 
-sub-n : tie.Need-overflow-sub-n
-sub-n c = search rules
+overflow_sub-n : tie.Need-overflow_sub-n
+overflow_sub-n c = search rules
 
-mul-b : tie.Need-overflow-mul-b
-mul-b c = search rules
+overflow_mul-b : tie.Need-overflow_mul-b
+overflow_mul-b c = search rules
 
-explore-requires : tie.Need-explore-requires
-explore-requires c κs = search rules
+explore-settled-requires : tie.Need-explore-settled-requires
+explore-settled-requires c κs = search rules
 
-write-found-requires : tie.Need-write-found-requires
-write-found-requires c κs =
+write_found-size-requires : tie.Need-write_found-size-requires
+write_found-size-requires c κs =
     let e = c.before.before.before.before in
     let p = (start_of e).requires in
-    (omega (arith, e.explore.ensures.size, p.0.size), p.1, p.0.accepted.few)
+    (omega (arith, e.explore-settled.ensures.size, p.0.size), p.1, p.0.accepted.few)
 
 wipe-requires : tie.Need-wipe-requires
 wipe-requires c κs =
-    let e = (explore-of c.before.before.before).explore.ensures in
+    let e = (explore-of c.before.before.before).explore-settled.ensures in
     record { area = e.area; low = omega arith; blank = e.blank }
 
-same_length : tie.Need-same-length
-same_length c = search rules
+shape_of-s : tie.Need-shape_of-s
+shape_of-s c = search rules
 
-same-length-2 : tie.Need-same-length-2
-same-length-2 c = search rules
+shape_of-answers : tie.Need-shape_of-answers
+shape_of-answers c = search rules
 
 returns : tie.Need-returns
 returns c =
     let x = c.before.before in
     let w = x.before.before.before.before in
     let e = explore-of w in
-    let l = touched_list e.explore.ensures in
+    let l = touched_list e.explore-settled.ensures in
     record {
-      sized = w.write-found.ensures.1 ∙ ap length l;
-      answers = w.write-found.ensures.0 ∙ ap (λ a. answered a (start_of e).args.answers.now) l;
-      area = wiped_size e.explore.ensures.size x.wipe.ensures;
+      sized = w.write_found-size.ensures.1 ∙ ap length l;
+      answers = w.write_found-size.ensures.0 ∙ ap (λ a. answered a (start_of e).args.answers.now) l;
+      area = wiped_size e.explore-settled.ensures.size x.wipe.ensures;
     }
 
-pub touched-spec : {M : Type 1} → statement M
-touched-spec =
+pub touched_spec : {M : Type 1} → statement M
+touched_spec =
     tie.close
     (tie.spec
-    sub-n
-    mul-b
-    explore-requires
-    write-found-requires
+    overflow_sub-n
+    overflow_mul-b
+    explore-settled-requires
+    write_found-size-requires
     wipe-requires
-    same_length
-    same-length-2
+    shape_of-s
+    shape_of-answers
     returns)

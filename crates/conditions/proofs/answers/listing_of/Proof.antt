@@ -6,17 +6,17 @@ use borrow.Author.Rules.{rules}
 use Rattle.conditions.proofs.answers.listing_of.Statement.{statement}
 use Rattle.conditions.proofs.answers.listing_of.Tie as tie
 
-enum-known-answer : tie.Need-enum-known-answer
-enum-known-answer c = search rules
+enum_known-answer : tie.Need-enum_known-answer
+enum_known-answer c = search rules
 
-enum-known-answer-2 : tie.Need-enum-known-answer-2
-enum-known-answer-2 c = search rules
+enum_known-answer-in-Points-1 : tie.Need-enum_known-answer-in-Points-1
+enum_known-answer-in-Points-1 c = search rules
 
-returns : tie.Need-returns
-returns c = ap listed_listing (sym c.before.answer.given.1)
+returns-in-Refused : tie.Need-returns-in-Refused
+returns-in-Refused c = ap listed_listing (sym c.before.answer-1.given.1)
 
-returns-2 : tie.Need-returns-2
-returns-2 c = ap listed_listing (sym c.before.answer2.given.1)
+returns-in-Points : tie.Need-returns-in-Points
+returns-in-Points c = ap listed_listing (sym c.before.answer-in-Points-1.given.1)
 
-pub listing-of-spec : {M : Type 1} → statement M
-listing-of-spec = tie.close (tie.spec enum-known-answer enum-known-answer-2 returns returns-2)
+pub listing_of_spec : {M : Type 1} → statement M
+listing_of_spec = tie.close (tie.spec enum_known-answer enum_known-answer-in-Points-1 returns-in-Refused returns-in-Points)

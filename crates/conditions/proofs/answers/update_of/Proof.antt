@@ -6,23 +6,23 @@ use borrow.Author.Rules.{rules}
 use Rattle.conditions.proofs.answers.update_of.Statement.{statement}
 use Rattle.conditions.proofs.answers.update_of.Tie as tie
 
-enum-known-answer : tie.Need-enum-known-answer
-enum-known-answer c = search rules
+enum_known-answer : tie.Need-enum_known-answer
+enum_known-answer c = search rules
 
-enum-known-answer-2 : tie.Need-enum-known-answer-2
-enum-known-answer-2 c = search rules
+enum_known-answer-in-Changed-1 : tie.Need-enum_known-answer-in-Changed-1
+enum_known-answer-in-Changed-1 c = search rules
 
-returns : tie.Need-returns
-returns c = ap updated_update (sym c.before.answer.given.1)
+returns-in-Refused : tie.Need-returns-in-Refused
+returns-in-Refused c = ap updated_update (sym c.before.answer-1.given.1)
 
-returns-2 : tie.Need-returns-2
-returns-2 c = ap updated_update (sym c.before.answer2.given.1)
+returns-in-Changed : tie.Need-returns-in-Changed
+returns-in-Changed c = ap updated_update (sym c.before.answer-in-Changed-1.given.1)
 
-pub update-of-spec : {M : Type 1} → statement M
-update-of-spec =
+pub update_of_spec : {M : Type 1} → statement M
+update_of_spec =
     tie.close
     (tie.spec
-    enum-known-answer
-    enum-known-answer-2
-    returns
-    returns-2)
+    enum_known-answer
+    enum_known-answer-in-Changed-1
+    returns-in-Refused
+    returns-in-Changed)

@@ -7,27 +7,27 @@ use borrow.Author.Rules.{rules}
 use Rattle.conditions.proofs.answers.verdict_of.Statement.{statement}
 use Rattle.conditions.proofs.answers.verdict_of.Tie as tie
 
-enum-known-rule : tie.Need-enum-known-rule
-enum-known-rule c = search rules
+enum_known-rule : tie.Need-enum_known-rule
+enum_known-rule c = search rules
 
-enum-known-rule-2 : tie.Need-enum-known-rule-2
-enum-known-rule-2 c = search rules
+enum_known-rule-in-Answer-1 : tie.Need-enum_known-rule-in-Answer-1
+enum_known-rule-in-Answer-1 c = search rules
 
-returns : tie.Need-returns
-returns c = ap rule_verdict (sym c.before.rule.given.1)
+returns-in-Refused : tie.Need-returns-in-Refused
+returns-in-Refused c = ap rule_verdict (sym c.before.rule-1.given.1)
 
-returns-2 : tie.Need-returns-2
-returns-2 c = ap (λ h. rule_verdict (Answer h)) (sym c.if1.true) ∙ ap rule_verdict (sym c.before.before.rule2.given.1)
+returns-then-yes : tie.Need-returns-then-yes
+returns-then-yes c = ap (λ h. rule_verdict (Answer h)) (sym c.if-yes.true) ∙ ap rule_verdict (sym c.before.before.rule-in-Answer-1.given.1)
 
-returns-3 : tie.Need-returns-3
-returns-3 c = ap (λ h. rule_verdict (Answer h)) (sym c.if1.false) ∙ ap rule_verdict (sym c.before.before.rule2.given.1)
+returns-else-yes : tie.Need-returns-else-yes
+returns-else-yes c = ap (λ h. rule_verdict (Answer h)) (sym c.if-yes.false) ∙ ap rule_verdict (sym c.before.before.rule-in-Answer-1.given.1)
 
-pub verdict-of-spec : {M : Type 1} → statement M
-verdict-of-spec =
+pub verdict_of_spec : {M : Type 1} → statement M
+verdict_of_spec =
     tie.close
     (tie.spec
-    enum-known-rule
-    enum-known-rule-2
-    returns
-    returns-2
-    returns-3)
+    enum_known-rule
+    enum_known-rule-in-Answer-1
+    returns-in-Refused
+    returns-then-yes
+    returns-else-yes)

@@ -5,31 +5,31 @@ use Prim.Native.Nat.{◌-◌}
 use Rattle.example.proofs.lease.show_leases.Statement.{statement}
 use Rattle.example.proofs.lease.show_leases.Tie as tie
 
-abbrev invariant-loop : tie.invariant-loop
-invariant-loop k ids distances q₀ q = Unit {0}
+abbrev invariant-loop-q : tie.invariant-loop-q
+invariant-loop-q k ids distances q₀ q = Unit {0}
 
-abbrev decreases-loop : tie.decreases-loop
-decreases-loop k ids distances q₀ q = 6 - q
+abbrev decreases-loop-q : tie.decreases-loop-q
+decreases-loop-q k ids distances q₀ q = 6 - q
 
-loop-holds : tie.Need-loop-init invariant-loop decreases-loop
+loop-holds : tie.Need-loop-q-init invariant-loop-q decreases-loop-q
 loop-holds c = search rules
 
-show-lease-requires : tie.Need-show-lease-requires invariant-loop decreases-loop
-show-lease-requires c κs = search rules
+show_lease-requires : tie.Need-show_lease-requires invariant-loop-q decreases-loop-q
+show_lease-requires c κs = search rules
 
-add-q : tie.Need-overflow-add-q invariant-loop decreases-loop
-add-q c = search rules
+overflow_add-q : tie.Need-overflow_add-q invariant-loop-q decreases-loop-q
+overflow_add-q c = search rules
 
-loop-less : tie.Need-loop-smaller invariant-loop decreases-loop
+loop-less : tie.Need-loop-q-smaller invariant-loop-q decreases-loop-q
 loop-less c = search rules
 
-loop-again : tie.Need-loop-preserved invariant-loop decreases-loop
+loop-again : tie.Need-loop-q-preserved invariant-loop-q decreases-loop-q
 loop-again c = search rules
 
-returns : tie.Need-returns invariant-loop decreases-loop
+returns : tie.Need-returns invariant-loop-q decreases-loop-q
 returns c = search rules
 
-pub show-leases-spec : {M : Type 1} → statement M
-show-leases-spec =
+pub show_leases_spec : {M : Type 1} → statement M
+show_leases_spec =
     tie.close
-    (tie.spec invariant-loop decreases-loop loop-holds show-lease-requires add-q loop-less loop-again returns)
+    (tie.spec invariant-loop-q decreases-loop-q loop-holds show_lease-requires overflow_add-q loop-less loop-again returns)

@@ -5,63 +5,63 @@ use Prim.Native.Nat.{◌-◌}
 use Rattle.example.proofs.queries.put_nearest.Statement.{statement}
 use Rattle.example.proofs.queries.put_nearest.Tie as tie
 
-abbrev invariant-loop : tie.invariant-loop
-invariant-loop ids distances count i₀ i = Unit {0}
+abbrev invariant-loop-i : tie.invariant-loop-i
+invariant-loop-i ids distances count i₀ i = Unit {0}
 
-abbrev decreases-loop : tie.decreases-loop
-decreases-loop ids distances count i₀ i = count - i
+abbrev decreases-loop-i : tie.decreases-loop-i
+decreases-loop-i ids distances count i₀ i = count - i
 
-put-refusal-requires : tie.Need-put-refusal-requires invariant-loop decreases-loop
-put-refusal-requires c κs = search rules
+put_refusal-requires : tie.Need-put_refusal-requires invariant-loop-i decreases-loop-i
+put_refusal-requires c κs = search rules
 
-slice-aggregate-put : tie.Need-slice-aggregate-put invariant-loop decreases-loop
+slice-aggregate-put : tie.Need-slice-aggregate-put invariant-loop-i decreases-loop-i
 slice-aggregate-put c = search rules
 
-put-requires : tie.Need-put-requires invariant-loop decreases-loop
+put-requires : tie.Need-put-requires invariant-loop-i decreases-loop-i
 put-requires c κs = search rules
 
-slice-aggregate-put-2 : tie.Need-slice-aggregate-put-2 invariant-loop decreases-loop
+slice-aggregate-put-2 : tie.Need-slice-aggregate-put-2 invariant-loop-i decreases-loop-i
 slice-aggregate-put-2 c = search rules
 
-put-requires-2 : tie.Need-put-requires-2 invariant-loop decreases-loop
-put-requires-2 c κs = search rules
+put-requires-else-listing-eq0 : tie.Need-put-requires-else-listing-eq0 invariant-loop-i decreases-loop-i
+put-requires-else-listing-eq0 c κs = search rules
 
-loop-holds : tie.Need-loop-init invariant-loop decreases-loop
+loop-holds : tie.Need-loop-i-init invariant-loop-i decreases-loop-i
 loop-holds c = search rules
 
-put-found-requires : tie.Need-put-found-requires invariant-loop decreases-loop
-put-found-requires c κs = search rules
+put_found-requires : tie.Need-put_found-requires invariant-loop-i decreases-loop-i
+put_found-requires c κs = search rules
 
-add-i : tie.Need-overflow-add-i invariant-loop decreases-loop
-add-i c = search rules
+overflow_add-i : tie.Need-overflow_add-i invariant-loop-i decreases-loop-i
+overflow_add-i c = search rules
 
-loop-less : tie.Need-loop-smaller invariant-loop decreases-loop
+loop-less : tie.Need-loop-i-smaller invariant-loop-i decreases-loop-i
 loop-less c = search rules
 
-loop-again : tie.Need-loop-preserved invariant-loop decreases-loop
+loop-again : tie.Need-loop-i-preserved invariant-loop-i decreases-loop-i
 loop-again c = search rules
 
-returns : tie.Need-returns invariant-loop decreases-loop
-returns c = search rules
+returns-else-i-lt3 : tie.Need-returns-else-i-lt3 invariant-loop-i decreases-loop-i
+returns-else-i-lt3 c = search rules
 
-returns-2 : tie.Need-returns-2 invariant-loop decreases-loop
-returns-2 c = search rules
+returns-after-loop-i : tie.Need-returns-after-loop-i invariant-loop-i decreases-loop-i
+returns-after-loop-i c = search rules
 
-pub put-nearest-spec : {M : Type 1} → statement M
-put-nearest-spec =
+pub put_nearest_spec : {M : Type 1} → statement M
+put_nearest_spec =
     tie.close
     (tie.spec
-    invariant-loop
-    decreases-loop
-    put-refusal-requires
+    invariant-loop-i
+    decreases-loop-i
+    put_refusal-requires
     slice-aggregate-put
     put-requires
     slice-aggregate-put-2
-    put-requires-2
+    put-requires-else-listing-eq0
     loop-holds
-    put-found-requires
-    add-i
+    put_found-requires
+    overflow_add-i
     loop-less
     loop-again
-    returns
-    returns-2)
+    returns-else-i-lt3
+    returns-after-loop-i)

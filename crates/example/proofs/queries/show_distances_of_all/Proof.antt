@@ -5,39 +5,39 @@ use Prim.Native.Nat.{◌-◌}
 use Rattle.example.proofs.queries.show_distances_of_all.Statement.{statement}
 use Rattle.example.proofs.queries.show_distances_of_all.Tie as tie
 
-abbrev invariant-loop : tie.invariant-loop
-invariant-loop node₀ node = Unit {0}
+abbrev invariant-loop-node : tie.invariant-loop-node
+invariant-loop-node node₀ node = Unit {0}
 
-abbrev decreases-loop : tie.decreases-loop
-decreases-loop node₀ node = 6 - node
+abbrev decreases-loop-node : tie.decreases-loop-node
+decreases-loop-node node₀ node = 6 - node
 
-loop-holds : tie.Need-loop-init invariant-loop decreases-loop
+loop-holds : tie.Need-loop-node-init invariant-loop-node decreases-loop-node
 loop-holds c = search rules
 
-show-distances-from-requires : tie.Need-show-distances-from-requires invariant-loop decreases-loop
-show-distances-from-requires c κs = search rules
+show_distances_from-requires : tie.Need-show_distances_from-requires invariant-loop-node decreases-loop-node
+show_distances_from-requires c κs = search rules
 
-add-node : tie.Need-overflow-add-node invariant-loop decreases-loop
-add-node c = search rules
+overflow_add-node : tie.Need-overflow_add-node invariant-loop-node decreases-loop-node
+overflow_add-node c = search rules
 
-loop-less : tie.Need-loop-smaller invariant-loop decreases-loop
+loop-less : tie.Need-loop-node-smaller invariant-loop-node decreases-loop-node
 loop-less c = search rules
 
-loop-again : tie.Need-loop-preserved invariant-loop decreases-loop
+loop-again : tie.Need-loop-node-preserved invariant-loop-node decreases-loop-node
 loop-again c = search rules
 
-returns : tie.Need-returns invariant-loop decreases-loop
+returns : tie.Need-returns invariant-loop-node decreases-loop-node
 returns c = search rules
 
-pub show-distances-of-all-spec : {M : Type 1} → statement M
-show-distances-of-all-spec =
+pub show_distances_of_all_spec : {M : Type 1} → statement M
+show_distances_of_all_spec =
     tie.close
     (tie.spec
-    invariant-loop
-    decreases-loop
+    invariant-loop-node
+    decreases-loop-node
     loop-holds
-    show-distances-from-requires
-    add-node
+    show_distances_from-requires
+    overflow_add-node
     loop-less
     loop-again
     returns)

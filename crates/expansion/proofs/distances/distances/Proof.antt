@@ -7,23 +7,23 @@ use borrow.Author.Rules.{rules}
 use Rattle.expansion.proofs.distances.distances.Statement.{statement}
 use Rattle.expansion.proofs.distances.distances.Tie as tie
 
-sub-n : tie.Need-overflow-sub-n
-sub-n c = search rules
+overflow_sub-n : tie.Need-overflow_sub-n
+overflow_sub-n c = search rules
 
-settle-all-requires : tie.Need-settle-all-requires
-settle-all-requires c κs = search rules
+settle_all-settled-requires : tie.Need-settle_all-settled-requires
+settle_all-settled-requires c κs = search rules
 
-write-distances-requires : tie.Need-write-distances-requires
-write-distances-requires c κs = search rules
+write_distances-requires : tie.Need-write_distances-requires
+write_distances-requires c κs = search rules
 
 clear-requires : tie.Need-clear-requires
 clear-requires c κs = search rules
 
-same_length : tie.Need-same-length
-same_length c = search rules
+shape_of-s : tie.Need-shape_of-s
+shape_of-s c = search rules
 
-same-length-2 : tie.Need-same-length-2
-same-length-2 c = search rules
+shape_of-answers : tie.Need-shape_of-answers
+shape_of-answers c = search rules
 
 returns : tie.Need-returns
 returns c =
@@ -31,18 +31,18 @@ returns c =
     let s = w.before.before.before.before.before in
     let old = s.before.before.before.before.before.before.before.args.answers.now in
     record {
-      area = wiped_after s.settle-all.ensures.frame c.before.before.clear.ensures;
-      answers = w.write-distances.ensures ∙ ap (λ l. answered l old) (settled_distances s.settle-all.ensures);
+      area = wiped_after s.settle_all-settled.ensures.frame c.before.before.clear.ensures;
+      answers = w.write_distances.ensures ∙ ap (λ l. answered l old) (settled_distances s.settle_all-settled.ensures);
     }
 
-pub distances-spec : {M : Type 1} → statement M
-distances-spec =
+pub distances_spec : {M : Type 1} → statement M
+distances_spec =
     tie.close
     (tie.spec
-    sub-n
-    settle-all-requires
-    write-distances-requires
+    overflow_sub-n
+    settle_all-settled-requires
+    write_distances-requires
     clear-requires
-    same_length
-    same-length-2
+    shape_of-s
+    shape_of-answers
     returns)

@@ -10,66 +10,66 @@ use borrow.Author.Rules.{rules}
 use Rattle.expansion.proofs.distances.write_distances.Statement.{statement}
 use Rattle.expansion.proofs.distances.write_distances.Tie as tie
 
-abbrev invariant-loop : tie.invariant-loop
-invariant-loop words answers₀ n v₀ answers v = (v ≤ n) × Stored (λ x. word_distance n (get_or words x 0)) v answers₀ answers
+abbrev invariant-loop-v : tie.invariant-loop-v
+invariant-loop-v words answers₀ n v₀ answers v = (v ≤ n) × Stored (λ x. word_distance n (get_or words x 0)) v answers₀ answers
 
-abbrev decreases-loop : tie.decreases-loop
-decreases-loop words answers₀ n v₀ answers v = n - v
+abbrev decreases-loop-v : tie.decreases-loop-v
+decreases-loop-v words answers₀ n v₀ answers v = n - v
 
-loop-holds : tie.Need-loop-init invariant-loop decreases-loop
+loop-holds : tie.Need-loop-v-init invariant-loop-v decreases-loop-v
 loop-holds c = (omega arith, stored_none _ _)
 
-mul-distance-of : tie.Need-overflow-mul-distance-of invariant-loop decreases-loop
-mul-distance-of c = search rules
+offset_bounds-words-v : tie.Need-offset_bounds-words-v invariant-loop-v decreases-loop-v
+offset_bounds-words-v c = search rules
 
-shared-slice-read-distance-of : tie.Need-shared-slice-read-distance-of invariant-loop decreases-loop
-shared-slice-read-distance-of c = search rules
+bounds-words-v : tie.Need-bounds-words-v invariant-loop-v decreases-loop-v
+bounds-words-v c = search rules
 
-distance-of-requires : tie.Need-distance-of-requires invariant-loop decreases-loop
-distance-of-requires c κs = search rules
+distance_of-distance-requires : tie.Need-distance_of-distance-requires invariant-loop-v decreases-loop-v
+distance_of-distance-requires c κs = search rules
 
-mul-answers : tie.Need-overflow-mul-answers invariant-loop decreases-loop
-mul-answers c = search rules
+offset_bounds-answers-v : tie.Need-offset_bounds-answers-v invariant-loop-v decreases-loop-v
+offset_bounds-answers-v c = search rules
 
-slice-write-answers : tie.Need-slice-write-answers invariant-loop decreases-loop
-slice-write-answers c =
+bounds-answers-v : tie.Need-bounds-answers-v invariant-loop-v decreases-loop-v
+bounds-answers-v c =
     let l = c.before.before.before in
-    omega (arith, l.loop.invariant.1.size)
+    omega (arith, l.loop-v.invariant.1.size)
 
-add-v : tie.Need-overflow-add-v invariant-loop decreases-loop
-add-v c = search rules
+overflow_add-v : tie.Need-overflow_add-v invariant-loop-v decreases-loop-v
+overflow_add-v c = search rules
 
-loop-less : tie.Need-loop-smaller invariant-loop decreases-loop
+loop-less : tie.Need-loop-v-smaller invariant-loop-v decreases-loop-v
 loop-less c = search rules
 
-loop-again : tie.Need-loop-preserved invariant-loop decreases-loop
+loop-again : tie.Need-loop-v-preserved invariant-loop-v decreases-loop-v
 loop-again c =
     let l = c.before.before.before in
-    (omega arith, stored_more c.distance-of.result.value l.loop.invariant.1 (omega arith) c.distance-of.ensures)
+    (omega arith, stored_more c.distance_of-distance.result.value l.loop-v.invariant.1 (omega arith) c.distance_of-distance.ensures)
 
-same_length : tie.Need-same-length invariant-loop decreases-loop
-same_length c = c.before.loop.invariant.1.size
+shape_of-answers : tie.Need-shape_of-answers invariant-loop-v decreases-loop-v
+shape_of-answers c = c.before.loop-v.invariant.1.size
 
-returns : tie.Need-returns invariant-loop decreases-loop
+returns : tie.Need-returns invariant-loop-v decreases-loop-v
 returns c =
-    let l = c.before.loop in
-    let q : l.v ≡ c.before.before.before.before.args.n = omega (arith, l.invariant.0, c.loop-test.false) in
+    let l = c.before.loop-v in
+    let q : l.v ≡ c.before.before.before.before.args.n = omega (arith, l.invariant.0, c.loop-v-test.false) in
     stored_all (rw q at l.invariant.1)
 
-pub write-distances-spec : {M : Type 1} → statement M
-write-distances-spec =
+pub write_distances_spec : {M : Type 1} → statement M
+write_distances_spec =
     tie.close
     (tie.spec
-    invariant-loop
-    decreases-loop
+    invariant-loop-v
+    decreases-loop-v
     loop-holds
-    mul-distance-of
-    shared-slice-read-distance-of
-    distance-of-requires
-    mul-answers
-    slice-write-answers
-    add-v
+    offset_bounds-words-v
+    bounds-words-v
+    distance_of-distance-requires
+    offset_bounds-answers-v
+    bounds-answers-v
+    overflow_add-v
     loop-less
     loop-again
-    same_length
+    shape_of-answers
     returns)

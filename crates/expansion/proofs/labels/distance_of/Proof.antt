@@ -18,39 +18,39 @@ some_word : (n word v : ℕ) → n < word → v ≡ word - n - 1 → v ≡ word_
 unfolding word_distance
 some_word n word v e h = rw (lt-leb word n e) h
 
-wide-requires : tie.Need-wide-requires
-wide-requires c κs = search rules
+wide-all-requires : tie.Need-wide-all-requires
+wide-all-requires c κs = search rules
 
 new-requires : tie.Need-new-requires
 new-requires c κs = search rules
 
-returns : tie.Need-returns
-returns c = no_word _ _ _ (omega (arith, c.before.if1.true, c.before.before.wide.ensures)) c.new.ensures
+returns-then-all-n : tie.Need-returns-then-all-n
+returns-then-all-n c = no_word _ _ _ (omega (arith, c.before.if-all-n.true, c.before.before.wide-all.ensures)) c.new.ensures
 
-sub-new : tie.Need-overflow-sub-new
-sub-new c = search rules
+overflow_sub-word : tie.Need-overflow_sub-word
+overflow_sub-word c = search rules
 
-cast-new : tie.Need-overflow-cast-new
-cast-new c = search rules
+overflow_cast-n : tie.Need-overflow_cast-n
+overflow_cast-n c = search rules
 
-sub-new-2 : tie.Need-overflow-sub-new-2
-sub-new-2 c = search rules
+overflow_sub-word-2 : tie.Need-overflow_sub-word-2
+overflow_sub-word-2 c = search rules
 
 new-requires-2 : tie.Need-new-requires-2
 new-requires-2 c κs = search rules
 
-returns-2 : tie.Need-returns-2
-returns-2 c = some_word _ _ _ (omega arith) (omega (arith, c.new2.ensures))
+returns : tie.Need-returns
+returns c = some_word _ _ _ (omega arith) (omega (arith, c.new-2.ensures))
 
-pub distance-of-spec : {M : Type 1} → statement M
-distance-of-spec =
+pub distance_of_spec : {M : Type 1} → statement M
+distance_of_spec =
     tie.close
     (tie.spec
-    wide-requires
+    wide-all-requires
     new-requires
-    returns
-    sub-new
-    cast-new
-    sub-new-2
+    returns-then-all-n
+    overflow_sub-word
+    overflow_cast-n
+    overflow_sub-word-2
     new-requires-2
-    returns-2)
+    returns)

@@ -11,32 +11,32 @@ use Rattle.expansion.proofs.labels.label_of.Tie as tie
 wide-requires : tie.Need-wide-requires
 wide-requires c κs = search rules
 
-add_at : tie.Need-overflow-add-at
-add_at c = search rules
+overflow_add-at : tie.Need-overflow_add-at
+overflow_add-at c = search rules
 
-mul-distance-of : tie.Need-overflow-mul-distance-of
-mul-distance-of c = search rules
+offset_bounds-s-at : tie.Need-offset_bounds-s-at
+offset_bounds-s-at c = search rules
 
-shared-slice-read-distance-of : tie.Need-shared-slice-read-distance-of
-shared-slice-read-distance-of c = search rules
+bounds-s-at : tie.Need-bounds-s-at
+bounds-s-at c = search rules
 
-distance-of-requires : tie.Need-distance-of-requires
-distance-of-requires c κs = search rules
+distance_of-d-requires : tie.Need-distance_of-d-requires
+distance_of-d-requires c κs = search rules
 
 returns : tie.Need-returns
 returns c =
     let w = c.before.before in
     let s = w.before.before in
-    c.distance-of.ensures
+    c.distance_of-d.ensures
     ∙ ap (λ (i : ℕ). word_distance s.args.n (get_or s.args.s.now (s.args.b + i) 0)) w.wide.ensures
 
-pub label-of-spec : {M : Type 1} → statement M
-label-of-spec =
+pub label_of_spec : {M : Type 1} → statement M
+label_of_spec =
     tie.close
     (tie.spec
     wide-requires
-    add_at
-    mul-distance-of
-    shared-slice-read-distance-of
-    distance-of-requires
+    overflow_add-at
+    offset_bounds-s-at
+    bounds-s-at
+    distance_of-d-requires
     returns)

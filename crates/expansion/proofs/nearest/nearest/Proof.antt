@@ -8,50 +8,50 @@ use borrow.Author.Rules.{rules}
 use Rattle.expansion.proofs.nearest.nearest.Statement.{statement}
 use Rattle.expansion.proofs.nearest.nearest.Tie as tie
 
-abbrev start_of : tie.After-find → tie.Start
+abbrev start_of : tie.After-find-search → tie.Start
 start_of f = f.before.before.before.before.before.before.before
 
-abbrev find-of : tie.After-write-out → tie.After-find
+abbrev find-of : tie.After-write_out → tie.After-find-search
 find-of w = w.before.before.before.before
 
-abbrev write-of : tie.After-clear → tie.After-write-out
+abbrev write-of : tie.After-clear → tie.After-write_out
 write-of k = k.before.before.before.before
 
-sub-n : tie.Need-overflow-sub-n
-sub-n c = search rules
+overflow_sub-n : tie.Need-overflow_sub-n
+overflow_sub-n c = search rules
 
-mul-b : tie.Need-overflow-mul-b
-mul-b c = search rules
+overflow_mul-b : tie.Need-overflow_mul-b
+overflow_mul-b c = search rules
 
-find-requires : tie.Need-find-requires
-find-requires c κs = search rules
+find-search-requires : tie.Need-find-search-requires
+find-search-requires c κs = search rules
 
-write-out-requires : tie.Need-write-out-requires
-write-out-requires c κs =
+write_out-requires : tie.Need-write_out-requires
+write_out-requires c κs =
     let f = c.before.before.before in
-    can_write f.find.ensures (start_of f).requires.points
+    can_write f.find-search.ensures (start_of f).requires.points
 
 clear-requires : tie.Need-clear-requires
 clear-requires c κs =
     let w = c.before.before.before in
     let f = find-of w in
-    area_beside (out_beside f.find.ensures w.write-out.ensures) f.find.ensures.area
+    area_beside (out_beside f.find-search.ensures w.write_out.ensures) f.find-search.ensures.area
 
-slice-relend-prefix-zero : tie.Need-slice-relend-prefix-zero
-slice-relend-prefix-zero c = search rules
+slice_bounds-zero-end : tie.Need-slice_bounds-zero-end
+slice_bounds-zero-end c = search rules
 
-slice-aggregate-zero : tie.Need-slice-aggregate-zero
-slice-aggregate-zero c =
+slice_bounds-zero-end-2 : tie.Need-slice_bounds-zero-end-2
+slice_bounds-zero-end-2 c =
     let k = c.before.before.before in
     let w = write-of k in
     let f = find-of w in
-    sym (first_length f.find.ensures w.write-out.ensures k.clear.ensures refl)
+    sym (first_length f.find-search.ensures w.write_out.ensures k.clear.ensures refl)
 
 zero-requires : tie.Need-zero-requires
 zero-requires c κs = search rules
 
-same_length : tie.Need-same-length
-same_length c = search rules
+shape_of-s : tie.Need-shape_of-s
+shape_of-s c = search rules
 
 returns : tie.Need-returns
 returns c =
@@ -59,19 +59,19 @@ returns c =
     let k = z.before.before.before.before in
     let w = write-of k in
     let f = find-of w in
-    nearest_left f.find.ensures w.write-out.ensures k.clear.ensures z.zero.ensures
+    nearest_left f.find-search.ensures w.write_out.ensures k.clear.ensures z.zero.ensures
 
-pub nearest-spec : {M : Type 1} → statement M
-nearest-spec =
+pub nearest_spec : {M : Type 1} → statement M
+nearest_spec =
     tie.close
     (tie.spec
-    sub-n
-    mul-b
-    find-requires
-    write-out-requires
+    overflow_sub-n
+    overflow_mul-b
+    find-search-requires
+    write_out-requires
     clear-requires
-    slice-relend-prefix-zero
-    slice-aggregate-zero
+    slice_bounds-zero-end
+    slice_bounds-zero-end-2
     zero-requires
-    same_length
+    shape_of-s
     returns)

@@ -6,35 +6,35 @@ use borrow.Author.Rules.{rules}
 use Rattle.expansion.proofs.nearest.note.Statement.{statement}
 use Rattle.expansion.proofs.nearest.note.Tie as tie
 
-lockers-at-requires : tie.Need-lockers-at-requires
-lockers-at-requires c κs = search rules
+lockers_at-all-requires : tie.Need-lockers_at-all-requires
+lockers_at-all-requires c κs = search rules
+
+returns-then-all-eq0 : tie.Need-returns-then-all-eq0
+returns-then-all-eq0 c = record { point = λ h. absurd (omega (arith, c.before.lockers_at-all.ensures.0, c.if-all-eq0.true)); other = λ _. (refl, refl) }
+
+offset_bounds-s-found : tie.Need-offset_bounds-s-found
+offset_bounds-s-found c = search rules
+
+bounds-s-found : tie.Need-bounds-s-found
+bounds-s-found c = search rules
+
+overflow_add-result : tie.Need-overflow_add-result
+overflow_add-result c = search rules
+
+shape_of-s : tie.Need-shape_of-s
+shape_of-s c = search rules
 
 returns : tie.Need-returns
-returns c = record { point = λ h. absurd (omega (arith, c.before.lockers-at.ensures.0, c.if1.true)); other = λ _. (refl, refl) }
+returns c = record { point = λ _. (refl, refl); other = λ e. absurd (c.if-all-eq0.false (omega (arith, c.before.lockers_at-all.ensures.0))) }
 
-mul-s : tie.Need-overflow-mul-s
-mul-s c = search rules
-
-slice-write-s : tie.Need-slice-write-s
-slice-write-s c = search rules
-
-add-result : tie.Need-overflow-add-result
-add-result c = search rules
-
-same_length : tie.Need-same-length
-same_length c = search rules
-
-returns-2 : tie.Need-returns-2
-returns-2 c = record { point = λ _. (refl, refl); other = λ e. absurd (c.if1.false (omega (arith, c.before.lockers-at.ensures.0))) }
-
-pub note-spec : {M : Type 1} → statement M
-note-spec =
+pub note_spec : {M : Type 1} → statement M
+note_spec =
     tie.close
     (tie.spec
-    lockers-at-requires
-    returns
-    mul-s
-    slice-write-s
-    add-result
-    same_length
-    returns-2)
+    lockers_at-all-requires
+    returns-then-all-eq0
+    offset_bounds-s-found
+    bounds-s-found
+    overflow_add-result
+    shape_of-s
+    returns)

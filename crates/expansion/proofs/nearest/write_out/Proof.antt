@@ -13,99 +13,99 @@ use borrow.Author.Rules.{rules}
 use Rattle.expansion.proofs.nearest.write_out.Statement.{statement}
 use Rattle.expansion.proofs.nearest.write_out.Tie as tie
 
-abbrev invariant-loop : tie.invariant-loop
-invariant-loop points s₀ n k found b at₀ i₀ s at i = (i ≤ found) × (at ≡ min k (tallied points s₀ i)) × WrittenOut points s₀ s n k i
+abbrev invariant-loop-i : tie.invariant-loop-i
+invariant-loop-i points s₀ n k found b at₀ i₀ s at i = (i ≤ found) × (at ≡ min k (tallied points s₀ i)) × WrittenOut points s₀ s n k i
 
-abbrev decreases-loop : tie.decreases-loop
-decreases-loop points s₀ n k found b at₀ i₀ s at i = found - i
+abbrev decreases-loop-i : tie.decreases-loop-i
+decreases-loop-i points s₀ n k found b at₀ i₀ s at i = found - i
 
-abbrev start_of : tie.At-loop invariant-loop decreases-loop → tie.Start invariant-loop decreases-loop
+abbrev start_of : tie.At-loop-i invariant-loop-i decreases-loop-i → tie.Start invariant-loop-i decreases-loop-i
 start_of l = l.before.before.before
 
 -- what is read: the next node, and its seat
-node : (l : tie.At-loop invariant-loop decreases-loop) → l.loop.i < (start_of l).args.found → get_or l.loop.s l.loop.i 0 ≡ get_or (start_of l).args.s.now l.loop.i 0
-node l h = out_word (start_of l).requires l.loop.invariant.2 h
+node : (l : tie.At-loop-i invariant-loop-i decreases-loop-i) → l.loop-i.i < (start_of l).args.found → get_or l.loop-i.s-1 l.loop-i.i 0 ≡ get_or (start_of l).args.s.now l.loop-i.i 0
+node l h = out_word (start_of l).requires l.loop-i.invariant.2 h
 
-low : (l : tie.At-loop invariant-loop decreases-loop) → l.loop.i < (start_of l).args.found → get_or l.loop.s l.loop.i 0 < length (start_of l).args.points.now
-low l h = omega (arith, node l h, (start_of l).requires.inside l.loop.i h, (start_of l).requires.points)
+low : (l : tie.At-loop-i invariant-loop-i decreases-loop-i) → l.loop-i.i < (start_of l).args.found → get_or l.loop-i.s-1 l.loop-i.i 0 < length (start_of l).args.points.now
+low l h = omega (arith, node l h, (start_of l).requires.inside l.loop-i.i h, (start_of l).requires.points)
 
-seat : (l : tie.At-loop invariant-loop decreases-loop) → l.loop.i < (start_of l).args.found
-    → get_or l.loop.s (3 * (start_of l).args.k + get_or l.loop.s l.loop.i 0) 0
-    ≡ get_or (start_of l).args.s.now (3 * (start_of l).args.k + get_or (start_of l).args.s.now l.loop.i 0) 0
+seat : (l : tie.At-loop-i invariant-loop-i decreases-loop-i) → l.loop-i.i < (start_of l).args.found
+    → get_or l.loop-i.s-1 (3 * (start_of l).args.k + get_or l.loop-i.s-1 l.loop-i.i 0) 0
+    ≡ get_or (start_of l).args.s.now (3 * (start_of l).args.k + get_or (start_of l).args.s.now l.loop-i.i 0) 0
 seat l h =
-    l.loop.invariant.2.behind (3 * (start_of l).args.k + get_or l.loop.s l.loop.i 0) (omega arith)
+    l.loop-i.invariant.2.behind (3 * (start_of l).args.k + get_or l.loop-i.s-1 l.loop-i.i 0) (omega arith)
     ∙ ap (λ (i : ℕ). get_or (start_of l).args.s.now (3 * (start_of l).args.k + i) 0) (node l h)
 
-mul-b : tie.Need-overflow-mul-b invariant-loop decreases-loop
-mul-b c = search rules
+overflow_mul-b : tie.Need-overflow_mul-b invariant-loop-i decreases-loop-i
+overflow_mul-b c = search rules
 
-loop-holds : tie.Need-loop-init invariant-loop decreases-loop
+loop-holds : tie.Need-loop-i-init invariant-loop-i decreases-loop-i
 loop-holds c =
     let s = c.before.before in
     (omega arith, omega (arith, tallied_none s.args.points.now s.args.s.now), out_none s.args.points.now s.args.s.now s.args.n s.args.k)
 
-mul-v : tie.Need-overflow-mul-v invariant-loop decreases-loop
-mul-v c = search rules
+offset_bounds-s-i : tie.Need-offset_bounds-s-i invariant-loop-i decreases-loop-i
+offset_bounds-s-i c = search rules
 
-slice-read-v : tie.Need-slice-read-v invariant-loop decreases-loop
-slice-read-v c = search rules
+bounds-s-i : tie.Need-bounds-s-i invariant-loop-i decreases-loop-i
+bounds-s-i c = search rules
 
-label-of-requires : tie.Need-label-of-requires invariant-loop decreases-loop
-label-of-requires c κs =
+label_of-label-requires : tie.Need-label_of-label-requires invariant-loop-i decreases-loop-i
+label_of-label-requires c κs =
     let l = c.before.before.before in
-    let h = c.before.before.loop-test.true in
-    omega (arith, low l h, (start_of l).requires.points, (start_of l).requires.room, l.loop.invariant.2.size)
+    let h = c.before.before.loop-i-test.true in
+    omega (arith, low l h, (start_of l).requires.points, (start_of l).requires.room, l.loop-i.invariant.2.size)
 
-repeat-requires : tie.Need-repeat-requires invariant-loop decreases-loop
-repeat-requires c κs =
+repeat-at-requires : tie.Need-repeat-at-requires invariant-loop-i decreases-loop-i
+repeat-at-requires c κs =
     let l = c.before.before.before.before.before in
-    let h = c.before.before.before.before.loop-test.true in (
-      omega (arith, l.loop.invariant.1, (start_of l).requires.early l.loop.i h),
-      omega (arith, (start_of l).requires.room, l.loop.invariant.2.size),
+    let h = c.before.before.before.before.loop-i-test.true in (
+      omega (arith, l.loop-i.invariant.1, (start_of l).requires.early l.loop-i.i h),
+      omega (arith, (start_of l).requires.room, l.loop-i.invariant.2.size),
     )
 
-add-i : tie.Need-overflow-add-i invariant-loop decreases-loop
-add-i c = search rules
+overflow_add-i : tie.Need-overflow_add-i invariant-loop-i decreases-loop-i
+overflow_add-i c = search rules
 
-loop-less : tie.Need-loop-smaller invariant-loop decreases-loop
+loop-less : tie.Need-loop-i-smaller invariant-loop-i decreases-loop-i
 loop-less c = search rules
 
-loop-again : tie.Need-loop-preserved invariant-loop decreases-loop
+loop-again : tie.Need-loop-i-preserved invariant-loop-i decreases-loop-i
 loop-again c =
     let r = c.before.before in
     let a = r.before.before in
     let l = a.before.before.before.before in
-    let h = a.before.before.before.loop-test.true in
-    let p = rw (node l h) at r.repeat.ensures in
-    let d = a.label_of.ensures ∙ ap (λ (w : ℕ). word_distance (start_of l).args.n w) (seat l h) in (
+    let h = a.before.before.before.loop-i-test.true in
+    let p = rw (node l h) at r.repeat-at.ensures in
+    let d = a.label_of-label.ensures ∙ ap (λ (w : ℕ). word_distance (start_of l).args.n w) (seat l h) in (
       omega arith,
-      out_count (start_of l).requires l.loop.invariant.2 h l.loop.invariant.1 d p,
-      out_more (start_of l).requires l.loop.invariant.2 h l.loop.invariant.1 d p,
+      out_count (start_of l).requires l.loop-i.invariant.2 h l.loop-i.invariant.1 d p,
+      out_more (start_of l).requires l.loop-i.invariant.2 h l.loop-i.invariant.1 d p,
     )
 
-same_length : tie.Need-same-length invariant-loop decreases-loop
-same_length c = c.before.loop.invariant.2.size
+shape_of-s : tie.Need-shape_of-s invariant-loop-i decreases-loop-i
+shape_of-s c = c.before.loop-i.invariant.2.size
 
-returns : tie.Need-returns invariant-loop decreases-loop
+returns : tie.Need-returns invariant-loop-i decreases-loop-i
 returns c =
     let l = c.before in
-    let e : l.loop.i ≡ (start_of l).args.found = omega (arith, l.loop.invariant.0, c.loop-test.false) in
-    rw e at l.loop.invariant.2
+    let e : l.loop-i.i ≡ (start_of l).args.found = omega (arith, l.loop-i.invariant.0, c.loop-i-test.false) in
+    rw e at l.loop-i.invariant.2
 
-pub write-out-spec : {M : Type 1} → statement M
-write-out-spec =
+pub write_out_spec : {M : Type 1} → statement M
+write_out_spec =
     tie.close
     (tie.spec
-    invariant-loop
-    decreases-loop
-    mul-b
+    invariant-loop-i
+    decreases-loop-i
+    overflow_mul-b
     loop-holds
-    mul-v
-    slice-read-v
-    label-of-requires
-    repeat-requires
-    add-i
+    offset_bounds-s-i
+    bounds-s-i
+    label_of-label-requires
+    repeat-at-requires
+    overflow_add-i
     loop-less
     loop-again
-    same_length
+    shape_of-s
     returns)

@@ -6,43 +6,43 @@ use borrow.Author.Rules.{rules}
 use Rattle.expansion.proofs.node_queue.key_at.Statement.{statement}
 use Rattle.expansion.proofs.node_queue.key_at.Tie as tie
 
-mul-j : tie.Need-overflow-mul-j
-mul-j c = search rules
+overflow_mul-j : tie.Need-overflow_mul-j
+overflow_mul-j c = search rules
 
-add-j : tie.Need-overflow-add-j
-add-j c = search rules
+overflow_add-j : tie.Need-overflow_add-j
+overflow_add-j c = search rules
 
-add-key-of : tie.Need-overflow-add-key-of
-add-key-of c = search rules
+overflow_add-j-2 : tie.Need-overflow_add-j-2
+overflow_add-j-2 c = search rules
 
-mul-key-of : tie.Need-overflow-mul-key-of
-mul-key-of c = search rules
+offset_bounds-s-j : tie.Need-offset_bounds-s-j
+offset_bounds-s-j c = search rules
 
-shared-slice-read-key-of : tie.Need-shared-slice-read-key-of
-shared-slice-read-key-of c = search rules
+bounds-s-j : tie.Need-bounds-s-j
+bounds-s-j c = search rules
 
-mul-key-of-2 : tie.Need-overflow-mul-key-of-2
-mul-key-of-2 c = search rules
+offset_bounds-s-j-2 : tie.Need-offset_bounds-s-j-2
+offset_bounds-s-j-2 c = search rules
 
-shared-slice-read-key-of-2 : tie.Need-shared-slice-read-key-of-2
-shared-slice-read-key-of-2 c = search rules
+bounds-s-j-2 : tie.Need-bounds-s-j-2
+bounds-s-j-2 c = search rules
 
-key-of-requires : tie.Need-key-of-requires
-key-of-requires c κs = search rules
+key_of-requires : tie.Need-key_of-requires
+key_of-requires c κs = search rules
 
 returns : tie.Need-returns
 returns c = let start = c.before.before.before.before in c.key_of.ensures ∙ key_words start.args.s.now start.args.at start.args.i
 
-pub key-at-spec : {M : Type 1} → statement M
-key-at-spec =
+pub key_at_spec : {M : Type 1} → statement M
+key_at_spec =
     tie.close
     (tie.spec
-    mul-j
-    add-j
-    add-key-of
-    mul-key-of
-    shared-slice-read-key-of
-    mul-key-of-2
-    shared-slice-read-key-of-2
-    key-of-requires
+    overflow_mul-j
+    overflow_add-j
+    overflow_add-j-2
+    offset_bounds-s-j
+    bounds-s-j
+    offset_bounds-s-j-2
+    bounds-s-j-2
+    key_of-requires
     returns)

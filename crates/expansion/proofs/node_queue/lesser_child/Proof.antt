@@ -6,43 +6,43 @@ use borrow.Author.Rules.{rules}
 use Rattle.expansion.proofs.node_queue.lesser_child.Statement.{statement}
 use Rattle.expansion.proofs.node_queue.lesser_child.Tie as tie
 
-mul_left : tie.Need-overflow-mul-left
-mul_left c = search rules
+overflow_mul-left : tie.Need-overflow_mul-left
+overflow_mul-left c = search rules
 
-add_left : tie.Need-overflow-add-left
-add_left c = search rules
+overflow_add-left : tie.Need-overflow_add-left
+overflow_add-left c = search rules
 
-mul_right : tie.Need-overflow-mul-right
-mul_right c = search rules
+overflow_mul-right : tie.Need-overflow_mul-right
+overflow_mul-right c = search rules
 
-add_right : tie.Need-overflow-add-right
-add_right c = search rules
+overflow_add-right : tie.Need-overflow_add-right
+overflow_add-right c = search rules
 
-key-at-requires : tie.Need-key-at-requires
-key-at-requires c κs = search rules
+key_at-a-requires : tie.Need-key_at-a-requires
+key_at-a-requires c κs = search rules
 
-key-at-requires-2 : tie.Need-key-at-requires-2
-key-at-requires-2 c κs = search rules
+key_at-b-requires : tie.Need-key_at-b-requires
+key_at-b-requires c κs = search rules
 
-returns : tie.Need-returns
-returns c = least_child _ _ _ _ (omega arith) (omega arith) (omega arith) (λ h. omega arith) (λ h. omega arith)
+returns-then-b-a : tie.Need-returns-then-b-a
+returns-then-b-a c = least_child _ _ _ _ (omega arith) (omega arith) (omega arith) (λ h. omega arith) (λ h. omega arith)
 
-returns-2 : tie.Need-returns-2
-returns-2 c = least_child _ _ _ _ (omega arith) (omega arith) (omega arith) (λ h. omega arith) (λ h. omega arith)
+returns-else-b-a : tie.Need-returns-else-b-a
+returns-else-b-a c = least_child _ _ _ _ (omega arith) (omega arith) (omega arith) (λ h. omega arith) (λ h. omega arith)
 
-returns-3 : tie.Need-returns-3
-returns-3 c = least_child _ _ _ _ (omega arith) (omega arith) (omega arith) (λ h. omega arith) (λ h. omega arith)
+returns-else-right-len : tie.Need-returns-else-right-len
+returns-else-right-len c = least_child _ _ _ _ (omega arith) (omega arith) (omega arith) (λ h. omega arith) (λ h. omega arith)
 
-pub lesser-child-spec : {M : Type 1} → statement M
-lesser-child-spec =
+pub lesser_child_spec : {M : Type 1} → statement M
+lesser_child_spec =
     tie.close
     (tie.spec
-    mul_left
-    add_left
-    mul_right
-    add_right
-    key-at-requires
-    key-at-requires-2
-    returns
-    returns-2
-    returns-3)
+    overflow_mul-left
+    overflow_add-left
+    overflow_mul-right
+    overflow_add-right
+    key_at-a-requires
+    key_at-b-requires
+    returns-then-b-a
+    returns-else-b-a
+    returns-else-right-len)

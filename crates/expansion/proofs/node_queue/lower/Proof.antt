@@ -5,11 +5,11 @@ use borrow.Author.Rules.{rules}
 use Rattle.expansion.proofs.node_queue.lower.Statement.{statement}
 use Rattle.expansion.proofs.node_queue.lower.Tie as tie
 
-mul_at : tie.Need-overflow-mul-at
-mul_at c = search rules
+overflow_mul-at : tie.Need-overflow_mul-at
+overflow_mul-at c = search rules
 
-add_at : tie.Need-overflow-add-at
-add_at c = search rules
+overflow_add-at : tie.Need-overflow_add-at
+overflow_add-at c = search rules
 
 rise-requires : tie.Need-rise-requires
 rise-requires c κs =
@@ -18,8 +18,8 @@ rise-requires c κs =
     let l = start.requires.1 in
     (lower_can q _ _ l.inside l.node l.less, lower_seats q _ _ l.inside l.node l.less)
 
-same_length : tie.Need-same-length
-same_length c = search rules
+shape_of-s : tie.Need-shape_of-s
+shape_of-s c = search rules
 
 returns : tie.Need-returns
 returns c =
@@ -29,4 +29,4 @@ returns c =
     lowered_node start.requires.0 _ _ l.inside l.node l.less _ at-rise.rise.ensures
 
 pub lower_spec : {M : Type 1} → statement M
-lower_spec = tie.close (tie.spec mul_at add_at rise-requires same_length returns)
+lower_spec = tie.close (tie.spec overflow_mul-at overflow_add-at rise-requires shape_of-s returns)

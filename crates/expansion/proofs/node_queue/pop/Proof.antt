@@ -13,7 +13,7 @@ use Rattle.expansion.proofs.node_queue.pop.Statement.{statement}
 use Rattle.expansion.proofs.node_queue.pop.Tie as tie
 
 -- the node of the first entry
-node : (c : tie.After-node-of) → let start = c.before.before.before.before.before.before.before in c.node_of_lem.result ≡ node_at (drop (queue_base start.args.n start.args.b) start.args.s.now) 0
+node : (c : tie.After-node_of) → let start = c.before.before.before.before.before.before.before in c.node_of_lem.result ≡ node_at (drop (queue_base start.args.n start.args.b) start.args.s.now) 0
 node c =
     let start = c.before.before.before.before.before.before.before in
     first_node start.args.s.now (queue_base start.args.n start.args.b) _ c.node_of_lem.ensures
@@ -21,87 +21,87 @@ node c =
 gone : (c : tie.After-vacate) → let start = c.before.before.before.before.before.before.before.before in Vacated start.args.s.now c.vacate.new.0 start.args.b (queue_base start.args.n start.args.b) (start.args.len - 1) (node_at (drop (queue_base start.args.n start.args.b) start.args.s.now) 0)
 gone c = vacated_same (node c.before) c.vacate.ensures
 
-mul_at : tie.Need-overflow-mul-at
-mul_at c = search rules
+overflow_mul-at : tie.Need-overflow_mul-at
+overflow_mul-at c = search rules
 
-add_at : tie.Need-overflow-add-at
-add_at c = search rules
+overflow_add-at : tie.Need-overflow_add-at
+overflow_add-at c = search rules
 
-mul-tag : tie.Need-overflow-mul-tag
-mul-tag c = search rules
+offset_bounds-s-at : tie.Need-offset_bounds-s-at
+offset_bounds-s-at c = search rules
 
-slice-read-tag : tie.Need-slice-read-tag
-slice-read-tag c = search rules
+bounds-s-at : tie.Need-bounds-s-at
+bounds-s-at c = search rules
 
-add-distance : tie.Need-overflow-add-distance
-add-distance c = search rules
+overflow_add-distance : tie.Need-overflow_add-distance
+overflow_add-distance c = search rules
 
-mul-distance : tie.Need-overflow-mul-distance
-mul-distance c = search rules
+offset_bounds-s-at-2 : tie.Need-offset_bounds-s-at-2
+offset_bounds-s-at-2 c = search rules
 
-slice-read-distance : tie.Need-slice-read-distance
-slice-read-distance c = search rules
+bounds-s-at-2 : tie.Need-bounds-s-at-2
+bounds-s-at-2 c = search rules
 
-sub-last : tie.Need-overflow-sub-last
-sub-last c = search rules
+overflow_sub-last : tie.Need-overflow_sub-last
+overflow_sub-last c = search rules
 
-key-at-requires : tie.Need-key-at-requires
-key-at-requires c κs = search rules
+key_at-key-requires : tie.Need-key_at-key-requires
+key_at-key-requires c κs = search rules
 
-node-of-requires : tie.Need-node-of-requires
-node-of-requires c κs = search rules
+node_of-requires : tie.Need-node_of-requires
+node_of-requires c κs = search rules
 
 vacate-requires : tie.Need-vacate-requires
 vacate-requires c κs =
     let start = c.before.before.before.before.before.before.before in
     (search rules, omega (arith, node c, start.requires.0.inside 0 start.requires.1))
 
-same_length : tie.Need-same-length
-same_length c = search rules
+shape_of-s-then-last-eq0 : tie.Need-shape_of-s-then-last-eq0
+shape_of-s-then-last-eq0 c = search rules
 
-returns : tie.Need-returns
-returns c =
+returns-then-last-eq0 : tie.Need-returns-then-last-eq0
+returns-then-last-eq0 c =
     let at-vacate = c.before.before.before in
     let start = at-vacate.before.before.before.before.before.before.before.before in
     rw (first_words start.args.s.now (queue_base start.args.n start.args.b))
-    (popped_last start.requires.0 start.requires.1 (gone at-vacate) c.if1.true)
+    (popped_last start.requires.0 start.requires.1 (gone at-vacate) c.if-last-eq0.true)
 
 sink-requires : tie.Need-sink-requires
 sink-requires c κs =
     let at-vacate = c.before.before.before.before in
     let start = at-vacate.before.before.before.before.before.before.before.before in
-    rw at-vacate.before.before.before.key-at.ensures
-    (vacated_can start.requires.0 start.requires.1 (gone at-vacate) _ c.before.if1.false, vacated_seats start.requires.0 start.requires.1 (gone at-vacate) c.before.if1.false)
+    rw at-vacate.before.before.before.key_at-key.ensures
+    (vacated_can start.requires.0 start.requires.1 (gone at-vacate) _ c.before.if-last-eq0.false, vacated_seats start.requires.0 start.requires.1 (gone at-vacate) c.before.if-last-eq0.false)
 
-same-length-2 : tie.Need-same-length-2
-same-length-2 c = search rules
+shape_of-s : tie.Need-shape_of-s
+shape_of-s c = search rules
 
-returns-2 : tie.Need-returns-2
-returns-2 c =
+returns : tie.Need-returns
+returns c =
     let at-sink = c.before.before in
     let at-vacate = at-sink.before.before.before.before.before in
     let start = at-vacate.before.before.before.before.before.before.before.before in
     rw (first_words start.args.s.now (queue_base start.args.n start.args.b))
-    (popped_filled start.requires.0 start.requires.1 (gone at-vacate) at-sink.before.before.if1.false _
-    (rw at-vacate.before.before.before.key-at.ensures at at-sink.sink.ensures.0))
+    (popped_filled start.requires.0 start.requires.1 (gone at-vacate) at-sink.before.before.if-last-eq0.false _
+    (rw at-vacate.before.before.before.key_at-key.ensures at at-sink.sink.ensures.0))
 
 pub pop_spec : {M : Type 1} → statement M
 pop_spec =
     tie.close
     (tie.spec
-    mul_at
-    add_at
-    mul-tag
-    slice-read-tag
-    add-distance
-    mul-distance
-    slice-read-distance
-    sub-last
-    key-at-requires
-    node-of-requires
+    overflow_mul-at
+    overflow_add-at
+    offset_bounds-s-at
+    bounds-s-at
+    overflow_add-distance
+    offset_bounds-s-at-2
+    bounds-s-at-2
+    overflow_sub-last
+    key_at-key-requires
+    node_of-requires
     vacate-requires
-    same_length
-    returns
+    shape_of-s-then-last-eq0
+    returns-then-last-eq0
     sink-requires
-    same-length-2
-    returns-2)
+    shape_of-s
+    returns)

@@ -5,33 +5,33 @@ use borrow.Author.Rules.{rules}
 use Rattle.expansion.proofs.node_queue.push.Statement.{statement}
 use Rattle.expansion.proofs.node_queue.push.Tie as tie
 
-mul_at : tie.Need-overflow-mul-at
-mul_at c = search rules
+overflow_mul-at : tie.Need-overflow_mul-at
+overflow_mul-at c = search rules
 
-add_at : tie.Need-overflow-add-at
-add_at c = search rules
+overflow_add-at : tie.Need-overflow_add-at
+overflow_add-at c = search rules
 
-key-of-requires : tie.Need-key-of-requires
-key-of-requires c κs = search rules
+key_of-key-requires : tie.Need-key_of-key-requires
+key_of-key-requires c κs = search rules
 
-add-rise : tie.Need-overflow-add-rise
-add-rise c = search rules
+overflow_add-len : tie.Need-overflow_add-len
+overflow_add-len c = search rules
 
 rise-requires : tie.Need-rise-requires
 rise-requires c κs =
     let start = c.before.before.before in
     let q = start.requires.0 in
-    rw c.before.key_of.ensures (push_can q _ start.requires.1.0 start.requires.1.1, push_seats q _ start.requires.1.0 start.requires.1.1)
+    rw c.before.key_of-key.ensures (push_can q _ start.requires.1.0 start.requires.1.1, push_seats q _ start.requires.1.0 start.requires.1.1)
 
-same_length : tie.Need-same-length
-same_length c = search rules
+shape_of-s : tie.Need-shape_of-s
+shape_of-s c = search rules
 
 returns : tie.Need-returns
 returns c =
     let at-rise = c.before.before in
     let at_key = at-rise.before.before in
     let start = at_key.before.before in
-    pushed_node start.requires.0 _ start.requires.1.0 start.requires.1.1 _ (rw at_key.key_of.ensures at at-rise.rise.ensures)
+    pushed_node start.requires.0 _ start.requires.1.0 start.requires.1.1 _ (rw at_key.key_of-key.ensures at at-rise.rise.ensures)
 
 pub push_spec : {M : Type 1} → statement M
-push_spec = tie.close (tie.spec mul_at add_at key-of-requires add-rise rise-requires same_length returns)
+push_spec = tie.close (tie.spec overflow_mul-at overflow_add-at key_of-key-requires overflow_add-len rise-requires shape_of-s returns)

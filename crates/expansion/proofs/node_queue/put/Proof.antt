@@ -7,56 +7,56 @@ use borrow.Author.Rules.{rules}
 use Rattle.expansion.proofs.node_queue.put.Statement.{statement}
 use Rattle.expansion.proofs.node_queue.put.Tie as tie
 
-mul-j : tie.Need-overflow-mul-j
-mul-j c = search rules
+overflow_mul-j : tie.Need-overflow_mul-j
+overflow_mul-j c = search rules
 
-add-j : tie.Need-overflow-add-j
-add-j c = search rules
+overflow_add-j : tie.Need-overflow_add-j
+overflow_add-j c = search rules
 
-cast-tag : tie.Need-overflow-cast-tag
-cast-tag c = search rules
+overflow_cast-tag : tie.Need-overflow_cast-tag
+overflow_cast-tag c = search rules
 
-cast-distance : tie.Need-overflow-cast-distance
-cast-distance c = search rules
+overflow_cast-distance : tie.Need-overflow_cast-distance
+overflow_cast-distance c = search rules
 
-mul-s : tie.Need-overflow-mul-s
-mul-s c = search rules
+offset_bounds-s-j : tie.Need-offset_bounds-s-j
+offset_bounds-s-j c = search rules
 
-slice-write-s : tie.Need-slice-write-s
-slice-write-s c = search rules
+bounds-s-j : tie.Need-bounds-s-j
+bounds-s-j c = search rules
 
-add-s : tie.Need-overflow-add-s
-add-s c = search rules
+overflow_add-s : tie.Need-overflow_add-s
+overflow_add-s c = search rules
 
-mul-s-2 : tie.Need-overflow-mul-s-2
-mul-s-2 c = search rules
+offset_bounds-s-j-2 : tie.Need-offset_bounds-s-j-2
+offset_bounds-s-j-2 c = search rules
 
-slice-write-s-2 : tie.Need-slice-write-s-2
-slice-write-s-2 c = simp length-set (omega arith)
+bounds-s-j-2 : tie.Need-bounds-s-j-2
+bounds-s-j-2 c = simp length-set (omega arith)
 
-tag-node-requires : tie.Need-tag-node-requires
-tag-node-requires c κs = search rules
+tag_node-requires : tie.Need-tag_node-requires
+tag_node-requires c κs = search rules
 
 wide-requires : tie.Need-wide-requires
 wide-requires c κs = search rules
 
-add-seat : tie.Need-overflow-add-seat
-add-seat c = search rules
+overflow_add-seat : tie.Need-overflow_add-seat
+overflow_add-seat c = search rules
 
-cast-s : tie.Need-overflow-cast-s
-cast-s c = search rules
+overflow_cast-s : tie.Need-overflow_cast-s
+overflow_cast-s c = search rules
 
-add-s-2 : tie.Need-overflow-add-s-2
-add-s-2 c = search rules
+overflow_add-s-2 : tie.Need-overflow_add-s-2
+overflow_add-s-2 c = search rules
 
-mul-s-3 : tie.Need-overflow-mul-s-3
-mul-s-3 c = search rules
+offset_bounds-s-seat : tie.Need-offset_bounds-s-seat
+offset_bounds-s-seat c = search rules
 
-slice-write-s-3 : tie.Need-slice-write-s-3
-slice-write-s-3 c = simp length-set (omega arith)
+bounds-s-seat : tie.Need-bounds-s-seat
+bounds-s-seat c = simp length-set (omega arith)
 
-same_length : tie.Need-same-length
-same_length c = search rules
+shape_of-s : tie.Need-shape_of-s
+shape_of-s c = search rules
 
 returns : tie.Need-returns
 returns c = put_at _ _ _ _ _ _ _ _ _ (omega arith) (omega arith) (omega arith) (omega arith) (omega arith)
@@ -65,21 +65,21 @@ pub put_spec : {M : Type 1} → statement M
 put_spec =
     tie.close
     (tie.spec
-    mul-j
-    add-j
-    cast-tag
-    cast-distance
-    mul-s
-    slice-write-s
-    add-s
-    mul-s-2
-    slice-write-s-2
-    tag-node-requires
+    overflow_mul-j
+    overflow_add-j
+    overflow_cast-tag
+    overflow_cast-distance
+    offset_bounds-s-j
+    bounds-s-j
+    overflow_add-s
+    offset_bounds-s-j-2
+    bounds-s-j-2
+    tag_node-requires
     wide-requires
-    add-seat
-    cast-s
-    add-s-2
-    mul-s-3
-    slice-write-s-3
-    same_length
+    overflow_add-seat
+    overflow_cast-s
+    overflow_add-s-2
+    offset_bounds-s-seat
+    bounds-s-seat
+    shape_of-s
     returns)

@@ -21,48 +21,48 @@ pub record Rising (s₀ s : List ℕ) (b at len start hole key : ℕ) : Type 0 w
   pub seats : Seats s b at len hole key
   pub onward : (zs : List ℕ) → FilledAt s zs b at len hole key → FilledAt s₀ zs b at len start key
 
-abbrev invariant-loop : tie.invariant-loop
-invariant-loop s₀ b at len start key hole₀ s hole = Rising s₀ s b at len start hole key
+abbrev invariant-loop-hole : tie.invariant-loop-hole
+invariant-loop-hole s₀ b at len start key hole₀ s hole = Rising s₀ s b at len start hole key
 
-abbrev decreases-loop : tie.decreases-loop
-decreases-loop s₀ b at len start key hole₀ s hole = hole
+abbrev decreases-loop-hole : tie.decreases-loop-hole
+decreases-loop-hole s₀ b at len start key hole₀ s hole = hole
 
-loop-holds : tie.Need-loop-init invariant-loop decreases-loop
+loop-holds : tie.Need-loop-hole-init invariant-loop-hole decreases-loop-hole
 loop-holds c = record { size = refl; rises = c.before.requires.0; seats = c.before.requires.1; onward = λ zs f. f }
 
-sub-parent : tie.Need-overflow-sub-parent invariant-loop decreases-loop
-sub-parent c = search rules
+overflow_sub-parent : tie.Need-overflow_sub-parent invariant-loop-hole decreases-loop-hole
+overflow_sub-parent c = search rules
 
-key-at-requires : tie.Need-key-at-requires invariant-loop decreases-loop
-key-at-requires c κs = search rules
+key_at-k-requires : tie.Need-key_at-k-requires invariant-loop-hole decreases-loop-hole
+key_at-k-requires c κs = search rules
 
-put-requires : tie.Need-put-requires invariant-loop decreases-loop
-put-requires c κs = let inv = c.before.before.before.before.before.loop.invariant in can_put _ _ _ _ _ _ inv.seats inv.rises.is_hole.inside
+put-requires : tie.Need-put-requires invariant-loop-hole decreases-loop-hole
+put-requires c κs = let inv = c.before.before.before.before.before.loop-hole.invariant in can_put _ _ _ _ _ _ inv.seats inv.rises.is_hole.inside
 
-same_length : tie.Need-same-length invariant-loop decreases-loop
-same_length c = search rules
+shape_of-s-then-k-key : tie.Need-shape_of-s-then-k-key invariant-loop-hole decreases-loop-hole
+shape_of-s-then-k-key c = search rules
 
-returns : tie.Need-returns invariant-loop decreases-loop
-returns c =
+returns-then-k-key : tie.Need-returns-then-k-key invariant-loop-hole decreases-loop-hole
+returns-then-k-key c =
     let at-put = c.before.before in
     let at-if = at-put.before.before in
-    let inv = at-if.before.before.before.before.loop.invariant in
+    let inv = at-if.before.before.before.before.loop-hole.invariant in
     inv.onward _ (filled_at_here _ _ _ _ _ _ _ inv.rises.is_hole inv.seats at-put.put.ensures (λ pos. omega (arith, at-if)) inv.rises.at_most)
 
-shift-requires : tie.Need-shift-requires invariant-loop decreases-loop
+shift-requires : tie.Need-shift-requires invariant-loop-hole decreases-loop-hole
 shift-requires c κs =
-    let inv = c.before.before.before.before.before.loop.invariant in
+    let inv = c.before.before.before.before.before.loop-hole.invariant in
     let inside = inv.rises.is_hole.inside in
     can_shift _ _ _ _ _ _ inv.seats inside _ (omega arith) (omega arith)
 
-loop-less : tie.Need-loop-smaller invariant-loop decreases-loop
+loop-less : tie.Need-loop-hole-smaller invariant-loop-hole decreases-loop-hole
 loop-less c = search rules
 
-loop-again : tie.Need-loop-preserved invariant-loop decreases-loop
+loop-again : tie.Need-loop-hole-preserved invariant-loop-hole decreases-loop-hole
 loop-again c =
     let at-shift = c.before.before in
     let at-if = at-shift.before.before in
-    let inv = at-if.before.before.before.before.loop.invariant in
+    let inv = at-if.before.before.before.before.loop-hole.invariant in
     let p = at-shift.shift.ensures in
     let inside = inv.rises.is_hole.inside in
     record {
@@ -72,34 +72,34 @@ loop-again c =
       onward = λ zs f. inv.onward zs (filled_at_moved _ _ _ _ _ _ _ _ inv.seats inside (omega arith) (omega arith) p zs f);
     }
 
-put-requires-2 : tie.Need-put-requires-2 invariant-loop decreases-loop
-put-requires-2 c κs = let inv = c.before.before.loop.invariant in can_put _ _ _ _ _ _ inv.seats inv.rises.is_hole.inside
+put-requires-2 : tie.Need-put-requires-2 invariant-loop-hole decreases-loop-hole
+put-requires-2 c κs = let inv = c.before.before.loop-hole.invariant in can_put _ _ _ _ _ _ inv.seats inv.rises.is_hole.inside
 
-same-length-2 : tie.Need-same-length-2 invariant-loop decreases-loop
-same-length-2 c = search rules
+shape_of-s : tie.Need-shape_of-s invariant-loop-hole decreases-loop-hole
+shape_of-s c = search rules
 
-returns-2 : tie.Need-returns-2 invariant-loop decreases-loop
-returns-2 c =
+returns : tie.Need-returns invariant-loop-hole decreases-loop-hole
+returns c =
     let at-put = c.before.before in
     let at_end = at-put.before.before in
-    let inv = at_end.before.loop.invariant in
-    inv.onward _ (filled_at_here _ _ _ _ _ _ _ inv.rises.is_hole inv.seats at-put.put2.ensures (λ pos. omega (arith, at_end.loop-test)) inv.rises.at_most)
+    let inv = at_end.before.loop-hole.invariant in
+    inv.onward _ (filled_at_here _ _ _ _ _ _ _ inv.rises.is_hole inv.seats at-put.put-2.ensures (λ pos. omega (arith, at_end.loop-hole-test)) inv.rises.at_most)
 
-pub rise-spec : {M : Type 1} → statement M
-rise-spec =
+pub rise_spec : {M : Type 1} → statement M
+rise_spec =
     tie.close
     (tie.spec
-    invariant-loop
-    decreases-loop
+    invariant-loop-hole
+    decreases-loop-hole
     loop-holds
-    sub-parent
-    key-at-requires
+    overflow_sub-parent
+    key_at-k-requires
     put-requires
-    same_length
-    returns
+    shape_of-s-then-k-key
+    returns-then-k-key
     shift-requires
     loop-less
     loop-again
     put-requires-2
-    same-length-2
-    returns-2)
+    shape_of-s
+    returns)

@@ -8,37 +8,37 @@ use borrow.Author.Rules.{rules}
 use Rattle.expansion.proofs.node_queue.seat_of.Statement.{statement}
 use Rattle.expansion.proofs.node_queue.seat_of.Tie as tie
 
-tag-node-requires : tie.Need-tag-node-requires
-tag-node-requires c κs = search rules
+tag_node-requires : tie.Need-tag_node-requires
+tag_node-requires c κs = search rules
+
+wide-node-requires : tie.Need-wide-node-requires
+wide-node-requires c κs = search rules
+
+overflow_add-b : tie.Need-overflow_add-b
+overflow_add-b c = search rules
+
+offset_bounds-s-b : tie.Need-offset_bounds-s-b
+offset_bounds-s-b c = search rules
+
+bounds-s-b : tie.Need-bounds-s-b
+bounds-s-b c = search rules
 
 wide-requires : tie.Need-wide-requires
 wide-requires c κs = search rules
 
-add_wide : tie.Need-overflow-add-wide
-add_wide c = search rules
-
-mul_wide : tie.Need-overflow-mul-wide
-mul_wide c = search rules
-
-shared-slice-read-wide : tie.Need-shared-slice-read-wide
-shared-slice-read-wide c = search rules
-
-wide-requires-2 : tie.Need-wide-requires-2
-wide-requires-2 c κs = search rules
-
 returns : tie.Need-returns
 returns c =
     let start = c.before.before.before.before.before in
-    c.wide2.ensures ∙ ap (λ (v : ℕ). get_or start.args.s.now (start.args.b + v) 0) (omega arith)
+    c.wide.ensures ∙ ap (λ (v : ℕ). get_or start.args.s.now (start.args.b + v) 0) (omega arith)
 
-pub seat-of-spec : {M : Type 1} → statement M
-seat-of-spec =
+pub seat_of_spec : {M : Type 1} → statement M
+seat_of_spec =
     tie.close
     (tie.spec
-    tag-node-requires
+    tag_node-requires
+    wide-node-requires
+    overflow_add-b
+    offset_bounds-s-b
+    bounds-s-b
     wide-requires
-    add_wide
-    mul_wide
-    shared-slice-read-wide
-    wide-requires-2
     returns)

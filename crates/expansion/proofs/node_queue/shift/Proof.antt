@@ -4,17 +4,17 @@ use borrow.Author.Rules.{rules}
 use Rattle.expansion.proofs.node_queue.shift.Statement.{statement}
 use Rattle.expansion.proofs.node_queue.shift.Tie as tie
 
-key-at-requires : tie.Need-key-at-requires
-key-at-requires c κs = search rules
+key_at-key-requires : tie.Need-key_at-key-requires
+key_at-key-requires c κs = search rules
 
 put-requires : tie.Need-put-requires
-put-requires c κs = rw c.before.key-at.ensures c.before.before.before.before.requires.put
+put-requires c κs = rw c.before.key_at-key.ensures c.before.before.before.before.requires.put
 
-same_length : tie.Need-same-length
-same_length c = search rules
+shape_of-s : tie.Need-shape_of-s
+shape_of-s c = search rules
 
 returns : tie.Need-returns
-returns c = let at-put = c.before.before in rw at-put.before.before.key-at.ensures at at-put.put.ensures
+returns c = let at-put = c.before.before in rw at-put.before.before.key_at-key.ensures at at-put.put.ensures
 
-pub shift-spec : {M : Type 1} → statement M
-shift-spec = tie.close (tie.spec key-at-requires put-requires same_length returns)
+pub shift_spec : {M : Type 1} → statement M
+shift_spec = tie.close (tie.spec key_at-key-requires put-requires shape_of-s returns)

@@ -7,59 +7,59 @@ use borrow.Author.Rules.{rules}
 use Rattle.expansion.proofs.node_queue.vacate.Statement.{statement}
 use Rattle.expansion.proofs.node_queue.vacate.Tie as tie
 
-mul-j : tie.Need-overflow-mul-j
-mul-j c = search rules
+overflow_mul-j : tie.Need-overflow_mul-j
+overflow_mul-j c = search rules
 
-add-j : tie.Need-overflow-add-j
-add-j c = search rules
+overflow_add-j : tie.Need-overflow_add-j
+overflow_add-j c = search rules
 
-mul-s : tie.Need-overflow-mul-s
-mul-s c = search rules
+offset_bounds-s-j : tie.Need-offset_bounds-s-j
+offset_bounds-s-j c = search rules
 
-slice-write-s : tie.Need-slice-write-s
-slice-write-s c = search rules
+bounds-s-j : tie.Need-bounds-s-j
+bounds-s-j c = search rules
 
-add-s : tie.Need-overflow-add-s
-add-s c = search rules
+overflow_add-s : tie.Need-overflow_add-s
+overflow_add-s c = search rules
 
-mul-s-2 : tie.Need-overflow-mul-s-2
-mul-s-2 c = search rules
+offset_bounds-s-j-2 : tie.Need-offset_bounds-s-j-2
+offset_bounds-s-j-2 c = search rules
 
-slice-write-s-2 : tie.Need-slice-write-s-2
-slice-write-s-2 c = simp length-set (omega arith)
+bounds-s-j-2 : tie.Need-bounds-s-j-2
+bounds-s-j-2 c = simp length-set (omega arith)
 
 wide-requires : tie.Need-wide-requires
 wide-requires c κs = search rules
 
-add-seat : tie.Need-overflow-add-seat
-add-seat c = search rules
+overflow_add-seat : tie.Need-overflow_add-seat
+overflow_add-seat c = search rules
 
-mul-s-3 : tie.Need-overflow-mul-s-3
-mul-s-3 c = search rules
+offset_bounds-s-seat : tie.Need-offset_bounds-s-seat
+offset_bounds-s-seat c = search rules
 
-slice-write-s-3 : tie.Need-slice-write-s-3
-slice-write-s-3 c = simp length-set (omega arith)
+bounds-s-seat : tie.Need-bounds-s-seat
+bounds-s-seat c = simp length-set (omega arith)
 
-same_length : tie.Need-same-length
-same_length c = search rules
+shape_of-s : tie.Need-shape_of-s
+shape_of-s c = search rules
 
 returns : tie.Need-returns
 returns c = vacated _ _ _ _ _ _ (omega arith) (omega arith) (omega arith)
 
-pub vacate-spec : {M : Type 1} → statement M
-vacate-spec =
+pub vacate_spec : {M : Type 1} → statement M
+vacate_spec =
     tie.close
     (tie.spec
-    mul-j
-    add-j
-    mul-s
-    slice-write-s
-    add-s
-    mul-s-2
-    slice-write-s-2
+    overflow_mul-j
+    overflow_add-j
+    offset_bounds-s-j
+    bounds-s-j
+    overflow_add-s
+    offset_bounds-s-j-2
+    bounds-s-j-2
     wide-requires
-    add-seat
-    mul-s-3
-    slice-write-s-3
-    same_length
+    overflow_add-seat
+    offset_bounds-s-seat
+    bounds-s-seat
+    shape_of-s
     returns)

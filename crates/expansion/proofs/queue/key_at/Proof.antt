@@ -5,44 +5,44 @@ use Rattle.expansion.specs.Queue.{key_at}
 use Rattle.expansion.proofs.queue.key_at.Statement.{statement}
 use Rattle.expansion.proofs.queue.key_at.Tie as tie
 
-mul-key-of : tie.Need-overflow-mul-key-of
-mul-key-of c = search rules
+overflow_mul-i : tie.Need-overflow_mul-i
+overflow_mul-i c = search rules
 
-add-key-of : tie.Need-overflow-add-key-of
-add-key-of c = search rules
+overflow_add-i : tie.Need-overflow_add-i
+overflow_add-i c = search rules
 
-mul-key-of-2 : tie.Need-overflow-mul-key-of-2
-mul-key-of-2 c = search rules
+offset_bounds-q-i : tie.Need-offset_bounds-q-i
+offset_bounds-q-i c = search rules
 
-shared-slice-read-key-of : tie.Need-shared-slice-read-key-of
-shared-slice-read-key-of c = search rules
+bounds-q-i : tie.Need-bounds-q-i
+bounds-q-i c = search rules
 
-mul-key-of-3 : tie.Need-overflow-mul-key-of-3
-mul-key-of-3 c = search rules
+overflow_mul-i-2 : tie.Need-overflow_mul-i-2
+overflow_mul-i-2 c = search rules
 
-mul-key-of-4 : tie.Need-overflow-mul-key-of-4
-mul-key-of-4 c = search rules
+offset_bounds-q-i-2 : tie.Need-offset_bounds-q-i-2
+offset_bounds-q-i-2 c = search rules
 
-shared-slice-read-key-of-2 : tie.Need-shared-slice-read-key-of-2
-shared-slice-read-key-of-2 c = search rules
+bounds-q-i-2 : tie.Need-bounds-q-i-2
+bounds-q-i-2 c = search rules
 
-key-of-requires : tie.Need-key-of-requires
-key-of-requires c κs = search rules
+key_of-requires : tie.Need-key_of-requires
+key_of-requires c κs = search rules
 
 returns : tie.Need-returns
 unfolding key_at
 returns c = c.key_of.ensures
 
-pub key-at-spec : {M : Type 1} → statement M
-key-at-spec =
+pub key_at_spec : {M : Type 1} → statement M
+key_at_spec =
     tie.close
     (tie.spec
-    mul-key-of
-    add-key-of
-    mul-key-of-2
-    shared-slice-read-key-of
-    mul-key-of-3
-    mul-key-of-4
-    shared-slice-read-key-of-2
-    key-of-requires
+    overflow_mul-i
+    overflow_add-i
+    offset_bounds-q-i
+    bounds-q-i
+    overflow_mul-i-2
+    offset_bounds-q-i-2
+    bounds-q-i-2
+    key_of-requires
     returns)

@@ -13,21 +13,21 @@ use Rattle.expansion.proofs.queue.least_at.Tie as tie
 inside : (start : tie.Start) → start.args.at + 2 ≤ length start.args.s.now
 inside start = first_inside start.args.s.now start.args.at _ start.requires.0 start.requires.1
 
-add-result : tie.Need-overflow-add-result
-add-result c = omega (arith, inside c)
+overflow_add-result : tie.Need-overflow_add-result
+overflow_add-result c = omega (arith, inside c)
 
-mul-result : tie.Need-overflow-mul-result
-mul-result c = omega (arith, inside c)
+offset_bounds-s-at : tie.Need-offset_bounds-s-at
+offset_bounds-s-at c = omega (arith, inside c)
 
-shared-slice-read-result : tie.Need-shared-slice-read-result
-shared-slice-read-result c = omega (arith, inside c.before)
+bounds-s-at : tie.Need-bounds-s-at
+bounds-s-at c = omega (arith, inside c.before)
 
 returns : tie.Need-returns
 returns c =
     let a = c.before.args in
     let p = c.before.requires in
     let tag = get_or-drop a.at a.s.now 0 0 ∙ ap (λ i. get_or a.s.now i 0) (add-zero a.at) in
-    least_first (drop a.at a.s.now) a.len _ p.0 p.1 (omega (arith, tag, c.shared-slice-known.given a.at)) (sym (get_or-drop a.at a.s.now 1 0))
+    least_first (drop a.at a.s.now) a.len _ p.0 p.1 (omega (arith, tag, c.shared_slice_known-1.given a.at)) (sym (get_or-drop a.at a.s.now 1 0))
 
-pub least-at-spec : {M : Type 1} → statement M
-least-at-spec = tie.close (tie.spec add-result mul-result shared-slice-read-result returns)
+pub least_at_spec : {M : Type 1} → statement M
+least_at_spec = tie.close (tie.spec overflow_add-result offset_bounds-s-at bounds-s-at returns)

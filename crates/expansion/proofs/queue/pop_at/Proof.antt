@@ -11,16 +11,16 @@ use Rattle.expansion.proofs.queue.pop_at.Tie as tie
 inside : (start : tie.Start) → start.args.at < length start.args.s.now
 inside start = starts_inside start.args.s.now start.args.at _ start.requires.0 start.requires.1
 
-mul-pop : tie.Need-overflow-mul-pop
-mul-pop c = omega (arith, inside c.before)
+offset_bounds-s-at : tie.Need-offset_bounds-s-at
+offset_bounds-s-at c = omega (arith, inside c.before)
 
-sub-pop : tie.Need-overflow-sub-pop
-sub-pop c = omega (arith, inside c.before)
+slice_bounds-pop-count : tie.Need-slice_bounds-pop-count
+slice_bounds-pop-count c = omega (arith, inside c.before)
 
-part-pop-start : tie.Need-slice-bounds-pop-start
+part-pop-start : tie.Need-slice_bounds-pop-start
 part-pop-start c = omega (arith, inside c.before)
 
-part-pop-end : tie.Need-slice-bounds-pop-end
+part-pop-end : tie.Need-slice_bounds-pop-end
 part-pop-end c = search rules
 
 pop-requires : tie.Need-pop-requires
@@ -28,15 +28,15 @@ pop-requires c κs =
     let start = c.before.before in
     (lent_queue start.args.s.now start.args.at _ start.requires.0, start.requires.1)
 
-same_length : tie.Need-same-length
-same_length c = search rules
+shape_of-s : tie.Need-shape_of-s
+shape_of-s c = search rules
 
 returns : tie.Need-returns
 returns c =
     let start = c.before.before.before.before.before in
     popped_at start.args.s.now start.args.at _ (omega (arith, inside start)) _ _ c.before.before.pop.ensures
 
-pub pop-at-spec : {M : Type 1} → statement M
-pop-at-spec =
+pub pop_at_spec : {M : Type 1} → statement M
+pop_at_spec =
     tie.close
-    (tie.spec mul-pop sub-pop part-pop-start part-pop-end pop-requires same_length returns)
+    (tie.spec offset_bounds-s-at slice_bounds-pop-count part-pop-start part-pop-end pop-requires shape_of-s returns)

@@ -5,14 +5,14 @@ use Rattle.expansion.proofs.QueueLaws.{push_rises, pushed}
 use Rattle.expansion.proofs.queue.push.Statement.{statement}
 use Rattle.expansion.proofs.queue.push.Tie as tie
 
-add-rise : tie.Need-overflow-add-rise
-add-rise c = search rules
+overflow_add-len : tie.Need-overflow_add-len
+overflow_add-len c = search rules
 
 rise-requires : tie.Need-rise-requires
 rise-requires c κs = let start = c.before.before in push_rises _ _ _ start.requires.0 start.requires.1
 
-same_length : tie.Need-same-length
-same_length c = search rules
+shape_of-q : tie.Need-shape_of-q
+shape_of-q c = search rules
 
 returns : tie.Need-returns
 returns c =
@@ -21,4 +21,4 @@ returns c =
     pushed _ _ _ start.requires.0 start.requires.1 _ at-rise.rise.ensures
 
 pub push_spec : {M : Type 1} → statement M
-push_spec = tie.close (tie.spec add-rise rise-requires same_length returns)
+push_spec = tie.close (tie.spec overflow_add-len rise-requires shape_of-q returns)

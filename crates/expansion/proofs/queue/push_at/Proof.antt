@@ -7,16 +7,16 @@ use Rattle.expansion.proofs.QueueLaws.{lent_queue, pushed_at}
 use Rattle.expansion.proofs.queue.push_at.Statement.{statement}
 use Rattle.expansion.proofs.queue.push_at.Tie as tie
 
-mul-push : tie.Need-overflow-mul-push
-mul-push c = search rules
+offset_bounds-s-at : tie.Need-offset_bounds-s-at
+offset_bounds-s-at c = search rules
 
-sub-push : tie.Need-overflow-sub-push
-sub-push c = search rules
+slice_bounds-push-count : tie.Need-slice_bounds-push-count
+slice_bounds-push-count c = search rules
 
-part-push-start : tie.Need-slice-bounds-push-start
+part-push-start : tie.Need-slice_bounds-push-start
 part-push-start c = search rules
 
-part-push-end : tie.Need-slice-bounds-push-end
+part-push-end : tie.Need-slice_bounds-push-end
 part-push-end c = search rules
 
 push-requires : tie.Need-push-requires
@@ -26,15 +26,15 @@ push-requires c κs =
     let at = start.args.at in
     (lent_queue s at _ start.requires.0, omega (arith, lent_length at s))
 
-same_length : tie.Need-same-length
-same_length c = search rules
+shape_of-s : tie.Need-shape_of-s
+shape_of-s c = search rules
 
 returns : tie.Need-returns
 returns c =
     let start = c.before.before.before.before.before in
     pushed_at start.args.s.now start.args.at _ (omega arith) _ _ c.before.before.push.ensures
 
-pub push-at-spec : {M : Type 1} → statement M
-push-at-spec =
+pub push_at_spec : {M : Type 1} → statement M
+push_at_spec =
     tie.close
-    (tie.spec mul-push sub-push part-push-start part-push-end push-requires same_length returns)
+    (tie.spec offset_bounds-s-at slice_bounds-push-count part-push-start part-push-end push-requires shape_of-s returns)

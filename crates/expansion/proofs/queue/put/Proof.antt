@@ -7,29 +7,29 @@ use Rattle.expansion.proofs.QueueLaws.{put_stored}
 use Rattle.expansion.proofs.queue.put.Statement.{statement}
 use Rattle.expansion.proofs.queue.put.Tie as tie
 
-mul-q : tie.Need-overflow-mul-q
-mul-q c = search rules
+overflow_mul-q : tie.Need-overflow_mul-q
+overflow_mul-q c = search rules
 
-mul-q-2 : tie.Need-overflow-mul-q-2
-mul-q-2 c = search rules
+offset_bounds-q-i : tie.Need-offset_bounds-q-i
+offset_bounds-q-i c = search rules
 
-slice-write-q : tie.Need-slice-write-q
-slice-write-q c = search rules
+bounds-q-i : tie.Need-bounds-q-i
+bounds-q-i c = search rules
 
-mul-q-3 : tie.Need-overflow-mul-q-3
-mul-q-3 c = search rules
+overflow_mul-q-2 : tie.Need-overflow_mul-q-2
+overflow_mul-q-2 c = search rules
 
-add-q : tie.Need-overflow-add-q
-add-q c = search rules
+overflow_add-q : tie.Need-overflow_add-q
+overflow_add-q c = search rules
 
-mul-q-4 : tie.Need-overflow-mul-q-4
-mul-q-4 c = search rules
+offset_bounds-q-i-2 : tie.Need-offset_bounds-q-i-2
+offset_bounds-q-i-2 c = search rules
 
-slice-write-q-2 : tie.Need-slice-write-q-2
-slice-write-q-2 c = simp length-set (omega arith)
+bounds-q-i-2 : tie.Need-bounds-q-i-2
+bounds-q-i-2 c = simp length-set (omega arith)
 
-same_length : tie.Need-same-length
-same_length c = search rules
+shape_of-q : tie.Need-shape_of-q
+shape_of-q c = search rules
 
 returns : tie.Need-returns
 returns c = put_stored c.args.q.now c.args.i c.args.distance c.args.tag (omega arith)
@@ -38,12 +38,12 @@ pub put_spec : {M : Type 1} → statement M
 put_spec =
     tie.close
     (tie.spec
-    mul-q
-    mul-q-2
-    slice-write-q
-    mul-q-3
-    add-q
-    mul-q-4
-    slice-write-q-2
-    same_length
+    overflow_mul-q
+    offset_bounds-q-i
+    bounds-q-i
+    overflow_mul-q-2
+    overflow_add-q
+    offset_bounds-q-i-2
+    bounds-q-i-2
+    shape_of-q
     returns)

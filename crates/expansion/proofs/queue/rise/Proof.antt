@@ -12,50 +12,50 @@ use Rattle.expansion.proofs.QueueLaws.{words_key, hole_up, filled_moved, filled_
 use Rattle.expansion.proofs.queue.rise.Statement.{statement}
 use Rattle.expansion.proofs.queue.rise.Tie as tie
 
-abbrev invariant-loop : tie.invariant-loop
-invariant-loop q₀ len start distance tag key hole₀ q hole =
+abbrev invariant-loop-hole : tie.invariant-loop-hole
+invariant-loop-hole q₀ len start distance tag key hole₀ q hole =
     (length q ≡ length q₀) × (CanRise q len hole (key_of distance tag) × ((zs : List ℕ) → Filled q zs len hole (key_of distance tag) → Filled q₀ zs len start (key_of distance tag)))
 
-abbrev decreases-loop : tie.decreases-loop
-decreases-loop q₀ len start distance tag key hole₀ q hole = hole
+abbrev decreases-loop-hole : tie.decreases-loop-hole
+decreases-loop-hole q₀ len start distance tag key hole₀ q hole = hole
 
-key-of-requires : tie.Need-key-of-requires invariant-loop decreases-loop
-key-of-requires c κs = search rules
+key_of-key-requires : tie.Need-key_of-key-requires invariant-loop-hole decreases-loop-hole
+key_of-key-requires c κs = search rules
 
-loop-holds : tie.Need-loop-init invariant-loop decreases-loop
+loop-holds : tie.Need-loop-hole-init invariant-loop-hole decreases-loop-hole
 loop-holds c = (refl, (c.before.before.requires, λ zs f. f))
 
-sub-parent : tie.Need-overflow-sub-parent invariant-loop decreases-loop
-sub-parent c = search rules
+overflow_sub-parent : tie.Need-overflow_sub-parent invariant-loop-hole decreases-loop-hole
+overflow_sub-parent c = search rules
 
-key-at-requires : tie.Need-key-at-requires invariant-loop decreases-loop
-key-at-requires c κs = search rules
+key_at-k-requires : tie.Need-key_at-k-requires invariant-loop-hole decreases-loop-hole
+key_at-k-requires c κs = search rules
 
-put-requires : tie.Need-put-requires invariant-loop decreases-loop
+put-requires : tie.Need-put-requires invariant-loop-hole decreases-loop-hole
 put-requires c κs = search rules
 
-same_length : tie.Need-same-length invariant-loop decreases-loop
-same_length c = search rules
+shape_of-q-then-k-key : tie.Need-shape_of-q-then-k-key invariant-loop-hole decreases-loop-hole
+shape_of-q-then-k-key c = search rules
 
-returns : tie.Need-returns invariant-loop decreases-loop
-returns c =
+returns-then-k-key : tie.Need-returns-then-k-key invariant-loop-hole decreases-loop-hole
+returns-then-k-key c =
     let at-put = c.before.before in
     let at-if = at-put.before.before in
-    let inv = at-if.before.before.before.before.loop.invariant in
+    let inv = at-if.before.before.before.before.loop-hole.invariant in
     inv.1.1 _ (filled_here _ _ _ _ _ _ inv.1.0.is_hole at-put.put.ensures (λ pos. omega (arith, at-if)) inv.1.0.at_most)
 
-copy-requires : tie.Need-copy-requires invariant-loop decreases-loop
+copy-requires : tie.Need-copy-requires invariant-loop-hole decreases-loop-hole
 copy-requires c κs = search rules
 
-loop-less : tie.Need-loop-smaller invariant-loop decreases-loop
+loop-less : tie.Need-loop-hole-smaller invariant-loop-hole decreases-loop-hole
 loop-less c = search rules
 
-loop-again : tie.Need-loop-preserved invariant-loop decreases-loop
+loop-again : tie.Need-loop-hole-preserved invariant-loop-hole decreases-loop-hole
 loop-again c =
     let at_copy = c.before.before in
     let at-if = at_copy.before.before in
     let at-loop = at-if.before.before.before.before in
-    let inv = at-loop.loop.invariant in
+    let inv = at-loop.loop-hole.invariant in
     let p = at_copy.copy.ensures in
     let inside = inv.1.0.is_hole.inside in (
       omega (arith, p.size, inv.0),
@@ -65,35 +65,35 @@ loop-again c =
       ),
     )
 
-put-requires-2 : tie.Need-put-requires-2 invariant-loop decreases-loop
+put-requires-2 : tie.Need-put-requires-2 invariant-loop-hole decreases-loop-hole
 put-requires-2 c κs = search rules
 
-same-length-2 : tie.Need-same-length-2 invariant-loop decreases-loop
-same-length-2 c = search rules
+shape_of-q : tie.Need-shape_of-q invariant-loop-hole decreases-loop-hole
+shape_of-q c = search rules
 
-returns-2 : tie.Need-returns-2 invariant-loop decreases-loop
-returns-2 c =
+returns : tie.Need-returns invariant-loop-hole decreases-loop-hole
+returns c =
     let at-put = c.before.before in
     let at_end = at-put.before.before in
-    let inv = at_end.before.loop.invariant in
-    inv.1.1 _ (filled_here _ _ _ _ _ _ inv.1.0.is_hole at-put.put2.ensures (λ pos. omega (arith, at_end.loop-test)) inv.1.0.at_most)
+    let inv = at_end.before.loop-hole.invariant in
+    inv.1.1 _ (filled_here _ _ _ _ _ _ inv.1.0.is_hole at-put.put-2.ensures (λ pos. omega (arith, at_end.loop-hole-test)) inv.1.0.at_most)
 
-pub rise-spec : {M : Type 1} → statement M
-rise-spec =
+pub rise_spec : {M : Type 1} → statement M
+rise_spec =
     tie.close
     (tie.spec
-    invariant-loop
-    decreases-loop
-    key-of-requires
+    invariant-loop-hole
+    decreases-loop-hole
+    key_of-key-requires
     loop-holds
-    sub-parent
-    key-at-requires
+    overflow_sub-parent
+    key_at-k-requires
     put-requires
-    same_length
-    returns
+    shape_of-q-then-k-key
+    returns-then-k-key
     copy-requires
     loop-less
     loop-again
     put-requires-2
-    same-length-2
-    returns-2)
+    shape_of-q
+    returns)

@@ -13,111 +13,111 @@ use borrow.Author.Rules.{rules}
 use Rattle.expansion.proofs.step.clear.Statement.{statement}
 use Rattle.expansion.proofs.step.clear.Tie as tie
 
-abbrev invariant-loop : tie.invariant-loop
-invariant-loop s₀ b n settled len i₀ s i = (i ≤ settled) × (length s ≡ length s₀) × ((xs : List ℕ) → Area n xs b settled len → ClearedNodes n xs s₀ b (queue_base n b) → Clearing n xs s b settled i)
+abbrev invariant-loop-i : tie.invariant-loop-i
+invariant-loop-i s₀ b n settled len i₀ s i = (i ≤ settled) × (length s ≡ length s₀) × ((xs : List ℕ) → Area n xs b settled len → ClearedNodes n xs s₀ b (queue_base n b) → Clearing n xs s b settled i)
 
-abbrev decreases-loop : tie.decreases-loop
-decreases-loop s₀ b n settled len i₀ s i = settled - i
+abbrev decreases-loop-i : tie.decreases-loop-i
+decreases-loop-i s₀ b n settled len i₀ s i = settled - i
 
 -- how far the clearing is, from the area on; and the node at place i
-so_far : (l : tie.At-loop invariant-loop decreases-loop) → let start = l.before.before.before.before.before.before in Clearing start.args.n start.args.s.now l.loop.s start.args.b start.args.settled l.loop.i
-so_far l = let start = l.before.before.before.before.before.before in l.loop.invariant.2 start.args.s.now start.requires l.before.before.before.clear.ensures
+so_far : (l : tie.At-loop-i invariant-loop-i decreases-loop-i) → let start = l.before.before.before.before.before.before in Clearing start.args.n start.args.s.now l.loop-i.s-1 start.args.b start.args.settled l.loop-i.i
+so_far l = let start = l.before.before.before.before.before.before in l.loop-i.invariant.2 start.args.s.now start.requires l.before.before.before.clear.ensures
 
-node : (c : tie.After-wide invariant-loop decreases-loop) → c.wide.result < c.before.before.before.before.before.before.before.before.before.args.n
+node : (c : tie.After-wide-node invariant-loop-i decreases-loop-i) → c.wide-node.result < c.before.before.before.before.before.before.before.before.before.args.n
 node c =
     let l = c.before.before.before in
     let start = l.before.before.before.before.before.before in
-    rw c.wide.ensures (clearing_node start.requires (so_far l) c.before.before.loop-test.true)
+    rw c.wide-node.ensures (clearing_node start.requires (so_far l) c.before.before.loop-i-test.true)
 
-clear-requires : tie.Need-clear-requires invariant-loop decreases-loop
+clear-requires : tie.Need-clear-requires invariant-loop-i decreases-loop-i
 clear-requires c κs = search rules
 
-loop-holds : tie.Need-loop-init invariant-loop decreases-loop
+loop-holds : tie.Need-loop-i-init invariant-loop-i decreases-loop-i
 loop-holds c = (omega arith, refl, λ xs a d. clearing_none a d)
 
-add_at : tie.Need-overflow-add-at invariant-loop decreases-loop
-add_at c = search rules
+overflow_add-at : tie.Need-overflow_add-at invariant-loop-i decreases-loop-i
+overflow_add-at c = search rules
 
-add-at-2 : tie.Need-overflow-add-at-2 invariant-loop decreases-loop
-add-at-2 c = search rules
+overflow_add-at-in-loop-i : tie.Need-overflow_add-at-in-loop-i invariant-loop-i decreases-loop-i
+overflow_add-at-in-loop-i c = search rules
 
-mul_wide : tie.Need-overflow-mul-wide invariant-loop decreases-loop
-mul_wide c = search rules
+offset_bounds-s-at : tie.Need-offset_bounds-s-at invariant-loop-i decreases-loop-i
+offset_bounds-s-at c = search rules
 
-slice-read-wide : tie.Need-slice-read-wide invariant-loop decreases-loop
-slice-read-wide c =
+bounds-s-at : tie.Need-bounds-s-at invariant-loop-i decreases-loop-i
+bounds-s-at c =
     let l = c.before.before in
     let start = l.before.before.before.before.before.before in
     omega (arith, (so_far l).size, start.requires.queue.room, start.requires.counted)
 
-wide-requires : tie.Need-wide-requires invariant-loop decreases-loop
-wide-requires c κs = search rules
+wide-node-requires : tie.Need-wide-node-requires invariant-loop-i decreases-loop-i
+wide-node-requires c κs = search rules
 
-mul-s : tie.Need-overflow-mul-s invariant-loop decreases-loop
-mul-s c = search rules
+offset_bounds-s-at-in-loop-i : tie.Need-offset_bounds-s-at-in-loop-i invariant-loop-i decreases-loop-i
+offset_bounds-s-at-in-loop-i c = search rules
 
-slice-write-s : tie.Need-slice-write-s invariant-loop decreases-loop
-slice-write-s c = search rules
+bounds-s-at-in-loop-i : tie.Need-bounds-s-at-in-loop-i invariant-loop-i decreases-loop-i
+bounds-s-at-in-loop-i c = search rules
 
-add-s : tie.Need-overflow-add-s invariant-loop decreases-loop
-add-s c =
+overflow_add-s : tie.Need-overflow_add-s invariant-loop-i decreases-loop-i
+overflow_add-s c =
     let start = c.before.before.before.before.before.before.before.before.before in
     omega (arith, node c, start.requires.queue.room)
 
-mul-s-2 : tie.Need-overflow-mul-s-2 invariant-loop decreases-loop
-mul-s-2 c =
+offset_bounds-s-b : tie.Need-offset_bounds-s-b invariant-loop-i decreases-loop-i
+offset_bounds-s-b c =
     let start = c.before.before.before.before.before.before.before.before.before in
     omega (arith, node c, start.requires.queue.room)
 
-slice-write-s-2 : tie.Need-slice-write-s-2 invariant-loop decreases-loop
-slice-write-s-2 c =
+bounds-s-b : tie.Need-bounds-s-b invariant-loop-i decreases-loop-i
+bounds-s-b c =
     let l = c.before.before.before in
     let start = l.before.before.before.before.before.before in
     simp length-set (omega (arith, node c, (so_far l).size, start.requires.queue.room))
 
-add-i : tie.Need-overflow-add-i invariant-loop decreases-loop
-add-i c = search rules
+overflow_add-i : tie.Need-overflow_add-i invariant-loop-i decreases-loop-i
+overflow_add-i c = search rules
 
-loop-less : tie.Need-loop-smaller invariant-loop decreases-loop
+loop-less : tie.Need-loop-i-smaller invariant-loop-i decreases-loop-i
 loop-less c = search rules
 
-loop-again : tie.Need-loop-preserved invariant-loop decreases-loop
+loop-again : tie.Need-loop-i-preserved invariant-loop-i decreases-loop-i
 loop-again c =
     let l = c.before.before.before in (
       omega arith,
-      simp length-set l.loop.invariant.1,
-      λ xs a d. rw c.wide.ensures (clearing_more a (l.loop.invariant.2 xs a d) c.before.before.loop-test.true),
+      simp length-set l.loop-i.invariant.1,
+      λ xs a d. rw c.wide-node.ensures (clearing_more a (l.loop-i.invariant.2 xs a d) c.before.before.loop-i-test.true),
     )
 
-same_length : tie.Need-same-length invariant-loop decreases-loop
-same_length c = search rules
+shape_of-s : tie.Need-shape_of-s invariant-loop-i decreases-loop-i
+shape_of-s c = search rules
 
-returns : tie.Need-returns invariant-loop decreases-loop
+returns : tie.Need-returns invariant-loop-i decreases-loop-i
 returns c =
     let l = c.before in
     let start = l.before.before.before.before.before.before in
-    clearing_done start.requires (so_far l) (omega (arith, c.loop-test.false)) l.loop.invariant.0
+    clearing_done start.requires (so_far l) (omega (arith, c.loop-i-test.false)) l.loop-i.invariant.0
 
 pub clear_spec : {M : Type 1} → statement M
 clear_spec =
     tie.close
     (tie.spec
-    invariant-loop
-    decreases-loop
+    invariant-loop-i
+    decreases-loop-i
     clear-requires
     loop-holds
-    add_at
-    add-at-2
-    mul_wide
-    slice-read-wide
-    wide-requires
-    mul-s
-    slice-write-s
-    add-s
-    mul-s-2
-    slice-write-s-2
-    add-i
+    overflow_add-at
+    overflow_add-at-in-loop-i
+    offset_bounds-s-at
+    bounds-s-at
+    wide-node-requires
+    offset_bounds-s-at-in-loop-i
+    bounds-s-at-in-loop-i
+    overflow_add-s
+    offset_bounds-s-b
+    bounds-s-b
+    overflow_add-i
     loop-less
     loop-again
-    same_length
+    shape_of-s
     returns)

@@ -17,147 +17,147 @@ use borrow.Author.Rules.{rules}
 use Rattle.expansion.proofs.step.open.Statement.{statement}
 use Rattle.expansion.proofs.step.open.Tie as tie
 
-abbrev invariant-loop : tie.invariant-loop
-invariant-loop starts neighbours weights s₀ b len node label n ahead weighed more₀ j₀ s more j = (j ≤ length ahead) × Followed (network starts neighbours weights) s₀ s b len more node label j
+abbrev invariant-loop-j : tie.invariant-loop-j
+invariant-loop-j starts neighbours weights s₀ b len node label n ahead weighed more₀ j₀ s more j = (j ≤ length ahead) × Followed (network starts neighbours weights) s₀ s b len more node label j
 
-abbrev decreases-loop : tie.decreases-loop
-decreases-loop starts neighbours weights s₀ b len node label n ahead weighed more₀ j₀ s more j = length ahead - j
+abbrev decreases-loop-j : tie.decreases-loop-j
+decreases-loop-j starts neighbours weights s₀ b len node label n ahead weighed more₀ j₀ s more j = length ahead - j
 
-abbrev G : tie.Start invariant-loop decreases-loop → Network
+abbrev G : tie.Start invariant-loop-j decreases-loop-j → Network
 G s = network s.args.starts.now s.args.neighbours.now s.args.weights.now
 
 -- the parts of the node, and the arc at place j
-abbrev start : tie.After-weights-of invariant-loop decreases-loop → tie.Start invariant-loop decreases-loop
+abbrev start : tie.After-weights_of-weighed invariant-loop-j decreases-loop-j → tie.Start invariant-loop-j decreases-loop-j
 start c = c.before.before.before.before.before.before.before.before
 
-ahead : (c : tie.After-weights-of invariant-loop decreases-loop) → c.before.before.neighbours-of.result.now ≡ neighbours_of (G (start c)) (start c).args.node
-ahead c = rw c.before.before.before.wide.ensures at c.before.before.neighbours-of.ensures
+ahead : (c : tie.After-weights_of-weighed invariant-loop-j decreases-loop-j) → c.before.before.neighbours_of-ahead.result.now ≡ neighbours_of (G (start c)) (start c).args.node
+ahead c = rw c.before.before.before.wide.ensures at c.before.before.neighbours_of-ahead.ensures
 
-weighed : (c : tie.After-weights-of invariant-loop decreases-loop) → c.weights-of.result.now ≡ weights_of (G (start c)) (start c).args.node
-weighed c = rw c.before.wide2.ensures at c.weights-of.ensures
+weighed : (c : tie.After-weights_of-weighed invariant-loop-j decreases-loop-j) → c.weights_of-weighed.result.now ≡ weights_of (G (start c)) (start c).args.node
+weighed c = rw c.before.wide-2.ensures at c.weights_of-weighed.ensures
 
-place : (c : tie.In-loop invariant-loop decreases-loop)
+place : (c : tie.In-loop-j invariant-loop-j decreases-loop-j)
     → let s = start c.before.before in
-    ArcAt (G s) s.args.node c.before.loop.j c.before.before.before.before.neighbours-of.result.now c.before.before.weights-of.result.now
+    ArcAt (G s) s.args.node c.before.loop-j.j c.before.before.before.before.neighbours_of-ahead.result.now c.before.before.weights_of-weighed.result.now
 place c =
     let w = c.before.before in
     let s = start w in
-    arc_handed s.pre.accepted s.pre.inside (ahead w) (weighed w) c.loop-test.true
+    arc_handed s.pre.accepted s.pre.inside (ahead w) (weighed w) c.loop-j-test.true
 
 -- the key of the entry that the arc offers, and its node
-key : (c : tie.After-tag-of invariant-loop decreases-loop)
+key : (c : tie.After-tag_of-tag invariant-loop-j decreases-loop-j)
     → let i = c.before.before.before in
     let s = start i.before.before in
-    key_of (s.args.label + get_or i.before.before.weights-of.result.now i.before.loop.j 0) c.tag_of.result ≡ arc_key (G s) s.args.node s.args.label i.before.loop.j
+    key_of (s.args.label + get_or i.before.before.weights_of-weighed.result.now i.before.loop-j.j 0) c.tag_of-tag.result ≡ arc_key (G s) s.args.node s.args.label i.before.loop-j.j
 key c =
     let i = c.before.before.before in
-    omega (arith, c.tag_of.ensures, (place i).to, (place i).weight)
+    omega (arith, c.tag_of-tag.ensures, (place i).to, (place i).weight)
 
-node : (c : tie.After-tag-of invariant-loop decreases-loop)
+node : (c : tie.After-tag_of-tag invariant-loop-j decreases-loop-j)
     → let i = c.before.before.before in
     let s = start i.before.before in
-    node_of (key_of (s.args.label + get_or i.before.before.weights-of.result.now i.before.loop.j 0) c.tag_of.result) ≡ get_or (neighbours_of (G s) s.args.node) i.before.loop.j 0
+    node_of (key_of (s.args.label + get_or i.before.before.weights_of-weighed.result.now i.before.loop-j.j 0) c.tag_of-tag.result) ≡ get_or (neighbours_of (G s) s.args.node) i.before.loop-j.j 0
 node c =
     let i = c.before.before.before in
     let s = start i.before.before in
-    ap node_of (key c) ∙ key_node_of s.pre.accepted (s.args.label + get_or (weights_of (G s) s.args.node) i.before.loop.j 0) (get_or (neighbours_of (G s) s.args.node) i.before.loop.j 0) s.args.node (s.pre.accepted.leads_in (place i).arc) s.pre.inside
+    ap node_of (key c) ∙ key_node_of s.pre.accepted (s.args.label + get_or (weights_of (G s) s.args.node) i.before.loop-j.j 0) (get_or (neighbours_of (G s) s.args.node) i.before.loop-j.j 0) s.args.node (s.pre.accepted.leads_in (place i).arc) s.pre.inside
 
-sub-n : tie.Need-overflow-sub-n invariant-loop decreases-loop
-sub-n c = search rules
+overflow_sub-n : tie.Need-overflow_sub-n invariant-loop-j decreases-loop-j
+overflow_sub-n c = search rules
 
-wide-requires : tie.Need-wide-requires invariant-loop decreases-loop
+wide-requires : tie.Need-wide-requires invariant-loop-j decreases-loop-j
 wide-requires c κs = search rules
 
-neighbours-of-requires : tie.Need-neighbours-of-requires invariant-loop decreases-loop
-neighbours-of-requires c κs =
+neighbours_of-ahead-requires : tie.Need-neighbours_of-ahead-requires invariant-loop-j decreases-loop-j
+neighbours_of-ahead-requires c κs =
     let s = c.before.before.before.before.before in
     (accepted_searchable s.requires.accepted).neighbours.part _ (omega (arith, c.wide.ensures, s.requires.inside))
 
-wide-requires-2 : tie.Need-wide-requires-2 invariant-loop decreases-loop
+wide-requires-2 : tie.Need-wide-requires-2 invariant-loop-j decreases-loop-j
 wide-requires-2 c κs = search rules
 
-weights-of-requires : tie.Need-weights-of-requires invariant-loop decreases-loop
-weights-of-requires c κs =
+weights_of-weighed-requires : tie.Need-weights_of-weighed-requires invariant-loop-j decreases-loop-j
+weights_of-weighed-requires c κs =
     let s = c.before.before.before.before.before.before.before in
-    (accepted_searchable s.requires.accepted).weights.part _ (omega (arith, c.wide2.ensures, s.requires.inside))
+    (accepted_searchable s.requires.accepted).weights.part _ (omega (arith, c.wide-2.ensures, s.requires.inside))
 
-loop-holds : tie.Need-loop-init invariant-loop decreases-loop
+loop-holds : tie.Need-loop-j-init invariant-loop-j decreases-loop-j
 loop-holds c = (omega arith, followed_none (start c).requires.queue)
 
-mul-to : tie.Need-overflow-mul-to invariant-loop decreases-loop
-mul-to c = search rules
+offset_bounds-ahead-j : tie.Need-offset_bounds-ahead-j invariant-loop-j decreases-loop-j
+offset_bounds-ahead-j c = search rules
 
-shared-slice-read-to : tie.Need-shared-slice-read-to invariant-loop decreases-loop
-shared-slice-read-to c = search rules
+bounds-ahead-j : tie.Need-bounds-ahead-j invariant-loop-j decreases-loop-j
+bounds-ahead-j c = search rules
 
-mul-far : tie.Need-overflow-mul-far invariant-loop decreases-loop
-mul-far c = search rules
+offset_bounds-weighed-j : tie.Need-offset_bounds-weighed-j invariant-loop-j decreases-loop-j
+offset_bounds-weighed-j c = search rules
 
-shared-slice-read-far : tie.Need-shared-slice-read-far invariant-loop decreases-loop
-shared-slice-read-far c = (place c.before.before).weighed
+bounds-weighed-j : tie.Need-bounds-weighed-j invariant-loop-j decreases-loop-j
+bounds-weighed-j c = (place c.before.before).weighed
 
-add-far : tie.Need-overflow-add-far invariant-loop decreases-loop
-add-far c =
+overflow_add-far : tie.Need-overflow_add-far invariant-loop-j decreases-loop-j
+overflow_add-far c =
     let s = start c.before.before.before.before in
     omega (arith, s.pre.accepted.weight_high (place c.before.before).arc, (place c.before.before).weight, s.pre.fits)
 
-add-j : tie.Need-overflow-add-j invariant-loop decreases-loop
-add-j c = search rules
+overflow_add-j : tie.Need-overflow_add-j invariant-loop-j decreases-loop-j
+overflow_add-j c = search rules
 
-tag-of-requires : tie.Need-tag-of-requires invariant-loop decreases-loop
-tag-of-requires c κs =
+tag_of-tag-requires : tie.Need-tag_of-tag-requires invariant-loop-j decreases-loop-j
+tag_of-tag-requires c κs =
     let i = c.before.before in
     let s = start i.before.before in
     let f = s.pre.accepted.few in
     (omega (arith, s.pre.accepted.leads_in (place i).arc, (place i).to), omega (arith, s.pre.inside))
 
-offer-requires : tie.Need-offer-requires invariant-loop decreases-loop
-offer-requires c κs =
+offer-more-requires : tie.Need-offer-more-requires invariant-loop-j decreases-loop-j
+offer-more-requires c κs =
     let i = c.before.before.before.before in
     let s = start i.before.before in
-    (i.before.loop.invariant.1.queue, omega (arith, node c.before, s.pre.accepted.leads_in (place i).arc))
+    (i.before.loop-j.invariant.1.queue, omega (arith, node c.before, s.pre.accepted.leads_in (place i).arc))
 
-loop-less : tie.Need-loop-smaller invariant-loop decreases-loop
+loop-less : tie.Need-loop-j-smaller invariant-loop-j decreases-loop-j
 loop-less c = search rules
 
-loop-again : tie.Need-loop-preserved invariant-loop decreases-loop
+loop-again : tie.Need-loop-j-preserved invariant-loop-j decreases-loop-j
 loop-again c =
     let t = c.before.before.before.before in
     let i = t.before.before.before in
     let s = start i.before.before in
-    (omega arith, followed_more i.before.loop.invariant.1 (rw (key t) at c.before.before.offer.ensures) (s.pre.accepted.leads_in (place i).arc) (sym (ap node_of (key t)) ∙ node t))
+    (omega arith, followed_more i.before.loop-j.invariant.1 (rw (key t) at c.before.before.offer-more.ensures) (s.pre.accepted.leads_in (place i).arc) (sym (ap node_of (key t)) ∙ node t))
 
-same_length : tie.Need-same-length invariant-loop decreases-loop
-same_length c = search rules
+shape_of-s : tie.Need-shape_of-s invariant-loop-j decreases-loop-j
+shape_of-s c = search rules
 
-returns : tie.Need-returns invariant-loop decreases-loop
+returns : tie.Need-returns invariant-loop-j decreases-loop-j
 returns c =
     let e = ahead c.before.before in
-    let l = c.before.loop in
-    let q : l.j ≡ length (neighbours_of (G (start c.before.before)) (start c.before.before).args.node) = omega (arith, ap length e, l.invariant.0, c.loop-test.false) in
+    let l = c.before.loop-j in
+    let q : l.j ≡ length (neighbours_of (G (start c.before.before)) (start c.before.before).args.node) = omega (arith, ap length e, l.invariant.0, c.loop-j-test.false) in
     rw q at l.invariant.1
 
 pub open_spec : {M : Type 1} → statement M
 open_spec =
     tie.close
     (tie.spec
-    invariant-loop
-    decreases-loop
-    sub-n
+    invariant-loop-j
+    decreases-loop-j
+    overflow_sub-n
     wide-requires
-    neighbours-of-requires
+    neighbours_of-ahead-requires
     wide-requires-2
-    weights-of-requires
+    weights_of-weighed-requires
     loop-holds
-    mul-to
-    shared-slice-read-to
-    mul-far
-    shared-slice-read-far
-    add-far
-    add-j
-    tag-of-requires
-    offer-requires
+    offset_bounds-ahead-j
+    bounds-ahead-j
+    offset_bounds-weighed-j
+    bounds-weighed-j
+    overflow_add-far
+    overflow_add-j
+    tag_of-tag-requires
+    offer-more-requires
     loop-less
     loop-again
-    same_length
+    shape_of-s
     returns)

@@ -7,56 +7,56 @@ use Rattle.expansion.proofs.step.settle.Tie as tie
 wide-requires : tie.Need-wide-requires
 wide-requires c κs = search rules
 
-add_at : tie.Need-overflow-add-at
-add_at c = search rules
+overflow_add-at : tie.Need-overflow_add-at
+overflow_add-at c = search rules
 
-cast-s : tie.Need-overflow-cast-s
-cast-s c = search rules
+overflow_cast-s : tie.Need-overflow_cast-s
+overflow_cast-s c = search rules
 
-add-s : tie.Need-overflow-add-s
-add-s c = search rules
+overflow_add-s : tie.Need-overflow_add-s
+overflow_add-s c = search rules
 
-add-s-2 : tie.Need-overflow-add-s-2
-add-s-2 c = search rules
+overflow_add-s-2 : tie.Need-overflow_add-s-2
+overflow_add-s-2 c = search rules
 
-mul-s : tie.Need-overflow-mul-s
-mul-s c = search rules
+offset_bounds-s-at : tie.Need-offset_bounds-s-at
+offset_bounds-s-at c = search rules
 
-slice-write-s : tie.Need-slice-write-s
-slice-write-s c = search rules
+bounds-s-at : tie.Need-bounds-s-at
+bounds-s-at c = search rules
 
-add-s-3 : tie.Need-overflow-add-s-3
-add-s-3 c = search rules
+overflow_add-s-3 : tie.Need-overflow_add-s-3
+overflow_add-s-3 c = search rules
 
-add-s-4 : tie.Need-overflow-add-s-4
-add-s-4 c = search rules
+overflow_add-s-4 : tie.Need-overflow_add-s-4
+overflow_add-s-4 c = search rules
 
-mul-s-2 : tie.Need-overflow-mul-s-2
-mul-s-2 c = search rules
+offset_bounds-s-b : tie.Need-offset_bounds-s-b
+offset_bounds-s-b c = search rules
 
-slice-write-s-2 : tie.Need-slice-write-s-2
-slice-write-s-2 c = search rules
+bounds-s-b : tie.Need-bounds-s-b
+bounds-s-b c = search rules
 
-same_length : tie.Need-same-length
-same_length c = search rules
+shape_of-s : tie.Need-shape_of-s
+shape_of-s c = search rules
 
 returns : tie.Need-returns
 returns c = rw c.wide.ensures
 
-pub settle-spec : {M : Type 1} → statement M
-settle-spec =
+pub settle_spec : {M : Type 1} → statement M
+settle_spec =
     tie.close
     (tie.spec
     wide-requires
-    add_at
-    cast-s
-    add-s
-    add-s-2
-    mul-s
-    slice-write-s
-    add-s-3
-    add-s-4
-    mul-s-2
-    slice-write-s-2
-    same_length
+    overflow_add-at
+    overflow_cast-s
+    overflow_add-s
+    overflow_add-s-2
+    offset_bounds-s-at
+    bounds-s-at
+    overflow_add-s-3
+    overflow_add-s-4
+    offset_bounds-s-b
+    bounds-s-b
+    shape_of-s
     returns)

@@ -6,20 +6,20 @@ use borrow.Author.Rules.{rules}
 use Rattle.expansion.proofs.verify.come_to.Statement.{statement}
 use Rattle.expansion.proofs.verify.come_to.Tie as tie
 
+returns-then-label-t : tie.Need-returns-then-label-t
+returns-then-label-t c = search rules
+
+overflow_add-result : tie.Need-overflow_add-result
+overflow_add-result c = search rules
+
 returns : tie.Need-returns
-returns c = search rules
-
-add-t4 : tie.Need-overflow-add-t4
-add-t4 c = search rules
-
-returns-2 : tie.Need-returns-2
-returns-2 c =
+returns c =
     record {
-      same = λ h. absurd (omega (arith, c.before.if1.false));
+      same = λ h. absurd (omega (arith, c.before.if-label-t.false));
       label = λ h. refl;
       below = λ h. refl;
       level = λ h. refl;
     }
 
-pub come-to-spec : {M : Type 1} → statement M
-come-to-spec = tie.close (tie.spec returns add-t4 returns-2)
+pub come_to_spec : {M : Type 1} → statement M
+come_to_spec = tie.close (tie.spec returns-then-label-t overflow_add-result returns)

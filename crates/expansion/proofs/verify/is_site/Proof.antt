@@ -13,44 +13,44 @@ use Rattle.expansion.proofs.verify.is_site.Tie as tie
 abbrev start_of : tie.After-wide → tie.Start
 start_of w = w.before.before.before.before
 
-enum-known-site : tie.Need-enum-known-site
-enum-known-site c = search rules
+enum_known-site : tie.Need-enum_known-site
+enum_known-site c = search rules
 
-enum_told : tie.Need-enum-told
-enum_told c = search rules
+enum_told-1 : tie.Need-enum_told-1
+enum_told-1 c = search rules
 
 wide-requires : tie.Need-wide-requires
 wide-requires c κs = search rules
 
-mul-result : tie.Need-overflow-mul-result
-mul-result c = search rules
+offset_bounds-s-wide : tie.Need-offset_bounds-s-wide
+offset_bounds-s-wide c = search rules
 
-shared-slice-read-result : tie.Need-shared-slice-read-result
-shared-slice-read-result c =
+bounds-s-wide : tie.Need-bounds-s-wide
+bounds-s-wide c =
     let w = c.before in
     let a = (start_of w).args in
-    omega (arith, w.wide.ensures, stops_read a.s.now a.site a.node w.before.enum_told.given.1 (start_of w).requires)
+    omega (arith, w.wide.ensures, stops_read a.s.now a.site-1 a.node w.before.enum_told-1.given.1 (start_of w).requires)
 
-returns : tie.Need-returns
-returns c =
+returns-in-One : tie.Need-returns-in-One
+returns-in-One c =
     let s = c.before.before.before.before in
-    ap (λ x. is_site s.args.s.now x s.args.node) (sym c.before.site.given.1)
+    ap (λ x. is_site s.args.s.now x s.args.node) (sym c.before.site-1.given.1)
 
-returns-2 : tie.Need-returns-2
-returns-2 c =
+returns-in-Stops : tie.Need-returns-in-Stops
+returns-in-Stops c =
     let w = c.before in
     let s = start_of w in
     ap (λ i. eqb (get_or s.args.s.now i 0) 2) w.wide.ensures
-    ∙ ap (λ x. is_site s.args.s.now x s.args.node) (sym w.before.enum_told.given.1)
+    ∙ ap (λ x. is_site s.args.s.now x s.args.node) (sym w.before.enum_told-1.given.1)
 
-pub is-site-spec : {M : Type 1} → statement M
-is-site-spec =
+pub is_site_spec : {M : Type 1} → statement M
+is_site_spec =
     tie.close
     (tie.spec
-    enum-known-site
-    enum_told
+    enum_known-site
+    enum_told-1
     wide-requires
-    mul-result
-    shared-slice-read-result
-    returns
-    returns-2)
+    offset_bounds-s-wide
+    bounds-s-wide
+    returns-in-One
+    returns-in-Stops)

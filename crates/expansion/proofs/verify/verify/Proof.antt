@@ -5,22 +5,22 @@ use Rattle.expansion.proofs.Settled.{wiped_after}
 use Rattle.expansion.proofs.verify.verify.Statement.{statement}
 use Rattle.expansion.proofs.verify.verify.Tie as tie
 
-sub-n : tie.Need-overflow-sub-n
-sub-n c = search rules
+overflow_sub-n : tie.Need-overflow_sub-n
+overflow_sub-n c = search rules
 
-visit-requires : tie.Need-visit-requires
-visit-requires c κs = search rules
+visit-v-requires : tie.Need-visit-v-requires
+visit-v-requires c κs = search rules
 
 clear-requires : tie.Need-clear-requires
 clear-requires c κs = search rules
 
-same_length : tie.Need-same-length
-same_length c = search rules
+shape_of-s : tie.Need-shape_of-s
+shape_of-s c = search rules
 
 returns : tie.Need-returns
 returns c =
-    let v = c.before.before.before.before.before.before.visit.ensures in
+    let v = c.before.before.before.before.before.before.visit-v.ensures in
     record { answer = v.answer; area = wiped_after v.frame c.before.before.clear.ensures }
 
-pub verify-spec : {M : Type 1} → statement M
-verify-spec = tie.close (tie.spec sub-n visit-requires clear-requires same_length returns)
+pub verify_spec : {M : Type 1} → statement M
+verify_spec = tie.close (tie.spec overflow_sub-n visit-v-requires clear-requires shape_of-s returns)

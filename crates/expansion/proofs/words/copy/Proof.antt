@@ -9,64 +9,64 @@ use borrow.Author.Rules.{rules}
 use Rattle.expansion.proofs.words.copy.Statement.{statement}
 use Rattle.expansion.proofs.words.copy.Tie as tie
 
-abbrev invariant-loop : tie.invariant-loop
-invariant-loop from at count answers₀ i₀ answers i = (i ≤ count) × Stored (λ x. get_or from (at + x) 0) i answers₀ answers
+abbrev invariant-loop-i : tie.invariant-loop-i
+invariant-loop-i from at count answers₀ i₀ answers i = (i ≤ count) × Stored (λ x. get_or from (at + x) 0) i answers₀ answers
 
-abbrev decreases-loop : tie.decreases-loop
-decreases-loop from at count answers₀ i₀ answers i = count - i
+abbrev decreases-loop-i : tie.decreases-loop-i
+decreases-loop-i from at count answers₀ i₀ answers i = count - i
 
-loop-holds : tie.Need-loop-init invariant-loop decreases-loop
+loop-holds : tie.Need-loop-i-init invariant-loop-i decreases-loop-i
 loop-holds c = (omega arith, stored_none _ _)
 
-add-answers : tie.Need-overflow-add-answers invariant-loop decreases-loop
-add-answers c = search rules
+overflow_add-answers : tie.Need-overflow_add-answers invariant-loop-i decreases-loop-i
+overflow_add-answers c = search rules
 
-mul-answers : tie.Need-overflow-mul-answers invariant-loop decreases-loop
-mul-answers c = search rules
+offset_bounds-from-at : tie.Need-offset_bounds-from-at invariant-loop-i decreases-loop-i
+offset_bounds-from-at c = search rules
 
-shared-slice-read-answers : tie.Need-shared-slice-read-answers invariant-loop decreases-loop
-shared-slice-read-answers c = search rules
+bounds-from-at : tie.Need-bounds-from-at invariant-loop-i decreases-loop-i
+bounds-from-at c = search rules
 
-mul-answers-2 : tie.Need-overflow-mul-answers-2 invariant-loop decreases-loop
-mul-answers-2 c = search rules
+offset_bounds-answers-i : tie.Need-offset_bounds-answers-i invariant-loop-i decreases-loop-i
+offset_bounds-answers-i c = search rules
 
-slice-write-answers : tie.Need-slice-write-answers invariant-loop decreases-loop
-slice-write-answers c = search rules
+bounds-answers-i : tie.Need-bounds-answers-i invariant-loop-i decreases-loop-i
+bounds-answers-i c = search rules
 
-add-i : tie.Need-overflow-add-i invariant-loop decreases-loop
-add-i c = search rules
+overflow_add-i : tie.Need-overflow_add-i invariant-loop-i decreases-loop-i
+overflow_add-i c = search rules
 
-loop-less : tie.Need-loop-smaller invariant-loop decreases-loop
+loop-less : tie.Need-loop-i-smaller invariant-loop-i decreases-loop-i
 loop-less c = search rules
 
-loop-again : tie.Need-loop-preserved invariant-loop decreases-loop
+loop-again : tie.Need-loop-i-preserved invariant-loop-i decreases-loop-i
 loop-again c =
     let l = c.before.before in
-    (omega arith, stored_more _ l.loop.invariant.1 (omega arith) refl)
+    (omega arith, stored_more _ l.loop-i.invariant.1 (omega arith) refl)
 
-same_length : tie.Need-same-length invariant-loop decreases-loop
-same_length c = c.before.loop.invariant.1.size
+shape_of-answers : tie.Need-shape_of-answers invariant-loop-i decreases-loop-i
+shape_of-answers c = c.before.loop-i.invariant.1.size
 
-returns : tie.Need-returns invariant-loop decreases-loop
+returns : tie.Need-returns invariant-loop-i decreases-loop-i
 returns c =
-    let l = c.before.loop in
-    let q : l.i ≡ c.before.before.args.count = omega (arith, l.invariant.0, c.loop-test.false) in
+    let l = c.before.loop-i in
+    let q : l.i ≡ c.before.before.args.count = omega (arith, l.invariant.0, c.loop-i-test.false) in
     stored_all (rw q at l.invariant.1)
 
 pub copy_spec : {M : Type 1} → statement M
 copy_spec =
     tie.close
     (tie.spec
-    invariant-loop
-    decreases-loop
+    invariant-loop-i
+    decreases-loop-i
     loop-holds
-    add-answers
-    mul-answers
-    shared-slice-read-answers
-    mul-answers-2
-    slice-write-answers
-    add-i
+    overflow_add-answers
+    offset_bounds-from-at
+    bounds-from-at
+    offset_bounds-answers-i
+    bounds-answers-i
+    overflow_add-i
     loop-less
     loop-again
-    same_length
+    shape_of-answers
     returns)

@@ -11,53 +11,53 @@ use lib.ListN.{length, drop, replicate, length-set}
 use Rattle.expansion.proofs.words.zero.Statement.{statement}
 use Rattle.expansion.proofs.words.zero.Tie as tie
 
-abbrev invariant-loop : tie.invariant-loop
-invariant-loop s₀ i₀ s i = (i ≤ length s₀) × (length s ≡ length s₀) × (s ≡ replicate i 0 ++ drop i s₀)
+abbrev invariant-loop-i : tie.invariant-loop-i
+invariant-loop-i s₀ i₀ s i = (i ≤ length s₀) × (length s ≡ length s₀) × (s ≡ replicate i 0 ++ drop i s₀)
 
-abbrev decreases-loop : tie.decreases-loop
-decreases-loop s₀ i₀ s i = length s - i
+abbrev decreases-loop-i : tie.decreases-loop-i
+decreases-loop-i s₀ i₀ s i = length s - i
 
-loop-holds : tie.Need-loop-init invariant-loop decreases-loop
+loop-holds : tie.Need-loop-i-init invariant-loop-i decreases-loop-i
 loop-holds c = (search rules, refl, refl)
 
-mul-s : tie.Need-overflow-mul-s invariant-loop decreases-loop
-mul-s c = search rules
+offset_bounds-s-i : tie.Need-offset_bounds-s-i invariant-loop-i decreases-loop-i
+offset_bounds-s-i c = search rules
 
-slice-write-s : tie.Need-slice-write-s invariant-loop decreases-loop
-slice-write-s c = search rules
+bounds-s-i : tie.Need-bounds-s-i invariant-loop-i decreases-loop-i
+bounds-s-i c = search rules
 
-add-i : tie.Need-overflow-add-i invariant-loop decreases-loop
-add-i c = search rules
+overflow_add-i : tie.Need-overflow_add-i invariant-loop-i decreases-loop-i
+overflow_add-i c = search rules
 
-loop-less : tie.Need-loop-smaller invariant-loop decreases-loop
+loop-less : tie.Need-loop-i-smaller invariant-loop-i decreases-loop-i
 loop-less c = simp length-set (omega arith)
 
-loop-again : tie.Need-loop-preserved invariant-loop decreases-loop
+loop-again : tie.Need-loop-i-preserved invariant-loop-i decreases-loop-i
 loop-again c =
-    let l = c.before.loop in
+    let l = c.before.loop-i in
     (omega arith, simp length-set l.invariant.1, rw l.invariant.2 (fill_more l.i 0 c.before.before.args.s.now (omega arith)))
 
-same_length : tie.Need-same-length invariant-loop decreases-loop
-same_length c = search rules
+shape_of-s : tie.Need-shape_of-s invariant-loop-i decreases-loop-i
+shape_of-s c = search rules
 
-returns : tie.Need-returns invariant-loop decreases-loop
+returns : tie.Need-returns invariant-loop-i decreases-loop-i
 returns c =
-    let l = c.before.loop in
+    let l = c.before.loop-i in
     let s = c.before.before.args.s.now in
     let e : l.i ≡ length s = omega arith in
     l.invariant.2 ∙ rw (e, drop-length, append-nil)
 
-pub zero-spec : {M : Type 1} → statement M
-zero-spec =
+pub zero_spec : {M : Type 1} → statement M
+zero_spec =
     tie.close
     (tie.spec
-    invariant-loop
-    decreases-loop
+    invariant-loop-i
+    decreases-loop-i
     loop-holds
-    mul-s
-    slice-write-s
-    add-i
+    offset_bounds-s-i
+    bounds-s-i
+    overflow_add-i
     loop-less
     loop-again
-    same_length
+    shape_of-s
     returns)

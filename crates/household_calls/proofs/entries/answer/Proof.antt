@@ -14,55 +14,55 @@ use Rattle.household_calls.proofs.entries.answer.Tie as tie
 abbrev G : tie.Start → Network
 G s = network s.args.starts.now s.args.neighbours.now s.args.weights.now
 
-abbrev start : tie.After-sheet-number → tie.Start
+abbrev start : tie.After-sheet_number-refusal → tie.Start
 start n = n.before.before.before.before.before.before.before.before.before.before
 
-sheet-number-requires : tie.Need-sheet-number-requires
-sheet-number-requires c κs = search rules
+sheet_number-refusal-requires : tie.Need-sheet_number-refusal-requires
+sheet_number-refusal-requires c κs = search rules
 
-same_length : tie.Need-same-length
-same_length c = search rules
+shape_of-scratch-then-refusal-ne0 : tie.Need-shape_of-scratch-then-refusal-ne0
+shape_of-scratch-then-refusal-ne0 c = search rules
 
-same-length-2 : tie.Need-same-length-2
-same-length-2 c = search rules
+shape_of-answers-then-refusal-ne0 : tie.Need-shape_of-answers-then-refusal-ne0
+shape_of-answers-then-refusal-ne0 c = search rules
 
-returns : tie.Need-returns
+returns-then-refusal-ne0 : tie.Need-returns-then-refusal-ne0
 unfolding sheet_outcome
-returns c =
+returns-then-refusal-ne0 c =
     let n = c.before in
-    entries_refused _ _ _ n.sheet-number.result n.sheet-number.ensures c.if1.true
+    entries_refused _ _ _ n.sheet_number-refusal.result n.sheet_number-refusal.ensures c.if-refusal-ne0.true
 
 run-requires : tie.Need-run-requires
 run-requires c κs =
     let e = c.before.before in
     let n = e.before in
     let a = (start n).args in
-    sheet_ready (G (start n)) a.households.now a.sites.now a.scratch.now a.answers.now (sym n.sheet-number.ensures ∙ e.if1.false)
+    sheet_ready (G (start n)) a.households.now a.sites.now a.scratch-1.now a.answers-1.now (sym n.sheet_number-refusal.ensures ∙ e.if-refusal-ne0.false)
 
-same-length-3 : tie.Need-same-length-3
-same-length-3 c = search rules
+shape_of-scratch : tie.Need-shape_of-scratch
+shape_of-scratch c = search rules
 
-same-length-4 : tie.Need-same-length-4
-same-length-4 c = search rules
+shape_of-answers : tie.Need-shape_of-answers
+shape_of-answers c = search rules
 
-returns-2 : tie.Need-returns-2
+returns : tie.Need-returns
 unfolding sheet_outcome
-returns-2 c =
+returns c =
     let r = c.before.before.before.before in
     let e = r.before.before.before in
     let n = e.before in
     let h = r.run.ensures in
-    entries_done _ _ _ (sym n.sheet-number.ensures ∙ e.if1.false) (all_zero (length (start n).args.scratch.now) refl h.area) h.answers
+    entries_done _ _ _ (sym n.sheet_number-refusal.ensures ∙ e.if-refusal-ne0.false) (all_zero (length (start n).args.scratch.now) refl h.area) h.answers-1
 
-pub answer-spec : {M : Type 1} → statement M
-answer-spec =
+pub answer_spec : {M : Type 1} → statement M
+answer_spec =
     tie.close
     (tie.spec
-    sheet-number-requires
-    same_length
-    same-length-2
-    returns
+    sheet_number-refusal-requires
+    shape_of-scratch-then-refusal-ne0
+    shape_of-answers-then-refusal-ne0
+    returns-then-refusal-ne0
     run-requires
-    same-length-3
-    same-length-4
-    returns-2)
+    shape_of-scratch
+    shape_of-answers
+    returns)

@@ -23,20 +23,20 @@ long z = zero_length (length (start z).args.scratch.now) z.zero.ensures
 fits : (z : tie.After-zero) → 6 * node_count (G (start z)) ≤ length (start z).args.scratch.now
 fits z = omega (arith, (start z).requires.room)
 
-sub_used : tie.Need-overflow-sub-used
-sub_used c = search rules
+overflow_sub-used : tie.Need-overflow_sub-used
+overflow_sub-used c = search rules
 
-mul-used : tie.Need-overflow-mul-used
-mul-used c = search rules
+overflow_mul-used : tie.Need-overflow_mul-used
+overflow_mul-used c = search rules
 
 zero-requires : tie.Need-zero-requires
 zero-requires c κs = search rules
 
-slice-relend-prefix-sheet : tie.Need-slice-relend-prefix-sheet
-slice-relend-prefix-sheet c = let z = c.before.before in omega (arith, fits z, long z)
+slice_bounds-sheet-end : tie.Need-slice_bounds-sheet-end
+slice_bounds-sheet-end c = let z = c.before.before in omega (arith, fits z, long z)
 
-slice-aggregate-sheet : tie.Need-slice-aggregate-sheet
-slice-aggregate-sheet c = let z = c.before.before.before in simp length-take (omega (arith, fits z, long z))
+slice_bounds-sheet-end-2 : tie.Need-slice_bounds-sheet-end-2
+slice_bounds-sheet-end-2 c = let z = c.before.before.before in simp length-take (omega (arith, fits z, long z))
 
 sheet-requires : tie.Need-sheet-requires
 sheet-requires c κs =
@@ -49,11 +49,11 @@ sheet-requires c κs =
       places = s.pre.places;
     }
 
-same_length : tie.Need-same-length
-same_length c = search rules
+shape_of-scratch : tie.Need-shape_of-scratch
+shape_of-scratch c = search rules
 
-same-length-2 : tie.Need-same-length-2
-same-length-2 c = search rules
+shape_of-answers : tie.Need-shape_of-answers
+shape_of-answers c = search rules
 
 returns : tie.Need-returns
 returns c =
@@ -63,19 +63,19 @@ returns c =
     let h = r.sheet.ensures in
     record {
       area = part_wiped s.args.scratch.now (6 * node_count (G s)) z.zero.ensures (fits z) h.area;
-      answers = h.answers;
+      answers = h.answers-1;
     }
 
 pub run_spec : {M : Type 1} → statement M
 run_spec =
     tie.close
     (tie.spec
-    sub_used
-    mul-used
+    overflow_sub-used
+    overflow_mul-used
     zero-requires
-    slice-relend-prefix-sheet
-    slice-aggregate-sheet
+    slice_bounds-sheet-end
+    slice_bounds-sheet-end-2
     sheet-requires
-    same_length
-    same-length-2
+    shape_of-scratch
+    shape_of-answers
     returns)

@@ -13,28 +13,28 @@ use Rattle.household_calls.proofs.number.both_number.Tie as tie
 abbrev G : tie.Start → Network
 G s = network s.args.starts.now s.args.neighbours.now s.args.weights.now
 
-network-points-number-requires : tie.Need-network-points-number-requires
-network-points-number-requires c κs = search rules
+network_points_number-number-requires : tie.Need-network_points_number-number-requires
+network_points_number-number-requires c κs = search rules
+
+returns-then-number-ne0 : tie.Need-returns-then-number-ne0
+unfolding both_number
+returns-then-number-ne0 c = first_is _ _ _ c.before.network_points_number-number.ensures c.if-number-ne0.true
+
+overflow_sub-starts : tie.Need-overflow_sub-starts
+overflow_sub-starts c =
+    let n = c.before in
+    let s = n.before.before.before.before.before.before in
+    omega (arith, (network_points_ready (G s) s.args.households.now (sym n.network_points_number-number.ensures ∙ c.if-number-ne0.false)).0.some)
+
+points_number-requires : tie.Need-points_number-requires
+points_number-requires c κs = search rules
 
 returns : tie.Need-returns
 unfolding both_number
-returns c = first_is _ _ _ c.before.network-points-number.ensures c.if1.true
+returns c =
+    first_later _ _ _ _ c.before.before.network_points_number-number.ensures c.before.if-number-ne0.false (first_last _ _ c.points_number.ensures)
 
-sub-points-number : tie.Need-overflow-sub-points-number
-sub-points-number c =
-    let n = c.before in
-    let s = n.before.before.before.before.before.before in
-    omega (arith, (network_points_ready (G s) s.args.households.now (sym n.network-points-number.ensures ∙ c.if1.false)).0.some)
-
-points-number-requires : tie.Need-points-number-requires
-points-number-requires c κs = search rules
-
-returns-2 : tie.Need-returns-2
-unfolding both_number
-returns-2 c =
-    first_later _ _ _ _ c.before.before.network-points-number.ensures c.before.if1.false (first_last _ _ c.points-number.ensures)
-
-pub both-number-spec : {M : Type 1} → statement M
-both-number-spec =
+pub both_number_spec : {M : Type 1} → statement M
+both_number_spec =
     tie.close
-    (tie.spec network-points-number-requires returns sub-points-number points-number-requires returns-2)
+    (tie.spec network_points_number-number-requires returns-then-number-ne0 overflow_sub-starts points_number-requires returns)

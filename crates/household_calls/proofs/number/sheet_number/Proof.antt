@@ -15,49 +15,49 @@ abbrev G : tie.Start → Network
 G s = network s.args.starts.now s.args.neighbours.now s.args.weights.now
 
 -- behind the first test the network is accepted
-accepted : (c : tie.Else1) → Accepted (G c.before.before.before.before.before.before.before.before.before)
+accepted : (c : tie.Else-number-ne0) → Accepted (G c.before.before.before.before.before.before.before.before.before)
 accepted c =
     let n = c.before in
     let s = n.before.before.before.before.before.before.before.before in
-    (both_ready (G s) s.args.households.now s.args.sites.now (sym n.both-number.ensures ∙ c.if1.false)).0
+    (both_ready (G s) s.args.households.now s.args.sites.now (sym n.both_number-number.ensures ∙ c.if-number-ne0.false)).0
 
-both-number-requires : tie.Need-both-number-requires
-both-number-requires c κs = search rules
+both_number-number-requires : tie.Need-both_number-number-requires
+both_number-number-requires c κs = search rules
+
+returns-then-number-ne0 : tie.Need-returns-then-number-ne0
+unfolding sheet_number
+returns-then-number-ne0 c = first_is _ _ _ c.before.both_number-number.ensures c.if-number-ne0.true
+
+overflow_sub-n : tie.Need-overflow_sub-n
+overflow_sub-n c = omega (arith, (accepted c).some)
+
+scratch_number-number-requires : tie.Need-scratch_number-number-requires
+scratch_number-number-requires c κs = let ok = accepted c in (ok.few, ok.few_arcs, omega arith)
+
+returns-then-number-ne0-2 : tie.Need-returns-then-number-ne0-2
+unfolding sheet_number
+returns-then-number-ne0-2 c =
+    first_later _ _ _ _ c.before.before.before.both_number-number.ensures c.before.before.if-number-ne0.false
+    (first_is _ _ _ c.before.scratch_number-number.ensures c.if-number-ne0-2.true)
+
+short_number-requires : tie.Need-short_number-requires
+short_number-requires c κs = search rules
 
 returns : tie.Need-returns
 unfolding sheet_number
-returns c = first_is _ _ _ c.before.both-number.ensures c.if1.true
+returns c =
+    first_later _ _ _ _ c.before.before.before.before.both_number-number.ensures c.before.before.before.if-number-ne0.false
+    (first_later _ _ _ _ c.before.before.scratch_number-number.ensures c.before.if-number-ne0-2.false
+    (first_last _ _ c.short_number.ensures))
 
-sub-n : tie.Need-overflow-sub-n
-sub-n c = omega (arith, (accepted c).some)
-
-scratch-number-requires : tie.Need-scratch-number-requires
-scratch-number-requires c κs = let ok = accepted c in (ok.few, ok.few_arcs, omega arith)
-
-returns-2 : tie.Need-returns-2
-unfolding sheet_number
-returns-2 c =
-    first_later _ _ _ _ c.before.before.before.both-number.ensures c.before.before.if1.false
-    (first_is _ _ _ c.before.scratch-number.ensures c.if2.true)
-
-short-number-requires : tie.Need-short-number-requires
-short-number-requires c κs = search rules
-
-returns-3 : tie.Need-returns-3
-unfolding sheet_number
-returns-3 c =
-    first_later _ _ _ _ c.before.before.before.before.both-number.ensures c.before.before.before.if1.false
-    (first_later _ _ _ _ c.before.before.scratch-number.ensures c.before.if2.false
-    (first_last _ _ c.short-number.ensures))
-
-pub sheet-number-spec : {M : Type 1} → statement M
-sheet-number-spec =
+pub sheet_number_spec : {M : Type 1} → statement M
+sheet_number_spec =
     tie.close
     (tie.spec
-    both-number-requires
-    returns
-    sub-n
-    scratch-number-requires
-    returns-2
-    short-number-requires
-    returns-3)
+    both_number-number-requires
+    returns-then-number-ne0
+    overflow_sub-n
+    scratch_number-number-requires
+    returns-then-number-ne0-2
+    short_number-requires
+    returns)

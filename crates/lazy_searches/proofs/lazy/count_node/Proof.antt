@@ -7,69 +7,69 @@ use borrow.Author.Rules.{rules}
 use Rattle.lazy_searches.proofs.lazy.count_node.Statement.{statement}
 use Rattle.lazy_searches.proofs.lazy.count_node.Tie as tie
 
-abbrev near_of : tie.After-slice-known2 → tie.After-is-nearer
+abbrev near_of : tie.After-slice_known-then-is_nearer-1 → tie.After-is_nearer
 near_of c = c.before.before.before
 
-abbrev start_of : tie.After-is-nearer → tie.Start
+abbrev start_of : tie.After-is_nearer → tie.Start
 start_of n = n.before.before.before.before.before.before
 
-mul-label-of : tie.Need-overflow-mul-label-of
-mul-label-of c = search rules
+overflow_mul-n : tie.Need-overflow_mul-n
+overflow_mul-n c = search rules
 
-label-of-requires : tie.Need-label-of-requires
-label-of-requires c κs = search rules
+label_of-near-requires : tie.Need-label_of-near-requires
+label_of-near-requires c κs = search rules
 
-label-of-requires-2 : tie.Need-label-of-requires-2
-label-of-requires-2 c κs = search rules
+label_of-far-requires : tie.Need-label_of-far-requires
+label_of-far-requires c κs = search rules
 
-is-nearer-requires : tie.Need-is-nearer-requires
-is-nearer-requires c κs = search rules
+is_nearer-requires : tie.Need-is_nearer-requires
+is_nearer-requires c κs = search rules
 
-wide-requires : tie.Need-wide-requires
-wide-requires c κs = search rules
+wide-at-requires : tie.Need-wide-at-requires
+wide-at-requires c κs = search rules
 
-mul-s : tie.Need-overflow-mul-s
-mul-s c = search rules
+offset_bounds-s-at : tie.Need-offset_bounds-s-at
+offset_bounds-s-at c = search rules
 
-slice-read-s : tie.Need-slice-read-s
-slice-read-s c = search rules
+bounds-s-at : tie.Need-bounds-s-at
+bounds-s-at c = search rules
 
-add-s : tie.Need-overflow-add-s
-add-s c = record { fits = rw c.before.wide.ensures (omega (arith, (start_of (near_of c)).requires.3)) }
+overflow_add-s : tie.Need-overflow_add-s
+overflow_add-s c = record { fits = rw c.before.wide-at.ensures (omega (arith, (start_of (near_of c)).requires.3)) }
 
-slice-write-s : tie.Need-slice-write-s
-slice-write-s c = search rules
+bounds-s-at-then-is_nearer : tie.Need-bounds-s-at-then-is_nearer
+bounds-s-at-then-is_nearer c = search rules
 
-same_length : tie.Need-same-length
-same_length c = search rules
+shape_of-s-then-is_nearer : tie.Need-shape_of-s-then-is_nearer
+shape_of-s-then-is_nearer c = search rules
 
-returns : tie.Need-returns
-returns c =
+returns-then-is_nearer : tie.Need-returns-then-is_nearer
+returns-then-is_nearer c =
     let n = near_of c in
     let far = n.before in
-    let less = sym n.is-nearer.ensures ∙ c.before.before.if1.true in
-    rw c.before.wide.ensures (counted_more far.before.before.label_of.ensures far.label-of2.ensures less (omega (arith, (start_of n).pre.1)))
+    let less = sym n.is_nearer.ensures ∙ c.before.before.if-is_nearer.true in
+    rw c.before.wide-at.ensures (counted_more far.before.before.label_of-near.ensures far.label_of-far.ensures less (omega (arith, (start_of n).pre.1)))
 
-same-length-2 : tie.Need-same-length-2
-same-length-2 c = search rules
+shape_of-s-else-is_nearer : tie.Need-shape_of-s-else-is_nearer
+shape_of-s-else-is_nearer c = search rules
 
-returns-2 : tie.Need-returns-2
-returns-2 c = counted_same
+returns-else-is_nearer : tie.Need-returns-else-is_nearer
+returns-else-is_nearer c = counted_same
 
-pub count-node-spec : {M : Type 1} → statement M
-count-node-spec =
+pub count_node_spec : {M : Type 1} → statement M
+count_node_spec =
     tie.close
     (tie.spec
-    mul-label-of
-    label-of-requires
-    label-of-requires-2
-    is-nearer-requires
-    wide-requires
-    mul-s
-    slice-read-s
-    add-s
-    slice-write-s
-    same_length
-    returns
-    same-length-2
-    returns-2)
+    overflow_mul-n
+    label_of-near-requires
+    label_of-far-requires
+    is_nearer-requires
+    wide-at-requires
+    offset_bounds-s-at
+    bounds-s-at
+    overflow_add-s
+    bounds-s-at-then-is_nearer
+    shape_of-s-then-is_nearer
+    returns-then-is_nearer
+    shape_of-s-else-is_nearer
+    returns-else-is_nearer)

@@ -4,21 +4,21 @@ use borrow.Author.Rules.{rules}
 use Rattle.lazy_searches.proofs.lazy.is_closed.Statement.{statement}
 use Rattle.lazy_searches.proofs.lazy.is_closed.Tie as tie
 
-wide-requires : tie.Need-wide-requires
-wide-requires c κs = search rules
+wide-at-requires : tie.Need-wide-at-requires
+wide-at-requires c κs = search rules
 
-mul_wide : tie.Need-overflow-mul-wide
-mul_wide c = search rules
+offset_bounds-s-at : tie.Need-offset_bounds-s-at
+offset_bounds-s-at c = search rules
 
-shared-slice-read-wide : tie.Need-shared-slice-read-wide
-shared-slice-read-wide c = search rules
+bounds-s-at : tie.Need-bounds-s-at
+bounds-s-at c = search rules
 
-wide-requires-2 : tie.Need-wide-requires-2
-wide-requires-2 c κs = search rules
+wide-count-requires : tie.Need-wide-count-requires
+wide-count-requires c κs = search rules
 
 returns : tie.Need-returns
-returns c = rw (c.wide2.ensures, c.before.before.wide.ensures)
+returns c = rw (c.wide-count.ensures, c.before.before.wide-at.ensures)
 
-pub is-closed-spec : {M : Type 1} → statement M
-is-closed-spec =
-    tie.close (tie.spec wide-requires mul_wide shared-slice-read-wide wide-requires-2 returns)
+pub is_closed_spec : {M : Type 1} → statement M
+is_closed_spec =
+    tie.close (tie.spec wide-at-requires offset_bounds-s-at bounds-s-at wide-count-requires returns)

@@ -5,11 +5,11 @@ use native.Mathlib.Omega.{arith}
 use Rattle.lazy_searches.proofs.lazy.is_nearer.Statement.{statement}
 use Rattle.lazy_searches.proofs.lazy.is_nearer.Tie as tie
 
+returns-then-near-far : tie.Need-returns-then-near-far
+returns-then-near-far c = rw (lt-ltb c.before.args.near c.before.args.far (omega (arith, c.if-near-far.true)))
+
 returns : tie.Need-returns
-returns c = rw (lt-ltb c.before.args.near c.before.args.far (omega (arith, c.if1.true)))
+returns c = rw (le-ltb c.before.args.near c.before.args.far (omega (arith, c.if-near-far.false)))
 
-returns-2 : tie.Need-returns-2
-returns-2 c = rw (le-ltb c.before.args.near c.before.args.far (omega (arith, c.if1.false)))
-
-pub is-nearer-spec : {M : Type 1} → statement M
-is-nearer-spec = tie.close (tie.spec returns returns-2)
+pub is_nearer_spec : {M : Type 1} → statement M
+is_nearer_spec = tie.close (tie.spec returns-then-near-far returns)

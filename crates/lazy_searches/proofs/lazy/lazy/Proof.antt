@@ -7,26 +7,26 @@ use borrow.Author.Rules.{rules}
 use Rattle.lazy_searches.proofs.lazy.lazy.Statement.{statement}
 use Rattle.lazy_searches.proofs.lazy.lazy.Tie as tie
 
-sub-n : tie.Need-overflow-sub-n
-sub-n c = search rules
+overflow_sub-n : tie.Need-overflow_sub-n
+overflow_sub-n c = search rules
 
-mul-b : tie.Need-overflow-mul-b
-mul-b c = search rules
+overflow_mul-b : tie.Need-overflow_mul-b
+overflow_mul-b c = search rules
 
 explore-requires : tie.Need-explore-requires
 explore-requires c κs = search rules
 
-write-found-requires : tie.Need-write-found-requires
-write-found-requires c κs = search rules
+write_found-size-requires : tie.Need-write_found-size-requires
+write_found-size-requires c κs = search rules
 
 zero-requires : tie.Need-zero-requires
 zero-requires c κs = search rules
 
-same_length : tie.Need-same-length
-same_length c = search rules
+shape_of-s : tie.Need-shape_of-s
+shape_of-s c = search rules
 
-same-length-2 : tie.Need-same-length-2
-same-length-2 c = search rules
+shape_of-answers : tie.Need-shape_of-answers
+shape_of-answers c = search rules
 
 returns : tie.Need-returns
 returns c =
@@ -35,20 +35,20 @@ returns c =
     let e = f.before.before.before.before.before in
     let d = e.explore.ensures.found in
     record {
-      sized = f.write-found.ensures.1 ∙ ap length d;
-      answers = rw (← d) f.write-found.ensures.0;
+      sized = f.write_found-size.ensures.1 ∙ ap length d;
+      answers = rw (← d) f.write_found-size.ensures.0;
       area = wiped_zero e.explore.new.1.1.1.1.0 e.explore.ensures.size z.zero.ensures;
     }
 
-pub lazy-spec : {M : Type 1} → statement M
-lazy-spec =
+pub lazy_spec : {M : Type 1} → statement M
+lazy_spec =
     tie.close
     (tie.spec
-    sub-n
-    mul-b
+    overflow_sub-n
+    overflow_mul-b
     explore-requires
-    write-found-requires
+    write_found-size-requires
     zero-requires
-    same_length
-    same-length-2
+    shape_of-s
+    shape_of-answers
     returns)

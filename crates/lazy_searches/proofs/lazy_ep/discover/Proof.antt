@@ -13,70 +13,70 @@ use borrow.Author.Rules.{rules}
 use Rattle.lazy_searches.proofs.lazy_ep.discover.Statement.{statement}
 use Rattle.lazy_searches.proofs.lazy_ep.discover.Tie as tie
 
-abbrev start_of : tie.After-wide → tie.Start
+abbrev start_of : tie.After-wide-at → tie.Start
 start_of w = w.before.before.before.before.before.before
 
-abbrev wide_of : tie.After-verify-point → tie.After-wide
+abbrev wide_of : tie.After-verify_point → tie.After-wide-at
 wide_of v = v.before.before.before.before
 
 -- the byte of the node
-mark : (c : tie.Else1) → marked (start_of c.before.before).args.points.now (start_of c.before.before).args.v ≡ true
+mark : (c : tie.Else-mark-eq0) → marked (start_of c.before.before).args.points.now (start_of c.before.before).args.v ≡ true
 mark c =
     let w = c.before.before in
     let a = (start_of w).args in
-    lt-ltb 0 (get_or a.points.now a.v 0) (omega (arith, ap (λ i. get_or a.points.now i 0) w.wide.ensures, c.if1.false))
+    lt-ltb 0 (get_or a.points.now a.v 0) (omega (arith, ap (λ i. get_or a.points.now i 0) w.wide-at.ensures, c.if-mark-eq0.false))
 
-wide-requires : tie.Need-wide-requires
-wide-requires c κs = search rules
+wide-at-requires : tie.Need-wide-at-requires
+wide-at-requires c κs = search rules
 
-shared-slice-read-mark : tie.Need-shared-slice-read-mark
-shared-slice-read-mark c = search rules
+bounds-points-at : tie.Need-bounds-points-at
+bounds-points-at c = search rules
 
-returns : tie.Need-returns
-returns c =
+returns-then-mark-eq0 : tie.Need-returns-then-mark-eq0
+returns-then-mark-eq0 c =
     let w = c.before.before in
     let a = (start_of w).args in
     no_point (start_of w).requires
-    (le-ltb 0 (get_or a.points.now a.v 0) (omega (arith, ap (λ i. get_or a.points.now i 0) w.wide.ensures, c.if1.true)))
+    (le-ltb 0 (get_or a.points.now a.v 0) (omega (arith, ap (λ i. get_or a.points.now i 0) w.wide-at.ensures, c.if-mark-eq0.true)))
 
-verify-point-requires : tie.Need-verify-point-requires
-verify-point-requires c κs =
+verify_point-requires : tie.Need-verify_point-requires
+verify_point-requires c κs =
     let s = start_of c.before.before.before in
     (can_verify s.pre, (omega (arith, s.pre.rows, s.pre.accepted.some), mark c.before))
 
-slice-relend-prefix-admit : tie.Need-slice-relend-prefix-admit
-slice-relend-prefix-admit c = search rules
+slice_bounds-admit-end : tie.Need-slice_bounds-admit-end
+slice_bounds-admit-end c = search rules
 
-slice-aggregate-admit : tie.Need-slice-aggregate-admit
-slice-aggregate-admit c =
+slice_bounds-admit-end-2 : tie.Need-slice_bounds-admit-end-2
+slice_bounds-admit-end-2 c =
     let v = c.before.before.before in
     let s = start_of (wide_of v) in
-    sym (length-take-le s.args.inner v.verify-point.new.1.1.1.1.0 (omega (arith, v.verify-point.ensures.size, s.pre.size)))
+    sym (length-take-le s.args.inner v.verify_point.new.1.1.1.1.0 (omega (arith, v.verify_point.ensures.size, s.pre.size)))
 
 admit-requires : tie.Need-admit-requires
 admit-requires c κs =
     let v = c.before.before.before in
-    can_admit (start_of (wide_of v)).requires v.verify-point.ensures
+    can_admit (start_of (wide_of v)).requires v.verify_point.ensures
 
-same_length : tie.Need-same-length
-same_length c = search rules
+shape_of-f : tie.Need-shape_of-f
+shape_of-f c = search rules
 
-returns-2 : tie.Need-returns-2
-returns-2 c =
+returns : tie.Need-returns
+returns c =
     let m = c.before.before in
     let v = m.before.before.before.before in
-    discovered (start_of (wide_of v)).requires v.verify-point.ensures (mark v.before.before) m.admit.ensures
+    discovered (start_of (wide_of v)).requires v.verify_point.ensures (mark v.before.before) m.admit.ensures
 
-pub discover-spec : {M : Type 1} → statement M
-discover-spec =
+pub discover_spec : {M : Type 1} → statement M
+discover_spec =
     tie.close
     (tie.spec
-    wide-requires
-    shared-slice-read-mark
-    returns
-    verify-point-requires
-    slice-relend-prefix-admit
-    slice-aggregate-admit
+    wide-at-requires
+    bounds-points-at
+    returns-then-mark-eq0
+    verify_point-requires
+    slice_bounds-admit-end
+    slice_bounds-admit-end-2
     admit-requires
-    same_length
-    returns-2)
+    shape_of-f
+    returns)

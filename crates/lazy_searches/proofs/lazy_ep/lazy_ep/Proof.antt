@@ -9,26 +9,26 @@ use borrow.Author.Rules.{rules}
 use Rattle.lazy_searches.proofs.lazy_ep.lazy_ep.Statement.{statement}
 use Rattle.lazy_searches.proofs.lazy_ep.lazy_ep.Tie as tie
 
-abbrev start_of : tie.After-settle-found → tie.Start
+abbrev start_of : tie.After-settle_found → tie.Start
 start_of f = f.before.before.before.before.before.before.before.before
 
-abbrev found_of : tie.After-write-found → tie.After-settle-found
+abbrev found_of : tie.After-write_found-size → tie.After-settle_found
 found_of w = w.before.before.before.before.before
 
-sub-n : tie.Need-overflow-sub-n
-sub-n c = search rules
+overflow_sub-n : tie.Need-overflow_sub-n
+overflow_sub-n c = search rules
 
-mul-area : tie.Need-overflow-mul-area
-mul-area c = search rules
+overflow_mul-area : tie.Need-overflow_mul-area
+overflow_mul-area c = search rules
 
-sub-outer : tie.Need-overflow-sub-outer
-sub-outer c = search rules
+overflow_sub-outer : tie.Need-overflow_sub-outer
+overflow_sub-outer c = search rules
 
-sub-inner : tie.Need-overflow-sub-inner
-sub-inner c = search rules
+overflow_sub-inner : tie.Need-overflow_sub-inner
+overflow_sub-inner c = search rules
 
-settle-found-requires : tie.Need-settle-found-requires
-settle-found-requires c κs =
+settle_found-requires : tie.Need-settle_found-requires
+settle_found-requires c κs =
     let p = c.before.before.before.before.before.before.before.requires in
     record {
       accepted = p.accepted;
@@ -40,50 +40,50 @@ settle-found-requires c κs =
       size = omega (arith, p.size);
     }
 
-write-found-requires : tie.Need-write-found-requires
-write-found-requires c κs = search rules
+write_found-size-requires : tie.Need-write_found-size-requires
+write_found-size-requires c κs = search rules
 
 zero-requires : tie.Need-zero-requires
 zero-requires c κs = search rules
 
-same_length : tie.Need-same-length
-same_length c = search rules
+shape_of-s : tie.Need-shape_of-s
+shape_of-s c = search rules
 
-same-length-2 : tie.Need-same-length-2
-same-length-2 c = search rules
+shape_of-answers : tie.Need-shape_of-answers
+shape_of-answers c = search rules
 
 returns : tie.Need-returns
 returns c =
     let z = c.before.before in
     let w = z.before.before.before.before in
     let f = found_of w in
-    let same = f.settle-found.ensures.found in
-    let n = length f.settle-found.last.1.1.1.1.0 in
+    let same = f.settle_found.ensures.found in
+    let n = length f.settle_found.last.1.1.1.1.0 in
     record {
-      sized = w.write-found.ensures.1 ∙ ap length same;
-      answers = rw same at w.write-found.ensures.0;
+      sized = w.write_found-size.ensures.1 ∙ ap length same;
+      answers = rw same at w.write_found-size.ensures.0;
       area =
           record {
             frame =
                 record {
-                  size = ap length z.zero.ensures ∙ length-replicate n 0 ∙ f.settle-found.ensures.size;
+                  size = ap length z.zero.ensures ∙ length-replicate n 0 ∙ f.settle_found.ensures.size;
                   words = λ i h. absurd (omega arith);
                 };
             blank = zero_blank n 0 z.zero.ensures;
           };
     }
 
-pub lazy-ep-spec : {M : Type 1} → statement M
-lazy-ep-spec =
+pub lazy_ep_spec : {M : Type 1} → statement M
+lazy_ep_spec =
     tie.close
     (tie.spec
-    sub-n
-    mul-area
-    sub-outer
-    sub-inner
-    settle-found-requires
-    write-found-requires
+    overflow_sub-n
+    overflow_mul-area
+    overflow_sub-outer
+    overflow_sub-inner
+    settle_found-requires
+    write_found-size-requires
     zero-requires
-    same_length
-    same-length-2
+    shape_of-s
+    shape_of-answers
     returns)

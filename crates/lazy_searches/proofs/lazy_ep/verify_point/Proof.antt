@@ -6,49 +6,49 @@ use borrow.Author.Rules.{rules}
 use Rattle.lazy_searches.proofs.lazy_ep.verify_point.Statement.{statement}
 use Rattle.lazy_searches.proofs.lazy_ep.verify_point.Tie as tie
 
-abbrev start_of : tie.After-verify → tie.Start
+abbrev start_of : tie.After-verify-yes → tie.Start
 start_of v = v.before.before.before.before.before.before.before
 
-verify-requires : tie.Need-verify-requires
-verify-requires c κs = search rules
+verify-yes-requires : tie.Need-verify-yes-requires
+verify-yes-requires c κs = search rules
 
-wide-requires : tie.Need-wide-requires
-wide-requires c κs = search rules
+wide-at-requires : tie.Need-wide-at-requires
+wide-at-requires c κs = search rules
 
-mul-f : tie.Need-overflow-mul-f
-mul-f c = search rules
+offset_bounds-f-at : tie.Need-offset_bounds-f-at
+offset_bounds-f-at c = search rules
 
-slice-write-f : tie.Need-slice-write-f
-slice-write-f c = search rules
+bounds-f-at : tie.Need-bounds-f-at
+bounds-f-at c = search rules
 
-same_length : tie.Need-same-length
-same_length c = search rules
+shape_of-f-then-yes : tie.Need-shape_of-f-then-yes
+shape_of-f-then-yes c = search rules
 
-returns : tie.Need-returns
-returns c =
+returns-then-yes : tie.Need-returns-then-yes
+returns-then-yes c =
     let w = c.before.before in
     let v = w.before.before in
     let s = start_of v in
-    rw c.wide.ensures (point_yes s.pre.0 (omega (arith, s.pre.1.0)) s.pre.1.1 v.verify.ensures c.before.if1.true)
+    rw c.wide-at.ensures (point_yes s.pre.0 (omega (arith, s.pre.1.0)) s.pre.1.1 v.verify-yes.ensures c.before.if-yes.true)
 
-same-length-2 : tie.Need-same-length-2
-same-length-2 c = search rules
+shape_of-f-else-yes : tie.Need-shape_of-f-else-yes
+shape_of-f-else-yes c = search rules
 
-returns-2 : tie.Need-returns-2
-returns-2 c =
+returns-else-yes : tie.Need-returns-else-yes
+returns-else-yes c =
     let v = c.before.before.before in
     let s = start_of v in
-    point_no s.pre.0 (omega (arith, s.pre.1.0)) s.pre.1.1 v.verify.ensures c.if1.false
+    point_no s.pre.0 (omega (arith, s.pre.1.0)) s.pre.1.1 v.verify-yes.ensures c.if-yes.false
 
-pub verify-point-spec : {M : Type 1} → statement M
-verify-point-spec =
+pub verify_point_spec : {M : Type 1} → statement M
+verify_point_spec =
     tie.close
     (tie.spec
-    verify-requires
-    wide-requires
-    mul-f
-    slice-write-f
-    same_length
-    returns
-    same-length-2
-    returns-2)
+    verify-yes-requires
+    wide-at-requires
+    offset_bounds-f-at
+    bounds-f-at
+    shape_of-f-then-yes
+    returns-then-yes
+    shape_of-f-else-yes
+    returns-else-yes)

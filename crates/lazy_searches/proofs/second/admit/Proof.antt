@@ -23,77 +23,77 @@ row : (w : tie.After-wide) → w.wide.result * (start_of w).args.k + (start_of w
 row w = row_fits w.wide.result (node_count (G (start_of w))) (start_of w).args.k (omega (arith, w.wide.ensures, (start_of w).requires.inside))
 
 -- the place that was found
-found : (p : tie.After-place-for)
+found : (p : tie.After-place_for-place)
     → let a = (start_of p.before.before).args in
     let n = node_count (G (start_of p.before.before)) in
-    PlaceFor a.s.now (n + a.u * a.k) (words_base n a.k + a.u * a.k) a.k a.p a.d p.place-for.result
-found p = rw p.before.before.wide.ensures at p.place-for.ensures
+    PlaceFor a.s-1.now (n + a.u * a.k) (words_base n a.k + a.u * a.k) a.k a.p a.d p.place_for-place.result
+found p = rw p.before.before.wide.ensures at p.place_for-place.ensures
 
-low : (c : tie.Else1) → c.before.place-for.result < (start_of c.before.before.before).args.k
-low c = omega (arith, (found c.before).most, c.if1.false)
+low : (c : tie.Else-place-k) → c.before.place_for-place.result < (start_of c.before.before.before).args.k
+low c = omega (arith, (found c.before).most, c.if-place-k.false)
 
-sub-n : tie.Need-overflow-sub-n
-sub-n c = search rules
+overflow_sub-n : tie.Need-overflow_sub-n
+overflow_sub-n c = search rules
 
 wide-requires : tie.Need-wide-requires
 wide-requires c κs = search rules
 
-mul-row : tie.Need-overflow-mul-row
-mul-row c = omega (arith, row c, (start_of c).requires.second.fits)
+overflow_mul-row : tie.Need-overflow_mul-row
+overflow_mul-row c = omega (arith, row c, (start_of c).requires.second.fits)
 
-add_a : tie.Need-overflow-add-a
-add_a c = omega (arith, row c, (start_of c).requires.second.fits)
+overflow_add-a : tie.Need-overflow_add-a
+overflow_add-a c = omega (arith, row c, (start_of c).requires.second.fits)
 
-mul-b : tie.Need-overflow-mul-b
-mul-b c = search rules
+overflow_mul-b : tie.Need-overflow_mul-b
+overflow_mul-b c = search rules
 
-add-b : tie.Need-overflow-add-b
-add-b c = search rules
+overflow_add-b : tie.Need-overflow_add-b
+overflow_add-b c = search rules
 
-add-b-2 : tie.Need-overflow-add-b-2
-add-b-2 c = omega (arith, row c, (start_of c).requires.second.fits)
+overflow_add-b-2 : tie.Need-overflow_add-b-2
+overflow_add-b-2 c = omega (arith, row c, (start_of c).requires.second.fits)
 
-place-for-requires : tie.Need-place-for-requires
-place-for-requires c κs =
+place_for-place-requires : tie.Need-place_for-place-requires
+place_for-place-requires c κs =
     let w = c.before in
     (omega (arith, row w, (start_of w).requires.second.fits), omega (arith, row w, (start_of w).requires.second.fits))
 
-same_length : tie.Need-same-length
-same_length c = search rules
+shape_of-s-then-place-k : tie.Need-shape_of-s-then-place-k
+shape_of-s-then-place-k c = search rules
 
-returns : tie.Need-returns
-returns c = admitted_not (start_of c.before.before.before).requires.second
+returns-then-place-k : tie.Need-returns-then-place-k
+returns-then-place-k c = admitted_not (start_of c.before.before.before).requires.second
 
-add-s : tie.Need-overflow-add-s
-add-s c =
+overflow_add-s : tie.Need-overflow_add-s
+overflow_add-s c =
     let w = c.before.before.before in
     omega (arith, row w, (start_of w).requires.second.fits, low c)
 
-mul-s : tie.Need-overflow-mul-s
-mul-s c =
+offset_bounds-s-a : tie.Need-offset_bounds-s-a
+offset_bounds-s-a c =
     let w = c.before.before.before in
     omega (arith, row w, (start_of w).requires.second.fits, low c)
 
-slice-write-s : tie.Need-slice-write-s
-slice-write-s c =
+bounds-s-a : tie.Need-bounds-s-a
+bounds-s-a c =
     let w = c.before.before.before in
     omega (arith, row w, (start_of w).requires.second.fits, low c)
 
-add-s-2 : tie.Need-overflow-add-s-2
-add-s-2 c = search rules
+overflow_add-s-2 : tie.Need-overflow_add-s-2
+overflow_add-s-2 c = search rules
 
-add-s-3 : tie.Need-overflow-add-s-3
-add-s-3 c =
+overflow_add-s-3 : tie.Need-overflow_add-s-3
+overflow_add-s-3 c =
     let w = c.before.before.before in
     omega (arith, row w, (start_of w).requires.second.fits, low c)
 
-mul-s-2 : tie.Need-overflow-mul-s-2
-mul-s-2 c =
+offset_bounds-s-b : tie.Need-offset_bounds-s-b
+offset_bounds-s-b c =
     let w = c.before.before.before in
     omega (arith, row w, (start_of w).requires.second.fits, low c)
 
-slice-write-s-2 : tie.Need-slice-write-s-2
-slice-write-s-2 c =
+bounds-s-b : tie.Need-bounds-s-b
+bounds-s-b c =
     let w = c.before.before.before in
     simp length-set (omega (arith, row w, (start_of w).requires.second.fits, low c))
 
@@ -110,39 +110,39 @@ offer-requires c κs =
       fits = p.fits;
     }
 
-same-length-2 : tie.Need-same-length-2
-same-length-2 c =
+shape_of-s : tie.Need-shape_of-s
+shape_of-s c =
     let o = c.before.before in
     o.offer.ensures.frame.size ∙ simp length-set
 
-returns-2 : tie.Need-returns-2
-returns-2 c =
+returns : tie.Need-returns
+returns c =
     let o = c.before.before in
     let e = o.before.before in
     let w = e.before.before.before in
     admitted (start_of w).requires (found e.before) (low e) (rw w.wide.ensures at o.offer.ensures)
 
-pub admit-spec : {M : Type 1} → statement M
-admit-spec =
+pub admit_spec : {M : Type 1} → statement M
+admit_spec =
     tie.close
     (tie.spec
-    sub-n
+    overflow_sub-n
     wide-requires
-    mul-row
-    add_a
-    mul-b
-    add-b
-    add-b-2
-    place-for-requires
-    same_length
-    returns
-    add-s
-    mul-s
-    slice-write-s
-    add-s-2
-    add-s-3
-    mul-s-2
-    slice-write-s-2
+    overflow_mul-row
+    overflow_add-a
+    overflow_mul-b
+    overflow_add-b
+    overflow_add-b-2
+    place_for-place-requires
+    shape_of-s-then-place-k
+    returns-then-place-k
+    overflow_add-s
+    offset_bounds-s-a
+    bounds-s-a
+    overflow_add-s-2
+    overflow_add-s-3
+    offset_bounds-s-b
+    bounds-s-b
     offer-requires
-    same-length-2
-    returns-2)
+    shape_of-s
+    returns)

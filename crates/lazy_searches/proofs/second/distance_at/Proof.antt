@@ -4,17 +4,17 @@ use borrow.Author.Rules.{rules}
 use Rattle.lazy_searches.proofs.second.distance_at.Statement.{statement}
 use Rattle.lazy_searches.proofs.second.distance_at.Tie as tie
 
-mul-distance-of : tie.Need-overflow-mul-distance-of
-mul-distance-of c = search rules
+offset_bounds-s-at : tie.Need-offset_bounds-s-at
+offset_bounds-s-at c = search rules
 
-shared-slice-read-distance-of : tie.Need-shared-slice-read-distance-of
-shared-slice-read-distance-of c = search rules
+bounds-s-at : tie.Need-bounds-s-at
+bounds-s-at c = search rules
 
-distance-of-requires : tie.Need-distance-of-requires
-distance-of-requires c κs = search rules
+distance_of-distance-requires : tie.Need-distance_of-distance-requires
+distance_of-distance-requires c κs = search rules
 
 returns : tie.Need-returns
-returns c = c.distance-of.ensures
+returns c = c.distance_of-distance.ensures
 
-pub distance-at-spec : {M : Type 1} → statement M
-distance-at-spec = tie.close (tie.spec mul-distance-of shared-slice-read-distance-of distance-of-requires returns)
+pub distance_at_spec : {M : Type 1} → statement M
+distance_at_spec = tie.close (tie.spec offset_bounds-s-at bounds-s-at distance_of-distance-requires returns)

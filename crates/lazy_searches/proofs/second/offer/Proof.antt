@@ -16,184 +16,184 @@ use borrow.Author.Rules.{rules}
 use Rattle.lazy_searches.proofs.second.offer.Statement.{statement}
 use Rattle.lazy_searches.proofs.second.offer.Tie as tie
 
-abbrev invariant-loop : tie.invariant-loop
-invariant-loop starts neighbours weights s₀ k len p u d n at ahead weighed more₀ j₀ s more j = (j ≤ length ahead) × OfferedSecond (network starts neighbours weights) s₀ s k len more p u d j
+abbrev invariant-loop-j : tie.invariant-loop-j
+invariant-loop-j starts neighbours weights s₀ k len p u d n at ahead weighed more₀ j₀ s more j = (j ≤ length ahead) × OfferedSecond (network starts neighbours weights) s₀ s k len more p u d j
 
-abbrev decreases-loop : tie.decreases-loop
-decreases-loop starts neighbours weights s₀ k len p u d n at ahead weighed more₀ j₀ s more j = length ahead - j
+abbrev decreases-loop-j : tie.decreases-loop-j
+decreases-loop-j starts neighbours weights s₀ k len p u d n at ahead weighed more₀ j₀ s more j = length ahead - j
 
-abbrev G : tie.Start invariant-loop decreases-loop → Network
+abbrev G : tie.Start invariant-loop-j decreases-loop-j → Network
 G s = network s.args.starts.now s.args.neighbours.now s.args.weights.now
 
 -- the parts of the node, and the arc at place j
-abbrev start : tie.After-weights-of invariant-loop decreases-loop → tie.Start invariant-loop decreases-loop
+abbrev start : tie.After-weights_of-weighed invariant-loop-j decreases-loop-j → tie.Start invariant-loop-j decreases-loop-j
 start c = c.before.before.before.before.before.before.before.before
 
-ahead : (c : tie.After-weights-of invariant-loop decreases-loop) → c.before.before.neighbours-of.result.now ≡ neighbours_of (G (start c)) (start c).args.u
-ahead c = rw c.before.before.before.wide.ensures at c.before.before.neighbours-of.ensures
+ahead : (c : tie.After-weights_of-weighed invariant-loop-j decreases-loop-j) → c.before.before.neighbours_of-ahead.result.now ≡ neighbours_of (G (start c)) (start c).args.u
+ahead c = rw c.before.before.before.wide.ensures at c.before.before.neighbours_of-ahead.ensures
 
-weighed : (c : tie.After-weights-of invariant-loop decreases-loop) → c.weights-of.result.now ≡ weights_of (G (start c)) (start c).args.u
-weighed c = rw c.before.wide2.ensures at c.weights-of.ensures
+weighed : (c : tie.After-weights_of-weighed invariant-loop-j decreases-loop-j) → c.weights_of-weighed.result.now ≡ weights_of (G (start c)) (start c).args.u
+weighed c = rw c.before.wide-2.ensures at c.weights_of-weighed.ensures
 
-place : (c : tie.In-loop invariant-loop decreases-loop)
+place : (c : tie.In-loop-j invariant-loop-j decreases-loop-j)
     → let s = start c.before.before in
-    ArcAt (G s) s.args.u c.before.loop.j c.before.before.before.before.neighbours-of.result.now c.before.before.weights-of.result.now
+    ArcAt (G s) s.args.u c.before.loop-j.j c.before.before.before.before.neighbours_of-ahead.result.now c.before.before.weights_of-weighed.result.now
 place c =
     let w = c.before.before in
     let s = start w in
-    arc_handed s.pre.accepted s.pre.inside (ahead w) (weighed w) c.loop-test.true
+    arc_handed s.pre.accepted s.pre.inside (ahead w) (weighed w) c.loop-j-test.true
 
-sub-n : tie.Need-overflow-sub-n invariant-loop decreases-loop
-sub-n c = search rules
+overflow_sub-n : tie.Need-overflow_sub-n invariant-loop-j decreases-loop-j
+overflow_sub-n c = search rules
 
-mul_at : tie.Need-overflow-mul-at invariant-loop decreases-loop
-mul_at c = search rules
+overflow_mul-at : tie.Need-overflow_mul-at invariant-loop-j decreases-loop-j
+overflow_mul-at c = search rules
 
-mul-at-2 : tie.Need-overflow-mul-at-2 invariant-loop decreases-loop
-mul-at-2 c = search rules
+overflow_mul-at-2 : tie.Need-overflow_mul-at-2 invariant-loop-j decreases-loop-j
+overflow_mul-at-2 c = search rules
 
-add_at : tie.Need-overflow-add-at invariant-loop decreases-loop
-add_at c = search rules
+overflow_add-at : tie.Need-overflow_add-at invariant-loop-j decreases-loop-j
+overflow_add-at c = search rules
 
-wide-requires : tie.Need-wide-requires invariant-loop decreases-loop
+wide-requires : tie.Need-wide-requires invariant-loop-j decreases-loop-j
 wide-requires c κs = search rules
 
-neighbours-of-requires : tie.Need-neighbours-of-requires invariant-loop decreases-loop
-neighbours-of-requires c κs =
+neighbours_of-ahead-requires : tie.Need-neighbours_of-ahead-requires invariant-loop-j decreases-loop-j
+neighbours_of-ahead-requires c κs =
     let s = c.before.before.before.before.before in
     (accepted_searchable s.requires.accepted).neighbours.part _ (omega (arith, c.wide.ensures, s.requires.inside))
 
-wide-requires-2 : tie.Need-wide-requires-2 invariant-loop decreases-loop
+wide-requires-2 : tie.Need-wide-requires-2 invariant-loop-j decreases-loop-j
 wide-requires-2 c κs = search rules
 
-weights-of-requires : tie.Need-weights-of-requires invariant-loop decreases-loop
-weights-of-requires c κs =
+weights_of-weighed-requires : tie.Need-weights_of-weighed-requires invariant-loop-j decreases-loop-j
+weights_of-weighed-requires c κs =
     let s = c.before.before.before.before.before.before.before in
-    (accepted_searchable s.requires.accepted).weights.part _ (omega (arith, c.wide2.ensures, s.requires.inside))
+    (accepted_searchable s.requires.accepted).weights.part _ (omega (arith, c.wide-2.ensures, s.requires.inside))
 
-loop-holds : tie.Need-loop-init invariant-loop decreases-loop
+loop-holds : tie.Need-loop-j-init invariant-loop-j decreases-loop-j
 loop-holds c = (omega arith, offered_none (start c).requires.second)
 
-mul-to : tie.Need-overflow-mul-to invariant-loop decreases-loop
-mul-to c = search rules
+offset_bounds-ahead-j : tie.Need-offset_bounds-ahead-j invariant-loop-j decreases-loop-j
+offset_bounds-ahead-j c = search rules
 
-shared-slice-read-to : tie.Need-shared-slice-read-to invariant-loop decreases-loop
-shared-slice-read-to c = search rules
+bounds-ahead-j : tie.Need-bounds-ahead-j invariant-loop-j decreases-loop-j
+bounds-ahead-j c = search rules
 
-mul-far : tie.Need-overflow-mul-far invariant-loop decreases-loop
-mul-far c = search rules
+offset_bounds-weighed-j : tie.Need-offset_bounds-weighed-j invariant-loop-j decreases-loop-j
+offset_bounds-weighed-j c = search rules
 
-shared-slice-read-far : tie.Need-shared-slice-read-far invariant-loop decreases-loop
-shared-slice-read-far c = (place c.before.before).weighed
+bounds-weighed-j : tie.Need-bounds-weighed-j invariant-loop-j decreases-loop-j
+bounds-weighed-j c = (place c.before.before).weighed
 
-add-far : tie.Need-overflow-add-far invariant-loop decreases-loop
-add-far c =
+overflow_add-far : tie.Need-overflow_add-far invariant-loop-j decreases-loop-j
+overflow_add-far c =
     let s = start c.before.before.before.before in
     omega (arith, s.pre.accepted.weight_high (place c.before.before).arc, (place c.before.before).weight, s.pre.fits)
 
-add-j : tie.Need-overflow-add-j invariant-loop decreases-loop
-add-j c = search rules
+overflow_add-j : tie.Need-overflow_add-j invariant-loop-j decreases-loop-j
+overflow_add-j c = search rules
 
-place-in-row-requires : tie.Need-place-in-row-requires invariant-loop decreases-loop
-place-in-row-requires c κs =
+place_in_row-place-requires : tie.Need-place_in_row-place-requires invariant-loop-j decreases-loop-j
+place_in_row-place-requires c κs =
     let i = c.before.before.before in
     let s = start i.before.before in
-    (omega (arith, s.pre.second.fits, i.before.loop.invariant.1.frame.size), omega (arith, s.pre.accepted.leads_in (place i).arc, (place i).to))
+    (omega (arith, s.pre.second.fits, i.before.loop-j.invariant.1.frame.size), omega (arith, s.pre.accepted.leads_in (place i).arc, (place i).to))
 
-loop-less : tie.Need-loop-smaller invariant-loop decreases-loop
+loop-less : tie.Need-loop-j-smaller-then-place-k invariant-loop-j decreases-loop-j
 loop-less c = search rules
 
-loop-again : tie.Need-loop-preserved invariant-loop decreases-loop
+loop-again : tie.Need-loop-j-preserved-then-place-k invariant-loop-j decreases-loop-j
 loop-again c =
     let i = c.before.before.before.before.before in
-    (omega arith, offered_skip i.before.loop.invariant.1)
+    (omega arith, offered_skip i.before.loop-j.invariant.1)
 
-sub-if2 : tie.Need-overflow-sub-if2 invariant-loop decreases-loop
-sub-if2 c =
+overflow_sub-s : tie.Need-overflow_sub-s invariant-loop-j decreases-loop-j
+overflow_sub-s c =
     let i = c.before.before.before.before.before in
-    omega (arith, (start i.before.before).pre.second.fits, i.before.loop.invariant.1.frame.size)
+    omega (arith, (start i.before.before).pre.second.fits, i.before.loop-j.invariant.1.frame.size)
 
-tag-of-requires : tie.Need-tag-of-requires invariant-loop decreases-loop
-tag-of-requires c κs =
+tag_of-tag-requires : tie.Need-tag_of-tag-requires invariant-loop-j decreases-loop-j
+tag_of-tag-requires c κs =
     let i = c.before.before.before.before.before.before in
     let s = start i.before.before in
     let f = s.pre.accepted.few in
     (omega (arith, s.pre.point), omega (arith, s.pre.accepted.leads_in (place i).arc, (place i).to))
 
-push-at-requires : tie.Need-push-at-requires invariant-loop decreases-loop
-push-at-requires c κs =
+push_at-requires : tie.Need-push_at-requires invariant-loop-j decreases-loop-j
+push_at-requires c κs =
     let i = c.before.before.before.before.before.before.before.before in
-    let f = i.before.loop.invariant.1 in
-    (f.second.queue, omega (arith, c.before.before.if2.true))
+    let f = i.before.loop-j.invariant.1 in
+    (f.second.queue, omega (arith, c.before.before.if-more-s.true))
 
-add-more : tie.Need-overflow-add-more invariant-loop decreases-loop
-add-more c =
+overflow_add-more : tie.Need-overflow_add-more invariant-loop-j decreases-loop-j
+overflow_add-more c =
     let t = c.before.before.before.before.before in
     let i = t.before.before.before.before.before.before in
-    omega (arith, t.if2.true, i.before.loop.invariant.1.frame.size, (start i.before.before).good.1.1.1.0)
+    omega (arith, t.if-more-s.true, i.before.loop-j.invariant.1.frame.size, (start i.before.before).good.1.1.1.0)
 
-loop-less-2 : tie.Need-loop-smaller-2 invariant-loop decreases-loop
+loop-less-2 : tie.Need-loop-j-smaller-then-more-s invariant-loop-j decreases-loop-j
 loop-less-2 c = search rules
 
-loop-again-2 : tie.Need-loop-preserved-2 invariant-loop decreases-loop
+loop-again-2 : tie.Need-loop-j-preserved-then-more-s invariant-loop-j decreases-loop-j
 loop-again-2 c =
     let t = c.before.before.before.before in
     let i = t.before.before.before.before.before.before.before in
     let s = start i.before.before in
-    let f = i.before.loop.invariant.1 in
-    let e : key_of (s.args.d + get_or i.before.before.weights-of.result.now i.before.loop.j 0) t.tag_of.result
-    ≡ key_of (s.args.d + get_or (weights_of (G s) s.args.u) i.before.loop.j 0) (tag_of s.args.p (get_or (neighbours_of (G s) s.args.u) i.before.loop.j 0)) = omega (arith, t.tag_of.ensures, (place i).to, (place i).weight) in
+    let f = i.before.loop-j.invariant.1 in
+    let e : key_of (s.args.d + get_or i.before.before.weights_of-weighed.result.now i.before.loop-j.j 0) t.tag_of-tag.result
+    ≡ key_of (s.args.d + get_or (weights_of (G s) s.args.u) i.before.loop-j.j 0) (tag_of s.args.p (get_or (neighbours_of (G s) s.args.u) i.before.loop-j.j 0)) = omega (arith, t.tag_of-tag.ensures, (place i).to, (place i).weight) in
     (omega arith, offered_push f s.pre.accepted s.pre.point (place i).arc (rw e at c.before.before.push_at.ensures))
 
-loop-less-3 : tie.Need-loop-smaller-3 invariant-loop decreases-loop
+loop-less-3 : tie.Need-loop-j-smaller invariant-loop-j decreases-loop-j
 loop-less-3 c = search rules
 
-loop-again-3 : tie.Need-loop-preserved-3 invariant-loop decreases-loop
+loop-again-3 : tie.Need-loop-j-preserved invariant-loop-j decreases-loop-j
 loop-again-3 c =
     let i = c.before.before.before.before.before.before in
-    (omega arith, offered_skip i.before.loop.invariant.1)
+    (omega arith, offered_skip i.before.loop-j.invariant.1)
 
-same_length : tie.Need-same-length invariant-loop decreases-loop
-same_length c = search rules
+shape_of-s : tie.Need-shape_of-s invariant-loop-j decreases-loop-j
+shape_of-s c = search rules
 
-returns : tie.Need-returns invariant-loop decreases-loop
+returns : tie.Need-returns invariant-loop-j decreases-loop-j
 returns c =
     let e = ahead c.before.before in
-    let l = c.before.loop in
-    let q : l.j ≡ length (neighbours_of (G (start c.before.before)) (start c.before.before).args.u) = omega (arith, ap length e, l.invariant.0, c.loop-test.false) in
+    let l = c.before.loop-j in
+    let q : l.j ≡ length (neighbours_of (G (start c.before.before)) (start c.before.before).args.u) = omega (arith, ap length e, l.invariant.0, c.loop-j-test.false) in
     rw q at l.invariant.1
 
-pub offer-spec : {M : Type 1} → statement M
-offer-spec =
+pub offer_spec : {M : Type 1} → statement M
+offer_spec =
     tie.close
     (tie.spec
-    invariant-loop
-    decreases-loop
-    sub-n
-    mul_at
-    mul-at-2
-    add_at
+    invariant-loop-j
+    decreases-loop-j
+    overflow_sub-n
+    overflow_mul-at
+    overflow_mul-at-2
+    overflow_add-at
     wide-requires
-    neighbours-of-requires
+    neighbours_of-ahead-requires
     wide-requires-2
-    weights-of-requires
+    weights_of-weighed-requires
     loop-holds
-    mul-to
-    shared-slice-read-to
-    mul-far
-    shared-slice-read-far
-    add-far
-    add-j
-    place-in-row-requires
+    offset_bounds-ahead-j
+    bounds-ahead-j
+    offset_bounds-weighed-j
+    bounds-weighed-j
+    overflow_add-far
+    overflow_add-j
+    place_in_row-place-requires
     loop-less
     loop-again
-    sub-if2
-    tag-of-requires
-    push-at-requires
-    add-more
+    overflow_sub-s
+    tag_of-tag-requires
+    push_at-requires
+    overflow_add-more
     loop-less-2
     loop-again-2
     loop-less-3
     loop-again-3
-    same_length
+    shape_of-s
     returns)

@@ -10,94 +10,94 @@ use borrow.Author.Rules.{rules}
 use Rattle.lazy_searches.proofs.second.place_for.Statement.{statement}
 use Rattle.lazy_searches.proofs.second.place_for.Tie as tie
 
-abbrev invariant-loop : tie.invariant-loop
-invariant-loop s a b k p d place₀ most₀ j₀ place most j = Looking s a b k p d place most j
+abbrev invariant-loop-j : tie.invariant-loop-j
+invariant-loop-j s a b k p d place₀ most₀ j₀ place most j = Looking s a b k p d place most j
 
-abbrev decreases-loop : tie.decreases-loop
-decreases-loop s a b k p d place₀ most₀ j₀ place most j = k - j
+abbrev decreases-loop-j : tie.decreases-loop-j
+decreases-loop-j s a b k p d place₀ most₀ j₀ place most j = k - j
 
 -- the place that is looked at does not hold p
-other : (c : tie.Joined1 invariant-loop decreases-loop)
+other : (c : tie.Joined-else-word-ne0 invariant-loop-j decreases-loop-j)
     → let l = c.before.before.before.before in
     let a = l.before.before.args in
-    get_or a.s.now (a.b + l.loop.j) 0 ≢ 0 → get_or a.s.now (a.a + l.loop.j) 0 ≢ a.p
+    get_or a.s.now (a.b + l.loop-j.j) 0 ≢ 0 → get_or a.s.now (a.a + l.loop-j.j) 0 ≢ a.p
 other c w e =
     let l = c.before.before.before.before in
     let a = l.before.before.args in
-    ⊎_elim (λ o. eqb-false (get_or a.s.now (a.a + l.loop.j) 0) a.p o.2.left e) (λ o. w o.left) c.if1.branch
+    ⊎_elim (λ o. eqb-false (get_or a.s.now (a.a + l.loop-j.j) 0) a.p o.2.left e) (λ o. w o.left) c.else-word-ne0.branch
 
-loop-holds : tie.Need-loop-init invariant-loop decreases-loop
+loop-holds : tie.Need-loop-j-init invariant-loop-j decreases-loop-j
 loop-holds c = looking_none
 
-add-j : tie.Need-overflow-add-j invariant-loop decreases-loop
-add-j c = search rules
+overflow_add-j : tie.Need-overflow_add-j invariant-loop-j decreases-loop-j
+overflow_add-j c = search rules
 
-add-distance-at : tie.Need-overflow-add-distance-at invariant-loop decreases-loop
-add-distance-at c = search rules
+overflow_add-b : tie.Need-overflow_add-b invariant-loop-j decreases-loop-j
+overflow_add-b c = search rules
 
-distance-at-requires : tie.Need-distance-at-requires invariant-loop decreases-loop
-distance-at-requires c κs = search rules
+distance_at-far-requires : tie.Need-distance_at-far-requires invariant-loop-j decreases-loop-j
+distance_at-far-requires c κs = search rules
 
-add-word : tie.Need-overflow-add-word invariant-loop decreases-loop
-add-word c = search rules
+overflow_add-word : tie.Need-overflow_add-word invariant-loop-j decreases-loop-j
+overflow_add-word c = search rules
 
-mul-word : tie.Need-overflow-mul-word invariant-loop decreases-loop
-mul-word c = search rules
+offset_bounds-s-b : tie.Need-offset_bounds-s-b invariant-loop-j decreases-loop-j
+offset_bounds-s-b c = search rules
 
-shared-slice-read-word : tie.Need-shared-slice-read-word invariant-loop decreases-loop
-shared-slice-read-word c = search rules
+bounds-s-b : tie.Need-bounds-s-b invariant-loop-j decreases-loop-j
+bounds-s-b c = search rules
 
-add-if2 : tie.Need-overflow-add-if2 invariant-loop decreases-loop
-add-if2 c = search rules
+overflow_add-a : tie.Need-overflow_add-a invariant-loop-j decreases-loop-j
+overflow_add-a c = search rules
 
-mul-if2 : tie.Need-overflow-mul-if2 invariant-loop decreases-loop
-mul-if2 c = search rules
+offset_bounds-s-a : tie.Need-offset_bounds-s-a invariant-loop-j decreases-loop-j
+offset_bounds-s-a c = search rules
 
-shared-slice-read-if2 : tie.Need-shared-slice-read-if2 invariant-loop decreases-loop
-shared-slice-read-if2 c = search rules
+bounds-s-a : tie.Need-bounds-s-a invariant-loop-j decreases-loop-j
+bounds-s-a c = search rules
 
-returns : tie.Need-returns invariant-loop decreases-loop
-returns c = place_none
+returns-then-s-a : tie.Need-returns-then-s-a invariant-loop-j decreases-loop-j
+returns-then-s-a c = place_none
 
-loop-less : tie.Need-loop-smaller invariant-loop decreases-loop
+loop-less : tie.Need-loop-j-smaller-then-most-far invariant-loop-j decreases-loop-j
 loop-less c = search rules
 
-loop-again : tie.Need-loop-preserved invariant-loop decreases-loop
+loop-again : tie.Need-loop-j-preserved-then-most-far invariant-loop-j decreases-loop-j
 loop-again c =
     let k = c.before.before in
     let i = k.before.before in
-    looking_farther i.before.loop.invariant i.loop-test.true (other c.before) k.before.distance_at.result k.before.distance_at.ensures c.if3.true
+    looking_farther i.before.loop-j.invariant i.loop-j-test.true (other c.before) k.before.distance_at-far.result k.before.distance_at-far.ensures c.if-most-far.true
 
-loop-less-2 : tie.Need-loop-smaller-2 invariant-loop decreases-loop
+loop-less-2 : tie.Need-loop-j-smaller invariant-loop-j decreases-loop-j
 loop-less-2 c = search rules
 
-loop-again-2 : tie.Need-loop-preserved-2 invariant-loop decreases-loop
+loop-again-2 : tie.Need-loop-j-preserved invariant-loop-j decreases-loop-j
 loop-again-2 c =
     let i = c.before.before.before.before in
-    looking_on i.before.loop.invariant i.loop-test.true (other c.before)
+    looking_on i.before.loop-j.invariant i.loop-j-test.true (other c.before)
 
-returns-2 : tie.Need-returns-2 invariant-loop decreases-loop
-returns-2 c = looked_for c.before.loop.invariant c.loop-test.false
+returns : tie.Need-returns invariant-loop-j decreases-loop-j
+returns c = looked_for c.before.loop-j.invariant c.loop-j-test.false
 
-pub place-for-spec : {M : Type 1} → statement M
-place-for-spec =
+pub place_for_spec : {M : Type 1} → statement M
+place_for_spec =
     tie.close
     (tie.spec
-    invariant-loop
-    decreases-loop
+    invariant-loop-j
+    decreases-loop-j
     loop-holds
-    add-j
-    add-distance-at
-    distance-at-requires
-    add-word
-    mul-word
-    shared-slice-read-word
-    add-if2
-    mul-if2
-    shared-slice-read-if2
-    returns
+    overflow_add-j
+    overflow_add-b
+    distance_at-far-requires
+    overflow_add-word
+    offset_bounds-s-b
+    bounds-s-b
+    overflow_add-a
+    offset_bounds-s-a
+    bounds-s-a
+    returns-then-s-a
     loop-less
     loop-again
     loop-less-2
     loop-again-2
-    returns-2)
+    returns)

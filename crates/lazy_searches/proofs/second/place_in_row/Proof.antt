@@ -17,36 +17,36 @@ row w = row_fits w.wide.result (start_of w).args.n (start_of w).args.k (omega (a
 wide-requires : tie.Need-wide-requires
 wide-requires c κs = search rules
 
-mul-row : tie.Need-overflow-mul-row
-mul-row c = omega (arith, row c, (start_of c).requires.0)
+overflow_mul-row : tie.Need-overflow_mul-row
+overflow_mul-row c = omega (arith, row c, (start_of c).requires.0)
 
-add-place-for : tie.Need-overflow-add-place-for
-add-place-for c = omega (arith, row c, (start_of c).requires.0)
+overflow_add-n : tie.Need-overflow_add-n
+overflow_add-n c = omega (arith, row c, (start_of c).requires.0)
 
-mul-place-for : tie.Need-overflow-mul-place-for
-mul-place-for c = search rules
+overflow_mul-n : tie.Need-overflow_mul-n
+overflow_mul-n c = search rules
 
-add-place-for-2 : tie.Need-overflow-add-place-for-2
-add-place-for-2 c = search rules
+overflow_add-n-2 : tie.Need-overflow_add-n-2
+overflow_add-n-2 c = search rules
 
-add-place-for-3 : tie.Need-overflow-add-place-for-3
-add-place-for-3 c = omega (arith, row c, (start_of c).requires.0)
+overflow_add-n-3 : tie.Need-overflow_add-n-3
+overflow_add-n-3 c = omega (arith, row c, (start_of c).requires.0)
 
-place-for-requires : tie.Need-place-for-requires
-place-for-requires c κs = (omega (arith, row c, (start_of c).requires.0), omega (arith, row c, (start_of c).requires.0))
+place_for-requires : tie.Need-place_for-requires
+place_for-requires c κs = (omega (arith, row c, (start_of c).requires.0), omega (arith, row c, (start_of c).requires.0))
 
 returns : tie.Need-returns
-returns c = rw c.before.wide.ensures at c.place-for.ensures
+returns c = rw c.before.wide.ensures at c.place_for.ensures
 
-pub place-in-row-spec : {M : Type 1} → statement M
-place-in-row-spec =
+pub place_in_row_spec : {M : Type 1} → statement M
+place_in_row_spec =
     tie.close
     (tie.spec
     wide-requires
-    mul-row
-    add-place-for
-    mul-place-for
-    add-place-for-2
-    add-place-for-3
-    place-for-requires
+    overflow_mul-row
+    overflow_add-n
+    overflow_mul-n
+    overflow_add-n-2
+    overflow_add-n-3
+    place_for-requires
     returns)

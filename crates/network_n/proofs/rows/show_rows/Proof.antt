@@ -5,31 +5,31 @@ use Prim.Native.Nat.{◌-◌}
 use Rattle.network_n.proofs.rows.show_rows.Statement.{statement}
 use Rattle.network_n.proofs.rows.show_rows.Tie as tie
 
-abbrev invariant-loop : tie.invariant-loop
-invariant-loop ids distances node₀ node = Unit {0}
+abbrev invariant-loop-node : tie.invariant-loop-node
+invariant-loop-node ids distances node₀ node = Unit {0}
 
-abbrev decreases-loop : tie.decreases-loop
-decreases-loop ids distances node₀ node = 6 - node
+abbrev decreases-loop-node : tie.decreases-loop-node
+decreases-loop-node ids distances node₀ node = 6 - node
 
-loop-holds : tie.Need-loop-init invariant-loop decreases-loop
+loop-holds : tie.Need-loop-node-init invariant-loop-node decreases-loop-node
 loop-holds c = search rules
 
-show-row-requires : tie.Need-show-row-requires invariant-loop decreases-loop
-show-row-requires c κs = search rules
+show_row-requires : tie.Need-show_row-requires invariant-loop-node decreases-loop-node
+show_row-requires c κs = search rules
 
-add-node : tie.Need-overflow-add-node invariant-loop decreases-loop
-add-node c = search rules
+overflow_add-node : tie.Need-overflow_add-node invariant-loop-node decreases-loop-node
+overflow_add-node c = search rules
 
-loop-less : tie.Need-loop-smaller invariant-loop decreases-loop
+loop-less : tie.Need-loop-node-smaller invariant-loop-node decreases-loop-node
 loop-less c = search rules
 
-loop-again : tie.Need-loop-preserved invariant-loop decreases-loop
+loop-again : tie.Need-loop-node-preserved invariant-loop-node decreases-loop-node
 loop-again c = search rules
 
-returns : tie.Need-returns invariant-loop decreases-loop
+returns : tie.Need-returns invariant-loop-node decreases-loop-node
 returns c = search rules
 
-pub show-rows-spec : {M : Type 1} → statement M
-show-rows-spec =
+pub show_rows_spec : {M : Type 1} → statement M
+show_rows_spec =
     tie.close
-    (tie.spec invariant-loop decreases-loop loop-holds show-row-requires add-node loop-less loop-again returns)
+    (tie.spec invariant-loop-node decreases-loop-node loop-holds show_row-requires overflow_add-node loop-less loop-again returns)

@@ -5,51 +5,51 @@ use Prim.Native.Nat.{◌-◌}
 use Rattle.network_n.proofs.text.put_list.Statement.{statement}
 use Rattle.network_n.proofs.text.put_list.Tie as tie
 
-abbrev invariant-loop : tie.invariant-loop
-invariant-loop list count i₀ i = Unit {0}
+abbrev invariant-loop-i : tie.invariant-loop-i
+invariant-loop-i list count i₀ i = Unit {0}
 
-abbrev decreases-loop : tie.decreases-loop
-decreases-loop list count i₀ i = count - i
+abbrev decreases-loop-i : tie.decreases-loop-i
+decreases-loop-i list count i₀ i = count - i
 
-slice-aggregate-put : tie.Need-slice-aggregate-put invariant-loop decreases-loop
+slice-aggregate-put : tie.Need-slice-aggregate-put invariant-loop-i decreases-loop-i
 slice-aggregate-put c = search rules
 
-put-requires : tie.Need-put-requires invariant-loop decreases-loop
+put-requires : tie.Need-put-requires invariant-loop-i decreases-loop-i
 put-requires c κs = search rules
 
-loop-holds : tie.Need-loop-init invariant-loop decreases-loop
+loop-holds : tie.Need-loop-i-init invariant-loop-i decreases-loop-i
 loop-holds c = search rules
 
-put-item-requires : tie.Need-put-item-requires invariant-loop decreases-loop
-put-item-requires c κs = search rules
+put_item-requires : tie.Need-put_item-requires invariant-loop-i decreases-loop-i
+put_item-requires c κs = search rules
 
-add-i : tie.Need-overflow-add-i invariant-loop decreases-loop
-add-i c = search rules
+overflow_add-i : tie.Need-overflow_add-i invariant-loop-i decreases-loop-i
+overflow_add-i c = search rules
 
-loop-less : tie.Need-loop-smaller invariant-loop decreases-loop
+loop-less : tie.Need-loop-i-smaller invariant-loop-i decreases-loop-i
 loop-less c = search rules
 
-loop-again : tie.Need-loop-preserved invariant-loop decreases-loop
+loop-again : tie.Need-loop-i-preserved invariant-loop-i decreases-loop-i
 loop-again c = search rules
 
-returns : tie.Need-returns invariant-loop decreases-loop
-returns c = search rules
+returns-else-i-lt6 : tie.Need-returns-else-i-lt6 invariant-loop-i decreases-loop-i
+returns-else-i-lt6 c = search rules
 
-returns-2 : tie.Need-returns-2 invariant-loop decreases-loop
-returns-2 c = search rules
+returns-after-loop-i : tie.Need-returns-after-loop-i invariant-loop-i decreases-loop-i
+returns-after-loop-i c = search rules
 
-pub put-list-spec : {M : Type 1} → statement M
-put-list-spec =
+pub put_list_spec : {M : Type 1} → statement M
+put_list_spec =
     tie.close
     (tie.spec
-    invariant-loop
-    decreases-loop
+    invariant-loop-i
+    decreases-loop-i
     slice-aggregate-put
     put-requires
     loop-holds
-    put-item-requires
-    add-i
+    put_item-requires
+    overflow_add-i
     loop-less
     loop-again
-    returns
-    returns-2)
+    returns-else-i-lt6
+    returns-after-loop-i)

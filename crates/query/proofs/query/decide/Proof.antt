@@ -8,51 +8,51 @@ use Rattle.query.proofs.QueryFlags.{unwiped}
 use Rattle.query.proofs.query.decide.Statement.{statement}
 use Rattle.query.proofs.query.decide.Tie as tie
 
-sub-last : tie.Need-overflow-sub-last
-sub-last c = search rules
+overflow_sub-last : tie.Need-overflow_sub-last
+overflow_sub-last c = search rules
 
-mul-last : tie.Need-overflow-mul-last
-mul-last c = search rules
+offset_bounds-others-k : tie.Need-offset_bounds-others-k
+offset_bounds-others-k c = search rules
 
-shared-slice-read-last : tie.Need-shared-slice-read-last
-shared-slice-read-last c = search rules
+bounds-others-k : tie.Need-bounds-others-k
+bounds-others-k c = search rules
 
-is-within-requires : tie.Need-is-within-requires
-is-within-requires c κs = search rules
+is_within-requires : tie.Need-is_within-requires
+is_within-requires c κs = search rules
 
-returns : tie.Need-returns
-returns c =
+returns-then-is_within : tie.Need-returns-then-is_within
+returns-then-is_within c =
     let i = c.before in
-    record { answer = inl (leb-true _ _ (sym i.is_Within.ensures ∙ c.if1.true), refl); area = unwiped i.before.before.before.before.before.before.before.before.requires }
+    record { answer = inl (leb-true _ _ (sym i.is_Within.ensures ∙ c.if-is_within.true), refl); area = unwiped i.before.before.before.before.before.before.before.before.requires }
 
-sub-b : tie.Need-overflow-sub-b
-sub-b c = search rules
+overflow_sub-b : tie.Need-overflow_sub-b
+overflow_sub-b c = search rules
 
-mul-b : tie.Need-overflow-mul-b
-mul-b c = search rules
+overflow_mul-b : tie.Need-overflow_mul-b
+overflow_mul-b c = search rules
 
 verify-requires : tie.Need-verify-requires
 verify-requires c κs = search rules
 
-same_length : tie.Need-same-length
-same_length c = search rules
+shape_of-f : tie.Need-shape_of-f
+shape_of-f c = search rules
 
-returns-2 : tie.Need-returns-2
-returns-2 c =
+returns : tie.Need-returns
+returns c =
     let v = c.before.before in
     record { answer = inr v.verify.ensures.answer; area = v.verify.ensures.area }
 
-pub decide-spec : {M : Type 1} → statement M
-decide-spec =
+pub decide_spec : {M : Type 1} → statement M
+decide_spec =
     tie.close
     (tie.spec
-    sub-last
-    mul-last
-    shared-slice-read-last
-    is-within-requires
-    returns
-    sub-b
-    mul-b
+    overflow_sub-last
+    offset_bounds-others-k
+    bounds-others-k
+    is_within-requires
+    returns-then-is_within
+    overflow_sub-b
+    overflow_mul-b
     verify-requires
-    same_length
-    returns-2)
+    shape_of-f
+    returns)

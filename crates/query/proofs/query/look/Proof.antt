@@ -18,66 +18,66 @@ from w = ap (λ (x : ℕ). x * (start_of w).args.places) w.wide.ensures
 wide-requires : tie.Need-wide-requires
 wide-requires c κs = search rules
 
-mul-from : tie.Need-overflow-mul-from
-mul-from c = omega (arith, from c, ids_inside (start_of c).requires)
+overflow_mul-from : tie.Need-overflow_mul-from
+overflow_mul-from c = omega (arith, from c, ids_inside (start_of c).requires)
 
-add-end : tie.Need-overflow-add-end
-add-end c = omega (arith, from c, ids_inside (start_of c).requires)
+overflow_add-end : tie.Need-overflow_add-end
+overflow_add-end c = omega (arith, from c, ids_inside (start_of c).requires)
 
-mul-verify-row : tie.Need-overflow-mul-verify-row
-mul-verify-row c = omega (arith, from c, ids_inside (start_of c).requires)
+offset_bounds-ids-from : tie.Need-offset_bounds-ids-from
+offset_bounds-ids-from c = omega (arith, from c, ids_inside (start_of c).requires)
 
-sub-verify-row : tie.Need-overflow-sub-verify-row
-sub-verify-row c = search rules
+slice_bounds-verify_row-count : tie.Need-slice_bounds-verify_row-count
+slice_bounds-verify_row-count c = search rules
 
-part-verify-row-start : tie.Need-slice-bounds-verify-row-start
+part-verify-row-start : tie.Need-slice_bounds-verify_row-start
 part-verify-row-start c = search rules
 
-part-verify-row-end : tie.Need-slice-bounds-verify-row-end
+part-verify-row-end : tie.Need-slice_bounds-verify_row-end
 part-verify-row-end c = omega (arith, from c, ids_inside (start_of c).requires)
 
-mul-verify-row-2 : tie.Need-overflow-mul-verify-row-2
-mul-verify-row-2 c = let w = c.before in omega (arith, from w, dists_inside (start_of w).requires)
+offset_bounds-distances-from : tie.Need-offset_bounds-distances-from
+offset_bounds-distances-from c = let w = c.before in omega (arith, from w, dists_inside (start_of w).requires)
 
-sub-verify-row-2 : tie.Need-overflow-sub-verify-row-2
-sub-verify-row-2 c = search rules
+slice_bounds-verify_row-count-2 : tie.Need-slice_bounds-verify_row-count-2
+slice_bounds-verify_row-count-2 c = search rules
 
-part-verify-row-start-2 : tie.Need-slice-bounds-verify-row-start-2
+part-verify-row-start-2 : tie.Need-slice_bounds-verify_row-start-2
 part-verify-row-start-2 c = search rules
 
-part-verify-row-end-2 : tie.Need-slice-bounds-verify-row-end-2
+part-verify-row-end-2 : tie.Need-slice_bounds-verify_row-end-2
 part-verify-row-end-2 c = let w = c.before in omega (arith, from w, dists_inside (start_of w).requires)
 
-verify-row-requires : tie.Need-verify-row-requires
-verify-row-requires c κs =
+verify_row-requires : tie.Need-verify_row-requires
+verify_row-requires c κs =
     let w = c.before.before.before in
     rw w.wide.ensures (can_verify_row (start_of w).requires)
 
-same_length : tie.Need-same-length
-same_length c = c.before.before.verify-row.ensures.grown.size
+shape_of-f : tie.Need-shape_of-f
+shape_of-f c = c.before.before.verify_row.ensures.grown.size
 
 returns : tie.Need-returns
 returns c =
     let v = c.before.before in
     let w = v.before.before.before.before in
     let s = start_of w in
-    looked_left s.pre (omega (arith, s.fits.label)) (rw w.wide.ensures at v.verify-row.ensures)
+    looked_left s.pre (omega (arith, s.fits.label)) (rw w.wide.ensures at v.verify_row.ensures)
 
 pub look_spec : {M : Type 1} → statement M
 look_spec =
     tie.close
     (tie.spec
     wide-requires
-    mul-from
-    add-end
-    mul-verify-row
-    sub-verify-row
+    overflow_mul-from
+    overflow_add-end
+    offset_bounds-ids-from
+    slice_bounds-verify_row-count
     part-verify-row-start
     part-verify-row-end
-    mul-verify-row-2
-    sub-verify-row-2
+    offset_bounds-distances-from
+    slice_bounds-verify_row-count-2
     part-verify-row-start-2
     part-verify-row-end-2
-    verify-row-requires
-    same_length
+    verify_row-requires
+    shape_of-f
     returns)

@@ -11,49 +11,49 @@ use Rattle.query.proofs.query.query.Tie as tie
 abbrev start_of : tie.After-explore → tie.Start
 start_of e = e.before.before.before.before.before.before.before.before.before.before
 
-sub-n : tie.Need-overflow-sub-n
-sub-n c = search rules
+overflow_sub-n : tie.Need-overflow_sub-n
+overflow_sub-n c = search rules
 
-mul-b : tie.Need-overflow-mul-b
-mul-b c = search rules
+overflow_mul-b : tie.Need-overflow_mul-b
+overflow_mul-b c = search rules
 
 explore-requires : tie.Need-explore-requires
 explore-requires c κs = begun c.before.before.before.before.before.before.before.before.before.requires
 
-write-found-requires : tie.Need-write-found-requires
-write-found-requires c κs =
+write_found-size-requires : tie.Need-write_found-size-requires
+write_found-size-requires c κs =
     let e = c.before.before.before.before in
     let p = (start_of e).requires in
-    (omega (arith, e.explore.ensures.size, p.size), p.answers, p.asked.accepted.few)
+    (omega (arith, e.explore.ensures.size, p.size), p.answers-1, p.asked.accepted.few)
 
 zero-requires : tie.Need-zero-requires
 zero-requires c κs = search rules
 
-same_length : tie.Need-same-length
-same_length c =
+shape_of-s : tie.Need-shape_of-s
+shape_of-s c =
     let z = c.before.before in
     let e = z.before.before.before.before.before.before.before.before.before in
     ap length z.zero.ensures ∙ length-replicate _ 0 ∙ e.explore.ensures.size
 
-same-length-2 : tie.Need-same-length-2
-same-length-2 c = search rules
+shape_of-answers : tie.Need-shape_of-answers
+shape_of-answers c = search rules
 
 returns : tie.Need-returns
 returns c =
     let z = c.before.before in
     let f = z.before.before.before.before in
     let e = f.before.before.before.before.before in
-    queried (start_of e).requires e.explore.ensures f.write-found.ensures.0 f.write-found.ensures.1 z.zero.ensures
+    queried (start_of e).requires e.explore.ensures f.write_found-size.ensures.0 f.write_found-size.ensures.1 z.zero.ensures
 
-pub query-spec : {M : Type 1} → statement M
-query-spec =
+pub query_spec : {M : Type 1} → statement M
+query_spec =
     tie.close
     (tie.spec
-    sub-n
-    mul-b
+    overflow_sub-n
+    overflow_mul-b
     explore-requires
-    write-found-requires
+    write_found-size-requires
     zero-requires
-    same_length
-    same-length-2
+    shape_of-s
+    shape_of-answers
     returns)

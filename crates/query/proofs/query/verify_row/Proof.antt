@@ -9,81 +9,81 @@ use borrow.Author.Rules.{rules}
 use Rattle.query.proofs.query.verify_row.Statement.{statement}
 use Rattle.query.proofs.query.verify_row.Tie as tie
 
-abbrev invariant-loop : tie.invariant-loop
-invariant-loop starts neighbours weights points ids_row distances-row distances f₀ label q k places i₀ f i =
+abbrev invariant-loop-i : tie.invariant-loop-i
+invariant-loop-i starts neighbours weights points ids_row distances-row distances f₀ label q k places i₀ f i =
     RowUpto (network starts neighbours weights) points distances q k places f₀ f ids_row distances-row label i
 
-abbrev decreases-loop : tie.decreases-loop
-decreases-loop starts neighbours weights points ids_row distances-row distances f₀ label q k places i₀ f i = k - i
+abbrev decreases-loop-i : tie.decreases-loop-i
+decreases-loop-i starts neighbours weights points ids_row distances-row distances f₀ label q k places i₀ f i = k - i
 
-abbrev start_of : tie.At-loop invariant-loop decreases-loop → tie.Start invariant-loop decreases-loop
+abbrev start_of : tie.At-loop-i invariant-loop-i decreases-loop-i → tie.Start invariant-loop-i decreases-loop-i
 start_of l = l.before.before.before.before.before.before.before.before.before
 
-loop-holds : tie.Need-loop-init invariant-loop decreases-loop
+loop-holds : tie.Need-loop-i-init invariant-loop-i decreases-loop-i
 loop-holds c = let s = c.before.before.before.before.before.before.before.before in row_start s.requires s.args.label
 
-mul-far : tie.Need-overflow-mul-far invariant-loop decreases-loop
-mul-far c = search rules
+offset_bounds-distances_row-i : tie.Need-offset_bounds-distances_row-i invariant-loop-i decreases-loop-i
+offset_bounds-distances_row-i c = search rules
 
-shared-slice-read-far : tie.Need-shared-slice-read-far invariant-loop decreases-loop
-shared-slice-read-far c = search rules
+bounds-distances_row-i : tie.Need-bounds-distances_row-i invariant-loop-i decreases-loop-i
+bounds-distances_row-i c = search rules
 
-same_length : tie.Need-same-length invariant-loop decreases-loop
-same_length c = c.before.before.before.loop.invariant.grown.size
+shape_of-f-then-label-far : tie.Need-shape_of-f-then-label-far invariant-loop-i decreases-loop-i
+shape_of-f-then-label-far c = c.before.before.before.loop-i.invariant.grown.size
 
-returns : tie.Need-returns invariant-loop decreases-loop
-returns c =
+returns-then-label-far : tie.Need-returns-then-label-far invariant-loop-i decreases-loop-i
+returns-then-label-far c =
     let l = c.before.before.before in
-    row_end (start_of l).requires (start_of l).args.label l.loop.invariant (λ _. omega (arith, c.if1.true))
+    row_end (start_of l).requires (start_of l).args.label l.loop-i.invariant (λ _. omega (arith, c.if-label-far.true))
 
-mul-p : tie.Need-overflow-mul-p invariant-loop decreases-loop
-mul-p c = search rules
+offset_bounds-ids_row-i : tie.Need-offset_bounds-ids_row-i invariant-loop-i decreases-loop-i
+offset_bounds-ids_row-i c = search rules
 
-shared-slice-read-p : tie.Need-shared-slice-read-p invariant-loop decreases-loop
-shared-slice-read-p c = search rules
+bounds-ids_row-i : tie.Need-bounds-ids_row-i invariant-loop-i decreases-loop-i
+bounds-ids_row-i c = search rules
 
-verify-once-requires : tie.Need-verify-once-requires invariant-loop decreases-loop
-verify-once-requires c κs =
+verify_once-requires : tie.Need-verify_once-requires invariant-loop-i decreases-loop-i
+verify_once-requires c κs =
     let l = c.before.before.before.before.before in
-    row_verify (start_of l).requires (start_of l).args.label l.loop.invariant
+    row_verify (start_of l).requires (start_of l).args.label l.loop-i.invariant
 
-add-i : tie.Need-overflow-add-i invariant-loop decreases-loop
-add-i c = search rules
+overflow_add-i : tie.Need-overflow_add-i invariant-loop-i decreases-loop-i
+overflow_add-i c = search rules
 
-loop-less : tie.Need-loop-smaller invariant-loop decreases-loop
-loop-less c = omega (arith, c.before.before.before.before.before.before.before.loop-test.true)
+loop-less : tie.Need-loop-i-smaller invariant-loop-i decreases-loop-i
+loop-less c = omega (arith, c.before.before.before.before.before.before.before.loop-i-test.true)
 
-loop-again : tie.Need-loop-preserved invariant-loop decreases-loop
+loop-again : tie.Need-loop-i-preserved invariant-loop-i decreases-loop-i
 loop-again c =
     let i = c.before.before.before.before.before.before.before in
     let l = i.before in
-    row_more (start_of l).requires (start_of l).args.label l.loop.invariant i.loop-test.true (omega (arith, c.before.before.before.before.before.if1.false))
-    c.before.before.verify-once.ensures
+    row_more (start_of l).requires (start_of l).args.label l.loop-i.invariant i.loop-i-test.true (omega (arith, c.before.before.before.before.before.if-label-far.false))
+    c.before.before.verify_once.ensures
 
-same-length-2 : tie.Need-same-length-2 invariant-loop decreases-loop
-same-length-2 c = c.before.loop.invariant.grown.size
+shape_of-f : tie.Need-shape_of-f invariant-loop-i decreases-loop-i
+shape_of-f c = c.before.loop-i.invariant.grown.size
 
-returns-2 : tie.Need-returns-2 invariant-loop decreases-loop
-returns-2 c =
+returns : tie.Need-returns invariant-loop-i decreases-loop-i
+returns c =
     let l = c.before in
-    row_end (start_of l).requires (start_of l).args.label l.loop.invariant (λ h. absurd (omega (arith, c.loop-test.false)))
+    row_end (start_of l).requires (start_of l).args.label l.loop-i.invariant (λ h. absurd (omega (arith, c.loop-i-test.false)))
 
-pub verify-row-spec : {M : Type 1} → statement M
-verify-row-spec =
+pub verify_row_spec : {M : Type 1} → statement M
+verify_row_spec =
     tie.close
     (tie.spec
-    invariant-loop
-    decreases-loop
+    invariant-loop-i
+    decreases-loop-i
     loop-holds
-    mul-far
-    shared-slice-read-far
-    same_length
-    returns
-    mul-p
-    shared-slice-read-p
-    verify-once-requires
-    add-i
+    offset_bounds-distances_row-i
+    bounds-distances_row-i
+    shape_of-f-then-label-far
+    returns-then-label-far
+    offset_bounds-ids_row-i
+    bounds-ids_row-i
+    verify_once-requires
+    overflow_add-i
     loop-less
     loop-again
-    same-length-2
-    returns-2)
+    shape_of-f
+    returns)

@@ -19,31 +19,31 @@ use Rattle.route_calls.proofs.call.answer.Tie as tie
 abbrev G : tie.Start → Network
 G s = network s.args.starts.now s.args.neighbours.now s.args.weights.now
 
-abbrev start : tie.After-route-call-number → tie.Start
+abbrev start : tie.After-route_call_number-refusal → tie.Start
 start n = n.before.before.before.before.before.before.before.before.before.before
 
 -- behind the test no condition is met
-ready : (e : tie.Else1) → let s = start e.before in RouteReady (G s) s.args.points.now s.args.route.now s.args.k s.args.scratch.now s.args.answers.now
+ready : (e : tie.Else-refusal-ne0) → let s = start e.before in RouteReady (G s) s.args.points.now s.args.route.now s.args.k s.args.scratch.now s.args.answers.now
 ready e =
     let n = e.before in
     let a = (start n).args in
-    route_call_ready (G (start n)) a.points.now a.route.now a.k a.scratch.now a.answers.now
-    (sym n.route-call-number.ensures ∙ e.if1.false)
+    route_call_ready (G (start n)) a.points.now a.route.now a.k a.scratch-1.now a.answers-1.now
+    (sym n.route_call_number-refusal.ensures ∙ e.if-refusal-ne0.false)
 
-route-call-number-requires : tie.Need-route-call-number-requires
-route-call-number-requires c κs = search rules
+route_call_number-refusal-requires : tie.Need-route_call_number-refusal-requires
+route_call_number-refusal-requires c κs = search rules
 
-same_length : tie.Need-same-length
-same_length c = search rules
+shape_of-scratch-then-refusal-ne0 : tie.Need-shape_of-scratch-then-refusal-ne0
+shape_of-scratch-then-refusal-ne0 c = search rules
 
-same-length-2 : tie.Need-same-length-2
-same-length-2 c = search rules
+shape_of-answers-then-refusal-ne0 : tie.Need-shape_of-answers-then-refusal-ne0
+shape_of-answers-then-refusal-ne0 c = search rules
 
-returns : tie.Need-returns
+returns-then-refusal-ne0 : tie.Need-returns-then-refusal-ne0
 unfolding route_outcome
-returns c =
+returns-then-refusal-ne0 c =
     let n = c.before in
-    list_refused _ _ _ n.route-call-number.result n.route-call-number.ensures c.if1.true
+    list_refused _ _ _ n.route_call_number-refusal.result n.route_call_number-refusal.ensures c.if-refusal-ne0.true
 
 zero-requires : tie.Need-zero-requires
 zero-requires c κs = search rules
@@ -51,8 +51,8 @@ zero-requires c κs = search rules
 wide-requires : tie.Need-wide-requires
 wide-requires c κs = search rules
 
-touched-requires : tie.Need-touched-requires
-touched-requires c κs =
+touched-length-requires : tie.Need-touched-length-requires
+touched-length-requires c κs =
     let z = c.before.before.before.before.before in
     let e = z.before.before in
     let p = ready e in
@@ -68,39 +68,39 @@ touched-requires c κs =
       p.places,
     )
 
-same-length-3 : tie.Need-same-length-3
-same-length-3 c = search rules
+shape_of-scratch : tie.Need-shape_of-scratch
+shape_of-scratch c = search rules
 
-same-length-4 : tie.Need-same-length-4
-same-length-4 c = search rules
+shape_of-answers : tie.Need-shape_of-answers
+shape_of-answers c = search rules
 
-returns-2 : tie.Need-returns-2
+returns : tie.Need-returns
 unfolding route_outcome
-returns-2 c =
+returns c =
     let w = c.before.before.before.before in
     let v = w.before in
     let z = v.before.before.before.before.before in
     let e = z.before.before in
     let n = e.before in
     let a = (start n).args in
-    let long = length a.scratch.now in
-    let h = w.touched.ensures in
-    list_done _ _ _ (sym n.route-call-number.ensures ∙ e.if1.false)
+    let long = length a.scratch-1.now in
+    let h = w.touched-length.ensures in
+    list_done _ _ _ (sym n.route_call_number-refusal.ensures ∙ e.if-refusal-ne0.false)
     (all_zero long (zero_length long z.zero.ensures) h.area)
     (h.sized ∙ ap (λ k. length (touched (G (start n)) a.points.now a.route.now k)) v.wide.ensures)
-    (h.answers ∙ ap (λ k. answered (touched (G (start n)) a.points.now a.route.now k) a.answers.now) v.wide.ensures)
+    (h.answers-1 ∙ ap (λ k. answered (touched (G (start n)) a.points.now a.route.now k) a.answers-1.now) v.wide.ensures)
 
-pub answer-spec : {M : Type 1} → statement M
-answer-spec =
+pub answer_spec : {M : Type 1} → statement M
+answer_spec =
     tie.close
     (tie.spec
-    route-call-number-requires
-    same_length
-    same-length-2
-    returns
+    route_call_number-refusal-requires
+    shape_of-scratch-then-refusal-ne0
+    shape_of-answers-then-refusal-ne0
+    returns-then-refusal-ne0
     zero-requires
     wide-requires
-    touched-requires
-    same-length-3
-    same-length-4
-    returns-2)
+    touched-length-requires
+    shape_of-scratch
+    shape_of-answers
+    returns)

@@ -12,80 +12,80 @@ use borrow.Author.Rules.{rules}
 use Rattle.rows.proofs.check.asks.Statement.{statement}
 use Rattle.rows.proofs.check.asks.Tie as tie
 
-abbrev invariant-loop : tie.invariant-loop
-invariant-loop ids distances near far w over m₀ m = (m ≤ length near) × (any (asks_at ids distances near far w) m ≡ false)
+abbrev invariant-loop-m : tie.invariant-loop-m
+invariant-loop-m ids distances near far w over m₀ m = (m ≤ length near) × (any (asks_at ids distances near far w) m ≡ false)
 
-abbrev decreases-loop : tie.decreases-loop
-decreases-loop ids distances near far w over m₀ m = length near - m
+abbrev decreases-loop-m : tie.decreases-loop-m
+decreases-loop-m ids distances near far w over m₀ m = length near - m
 
 -- at place m the code tests what the definition tests
-tested : (c : tie.After-asks-for invariant-loop decreases-loop)
+tested : (c : tie.After-asks_for invariant-loop-m decreases-loop-m)
     → let a = c.before.before.before.before.before.before.before.before.before.before.before.args in
-    asks_at a.ids.now a.distances.now a.near.now a.far.now a.w c.before.before.before.before.before.loop.m ≡ c.asks-for.result
+    asks_at a.ids.now a.distances.now a.near.now a.far.now a.w c.before.before.before.before.before.loop-m.m ≡ c.asks_for.result
 unfolding asks_at
-tested c = rw (← c.before.long2.ensures, ← c.before.before.before.before.before.before.long.ensures) (sym c.asks-for.ensures)
+tested c = rw (← c.before.long.ensures, ← c.before.before.before.before.before.before.long-over.ensures) (sym c.asks_for.ensures)
 
-long-requires : tie.Need-long-requires invariant-loop decreases-loop
-long-requires c κs = search rules
+long-over-requires : tie.Need-long-over-requires invariant-loop-m decreases-loop-m
+long-over-requires c κs = search rules
 
-loop-holds : tie.Need-loop-init invariant-loop decreases-loop
+loop-holds : tie.Need-loop-m-init invariant-loop-m decreases-loop-m
 loop-holds c = (search rules, any_start _)
 
-mul-p : tie.Need-overflow-mul-p invariant-loop decreases-loop
-mul-p c = search rules
+offset_bounds-near-m : tie.Need-offset_bounds-near-m invariant-loop-m decreases-loop-m
+offset_bounds-near-m c = search rules
 
-shared-slice-read-p : tie.Need-shared-slice-read-p invariant-loop decreases-loop
-shared-slice-read-p c = search rules
+bounds-near-m : tie.Need-bounds-near-m invariant-loop-m decreases-loop-m
+bounds-near-m c = search rules
 
-mul-long : tie.Need-overflow-mul-long invariant-loop decreases-loop
-mul-long c = search rules
+offset_bounds-far-m : tie.Need-offset_bounds-far-m invariant-loop-m decreases-loop-m
+offset_bounds-far-m c = search rules
 
-shared-slice-read-long : tie.Need-shared-slice-read-long invariant-loop decreases-loop
-shared-slice-read-long c = search rules
+bounds-far-m : tie.Need-bounds-far-m invariant-loop-m decreases-loop-m
+bounds-far-m c = search rules
 
-long-requires-2 : tie.Need-long-requires-2 invariant-loop decreases-loop
-long-requires-2 c κs = search rules
+long-requires : tie.Need-long-requires invariant-loop-m decreases-loop-m
+long-requires c κs = search rules
 
-add-d : tie.Need-overflow-add-d invariant-loop decreases-loop
-add-d c = omega (arith, c.long2.ensures, c.before.shared-slice-known6.given c.before.before.before.before.loop.m, c.before.before.before.before.before.long.ensures, c.before.before.before.before.before.before.before.before.before.before.ranges.w)
+overflow_add-d : tie.Need-overflow_add-d invariant-loop-m decreases-loop-m
+overflow_add-d c = omega (arith, c.long.ensures, c.before.shared_slice_known-in-loop-m-2-1.given c.before.before.before.before.loop-m.m, c.before.before.before.before.before.long-over.ensures, c.before.before.before.before.before.before.before.before.before.before.ranges.w)
 
-asks-for-requires : tie.Need-asks-for-requires invariant-loop decreases-loop
-asks-for-requires c κs = search rules
+asks_for-requires : tie.Need-asks_for-requires invariant-loop-m decreases-loop-m
+asks_for-requires c κs = search rules
 
-returns : tie.Need-returns invariant-loop decreases-loop
+returns-then-asks_for : tie.Need-returns-then-asks_for invariant-loop-m decreases-loop-m
 unfolding asks
-returns c = found _ _ _ c.before.before.before.before.before.loop-test.true (tested c.before ∙ c.if1.true)
+returns-then-asks_for c = found _ _ _ c.before.before.before.before.before.loop-m-test.true (tested c.before ∙ c.if-asks_for.true)
 
-add-m : tie.Need-overflow-add-m invariant-loop decreases-loop
-add-m c = search rules
+overflow_add-m : tie.Need-overflow_add-m invariant-loop-m decreases-loop-m
+overflow_add-m c = search rules
 
-loop-less : tie.Need-loop-smaller invariant-loop decreases-loop
+loop-less : tie.Need-loop-m-smaller invariant-loop-m decreases-loop-m
 loop-less c = search rules
 
-loop-again : tie.Need-loop-preserved invariant-loop decreases-loop
-loop-again c = (search rules, any_more _ _ c.before.before.before.before.before.before.loop.invariant.1 (tested c.before ∙ c.if1.false))
+loop-again : tie.Need-loop-m-preserved invariant-loop-m decreases-loop-m
+loop-again c = (search rules, any_more _ _ c.before.before.before.before.before.before.loop-m.invariant.1 (tested c.before ∙ c.if-asks_for.false))
 
-returns-2 : tie.Need-returns-2 invariant-loop decreases-loop
+returns : tie.Need-returns invariant-loop-m decreases-loop-m
 unfolding asks
-returns-2 c = not_found _ _ _ c.before.loop.invariant.0 c.loop-test.false c.before.loop.invariant.1
+returns c = not_found _ _ _ c.before.loop-m.invariant.0 c.loop-m-test.false c.before.loop-m.invariant.1
 
-pub asks-spec : {M : Type 1} → statement M
-asks-spec =
+pub asks_spec : {M : Type 1} → statement M
+asks_spec =
     tie.close
     (tie.spec
-    invariant-loop
-    decreases-loop
-    long-requires
+    invariant-loop-m
+    decreases-loop-m
+    long-over-requires
     loop-holds
-    mul-p
-    shared-slice-read-p
-    mul-long
-    shared-slice-read-long
-    long-requires-2
-    add-d
-    asks-for-requires
-    returns
-    add-m
+    offset_bounds-near-m
+    bounds-near-m
+    offset_bounds-far-m
+    bounds-far-m
+    long-requires
+    overflow_add-d
+    asks_for-requires
+    returns-then-asks_for
+    overflow_add-m
     loop-less
     loop-again
-    returns-2)
+    returns)

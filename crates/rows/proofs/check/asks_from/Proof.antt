@@ -7,22 +7,22 @@ use borrow.Author.Rules.{rules}
 use Rattle.rows.proofs.check.asks_from.Statement.{statement}
 use Rattle.rows.proofs.check.asks_from.Tie as tie
 
-row-of-requires : tie.Need-row-of-requires
-row-of-requires c κs = search rules
+row_of-near-requires : tie.Need-row_of-near-requires
+row_of-near-requires c κs = search rules
 
-row-of-requires-2 : tie.Need-row-of-requires-2
-row-of-requires-2 c κs = search rules
+row_of-far-requires : tie.Need-row_of-far-requires
+row_of-far-requires c κs = search rules
 
-row-of-requires-3 : tie.Need-row-of-requires-3
-row-of-requires-3 c κs = search rules
+row_of-there-requires : tie.Need-row_of-there-requires
+row_of-there-requires c κs = search rules
 
-row-of-requires-4 : tie.Need-row-of-requires-4
-row-of-requires-4 c κs = search rules
+row_of-beyond-requires : tie.Need-row_of-beyond-requires
+row_of-beyond-requires c κs = search rules
 
 asks-requires : tie.Need-asks-requires
 asks-requires c κs =
     let s = c.before.before.before.before.before.before in
-    rw (c.before.before.before.row_of.ensures, c.before.before.row-of2.ensures, c.before.row-of3.ensures, c.row-of4.ensures) (
+    rw (c.before.before.before.row_of-near.ensures, c.before.before.row_of-far.ensures, c.before.row_of-there.ensures, c.row_of-beyond.ensures) (
       omega (arith, s.requires.0, row_part_length s.args.places s.args.i s.args.ids.now s.requires.1.in_ids),
       row_parts_even _ _ _ _ s.requires.1,
       row_parts_even _ _ _ _ s.requires.2,
@@ -32,15 +32,15 @@ returns : tie.Need-returns
 unfolding asks_from
 returns c =
     let r = c.before in
-    rw (r.before.before.before.row_of.ensures, r.before.before.row-of2.ensures, r.before.row-of3.ensures, r.row-of4.ensures) at c.asks.ensures
+    rw (r.before.before.before.row_of-near.ensures, r.before.before.row_of-far.ensures, r.before.row_of-there.ensures, r.row_of-beyond.ensures) at c.asks.ensures
 
-pub asks-from-spec : {M : Type 1} → statement M
-asks-from-spec =
+pub asks_from_spec : {M : Type 1} → statement M
+asks_from_spec =
     tie.close
     (tie.spec
-    row-of-requires
-    row-of-requires-2
-    row-of-requires-3
-    row-of-requires-4
+    row_of-near-requires
+    row_of-far-requires
+    row_of-there-requires
+    row_of-beyond-requires
     asks-requires
     returns)

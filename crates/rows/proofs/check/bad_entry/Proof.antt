@@ -6,39 +6,39 @@ use borrow.Author.Rules.{rules}
 use Rattle.rows.proofs.check.bad_entry.Statement.{statement}
 use Rattle.rows.proofs.check.bad_entry.Tie as tie
 
-mul-p : tie.Need-overflow-mul-p
-mul-p c = search rules
+offset_bounds-ids-j : tie.Need-offset_bounds-ids-j
+offset_bounds-ids-j c = search rules
 
-shared-slice-read-p : tie.Need-shared-slice-read-p
-shared-slice-read-p c = search rules
+bounds-ids-j : tie.Need-bounds-ids-j
+bounds-ids-j c = search rules
 
-lockers-at-requires : tie.Need-lockers-at-requires
-lockers-at-requires c κs = search rules
+lockers_at-all-requires : tie.Need-lockers_at-all-requires
+lockers_at-all-requires c κs = search rules
 
-among-requires : tie.Need-among-requires
-among-requires c κs = search rules
+among-c-requires : tie.Need-among-c-requires
+among-c-requires c κs = search rules
 
-returns : tie.Need-returns
-returns c = read_many _ _ _ _ _ _ c.before.before.lockers-at.ensures.0 c.before.among.ensures (omega (arith, c.if1.true))
+returns-then-all-c : tie.Need-returns-then-all-c
+returns-then-all-c c = read_many _ _ _ _ _ _ c.before.before.lockers_at-all.ensures.0 c.before.among-c.ensures (omega (arith, c.if-all-c.true))
 
-returns-2 : tie.Need-returns-2
-returns-2 c = read_first _ _ _ _ _ _ c.before.before.before.lockers-at.ensures.0 c.before.before.among.ensures c.before.if1.false c.if2.true
+returns-then-j-eq0 : tie.Need-returns-then-j-eq0
+returns-then-j-eq0 c = read_first _ _ _ _ _ _ c.before.before.before.lockers_at-all.ensures.0 c.before.before.among-c.ensures c.before.if-all-c.false c.if-j-eq0.true
 
 follows-requires : tie.Need-follows-requires
 follows-requires c κs = search rules
 
-returns-3 : tie.Need-returns-3
-returns-3 c = read_later _ _ _ _ _ _ c.before.before.before.before.lockers-at.ensures.0 c.before.before.before.among.ensures _ c.before.before.if1.false c.before.if2.false c.follows.ensures
+returns : tie.Need-returns
+returns c = read_later _ _ _ _ _ _ c.before.before.before.before.lockers_at-all.ensures.0 c.before.before.before.among-c.ensures _ c.before.before.if-all-c.false c.before.if-j-eq0.false c.follows.ensures
 
-pub bad-entry-spec : {M : Type 1} → statement M
-bad-entry-spec =
+pub bad_entry_spec : {M : Type 1} → statement M
+bad_entry_spec =
     tie.close
     (tie.spec
-    mul-p
-    shared-slice-read-p
-    lockers-at-requires
-    among-requires
-    returns
-    returns-2
+    offset_bounds-ids-j
+    bounds-ids-j
+    lockers_at-all-requires
+    among-c-requires
+    returns-then-all-c
+    returns-then-j-eq0
     follows-requires
-    returns-3)
+    returns)

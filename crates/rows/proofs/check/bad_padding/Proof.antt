@@ -5,25 +5,25 @@ use borrow.Author.Rules.{rules}
 use Rattle.rows.proofs.check.bad_padding.Statement.{statement}
 use Rattle.rows.proofs.check.bad_padding.Tie as tie
 
-mul-d : tie.Need-overflow-mul-d
-mul-d c = search rules
+offset_bounds-distances-j : tie.Need-offset_bounds-distances-j
+offset_bounds-distances-j c = search rules
 
-shared-slice-read-d : tie.Need-shared-slice-read-d
-shared-slice-read-d c = search rules
+bounds-distances-j : tie.Need-bounds-distances-j
+bounds-distances-j c = search rules
+
+returns-then-d : tie.Need-returns-then-d
+returns-then-d c = padding_half _ _ _ _ c.if-d.true
+
+returns-then-j-eq0 : tie.Need-returns-then-j-eq0
+returns-then-j-eq0 c = padding_first _ _ _ _ c.before.if-d.false c.if-j-eq0.true
+
+whole_before-requires : tie.Need-whole_before-requires
+whole_before-requires c κs = search rules
 
 returns : tie.Need-returns
-returns c = padding_half _ _ _ _ c.if1.true
+returns c = padding_later _ _ _ _ _ c.before.before.if-d.false c.before.if-j-eq0.false c.Whole-before.ensures
 
-returns-2 : tie.Need-returns-2
-returns-2 c = padding_first _ _ _ _ c.before.if1.false c.if2.true
-
-whole-before-requires : tie.Need-whole-before-requires
-whole-before-requires c κs = search rules
-
-returns-3 : tie.Need-returns-3
-returns-3 c = padding_later _ _ _ _ _ c.before.before.if1.false c.before.if2.false c.Whole-before.ensures
-
-pub bad-padding-spec : {M : Type 1} → statement M
-bad-padding-spec =
+pub bad_padding_spec : {M : Type 1} → statement M
+bad_padding_spec =
     tie.close
-    (tie.spec mul-d shared-slice-read-d returns returns-2 whole-before-requires returns-3)
+    (tie.spec offset_bounds-distances-j bounds-distances-j returns-then-d returns-then-j-eq0 whole_before-requires returns)

@@ -5,25 +5,25 @@ use borrow.Author.Rules.{rules}
 use Rattle.rows.proofs.check.bad_place.Statement.{statement}
 use Rattle.rows.proofs.check.bad_place.Tie as tie
 
-mul-p : tie.Need-overflow-mul-p
-mul-p c = search rules
+offset_bounds-ids-j : tie.Need-offset_bounds-ids-j
+offset_bounds-ids-j c = search rules
 
-shared-slice-read-p : tie.Need-shared-slice-read-p
-shared-slice-read-p c = search rules
+bounds-ids-j : tie.Need-bounds-ids-j
+bounds-ids-j c = search rules
 
-bad-padding-requires : tie.Need-bad-padding-requires
-bad-padding-requires c κs = search rules
+bad_padding-requires : tie.Need-bad_padding-requires
+bad_padding-requires c κs = search rules
+
+returns-then-p : tie.Need-returns-then-p
+returns-then-p c = place_padding _ _ _ _ _ c.before.if-p.true c.bad_padding.ensures
+
+bad_entry-requires : tie.Need-bad_entry-requires
+bad_entry-requires c κs = search rules
 
 returns : tie.Need-returns
-returns c = place_padding _ _ _ _ _ c.before.if1.true c.bad-padding.ensures
+returns c = place_entry _ _ _ _ _ c.before.if-p.false c.bad_entry.ensures
 
-bad-entry-requires : tie.Need-bad-entry-requires
-bad-entry-requires c κs = search rules
-
-returns-2 : tie.Need-returns-2
-returns-2 c = place_entry _ _ _ _ _ c.before.if1.false c.bad-entry.ensures
-
-pub bad-place-spec : {M : Type 1} → statement M
-bad-place-spec =
+pub bad_place_spec : {M : Type 1} → statement M
+bad_place_spec =
     tie.close
-    (tie.spec mul-p shared-slice-read-p bad-padding-requires returns bad-entry-requires returns-2)
+    (tie.spec offset_bounds-ids-j bounds-ids-j bad_padding-requires returns-then-p bad_entry-requires returns)

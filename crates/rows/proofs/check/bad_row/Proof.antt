@@ -11,45 +11,45 @@ use borrow.Author.Rules.{rules}
 use Rattle.rows.proofs.check.bad_row.Statement.{statement}
 use Rattle.rows.proofs.check.bad_row.Tie as tie
 
-abbrev invariant-loop : tie.invariant-loop
-invariant-loop points ids distances j₀ j = (j ≤ length ids) × (any (bad_place points ids distances) j ≡ false)
+abbrev invariant-loop-j : tie.invariant-loop-j
+invariant-loop-j points ids distances j₀ j = (j ≤ length ids) × (any (bad_place points ids distances) j ≡ false)
 
-abbrev decreases-loop : tie.decreases-loop
-decreases-loop points ids distances j₀ j = length ids - j
+abbrev decreases-loop-j : tie.decreases-loop-j
+decreases-loop-j points ids distances j₀ j = length ids - j
 
-loop-holds : tie.Need-loop-init invariant-loop decreases-loop
+loop-holds : tie.Need-loop-j-init invariant-loop-j decreases-loop-j
 loop-holds c = (search rules, any_start _)
 
-bad-place-requires : tie.Need-bad-place-requires invariant-loop decreases-loop
-bad-place-requires c κs = search rules
+bad_place-requires : tie.Need-bad_place-requires invariant-loop-j decreases-loop-j
+bad_place-requires c κs = search rules
 
-returns : tie.Need-returns invariant-loop decreases-loop
+returns-then-bad_place : tie.Need-returns-then-bad_place invariant-loop-j decreases-loop-j
 unfolding bad_row
-returns c = found _ _ _ c.before.before.loop-test.true (sym c.before.bad-place.ensures ∙ c.if1.true)
+returns-then-bad_place c = found _ _ _ c.before.before.loop-j-test.true (sym c.before.bad_place.ensures ∙ c.if-bad_place.true)
 
-add-j : tie.Need-overflow-add-j invariant-loop decreases-loop
-add-j c = search rules
+overflow_add-j : tie.Need-overflow_add-j invariant-loop-j decreases-loop-j
+overflow_add-j c = search rules
 
-loop-less : tie.Need-loop-smaller invariant-loop decreases-loop
+loop-less : tie.Need-loop-j-smaller invariant-loop-j decreases-loop-j
 loop-less c = search rules
 
-loop-again : tie.Need-loop-preserved invariant-loop decreases-loop
-loop-again c = (search rules, any_more _ _ c.before.before.before.loop.invariant.1 (sym c.before.bad-place.ensures ∙ c.if1.false))
+loop-again : tie.Need-loop-j-preserved invariant-loop-j decreases-loop-j
+loop-again c = (search rules, any_more _ _ c.before.before.before.loop-j.invariant.1 (sym c.before.bad_place.ensures ∙ c.if-bad_place.false))
 
-returns-2 : tie.Need-returns-2 invariant-loop decreases-loop
+returns : tie.Need-returns invariant-loop-j decreases-loop-j
 unfolding bad_row
-returns-2 c = not_found _ _ _ c.before.loop.invariant.0 c.loop-test.false c.before.loop.invariant.1
+returns c = not_found _ _ _ c.before.loop-j.invariant.0 c.loop-j-test.false c.before.loop-j.invariant.1
 
-pub bad-row-spec : {M : Type 1} → statement M
-bad-row-spec =
+pub bad_row_spec : {M : Type 1} → statement M
+bad_row_spec =
     tie.close
     (tie.spec
-    invariant-loop
-    decreases-loop
+    invariant-loop-j
+    decreases-loop-j
     loop-holds
-    bad-place-requires
-    returns
-    add-j
+    bad_place-requires
+    returns-then-bad_place
+    overflow_add-j
     loop-less
     loop-again
-    returns-2)
+    returns)

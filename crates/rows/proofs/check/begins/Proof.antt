@@ -6,17 +6,17 @@ use borrow.Author.Rules.{rules}
 use Rattle.rows.proofs.check.begins.Statement.{statement}
 use Rattle.rows.proofs.check.begins.Tie as tie
 
-whole-before-requires : tie.Need-whole-before-requires
-whole-before-requires c κs = search rules
+whole_before-requires : tie.Need-whole_before-requires
+whole_before-requires c κs = search rules
 
 rises-requires : tie.Need-rises-requires
 rises-requires c κs = search rules
 
+returns-then-whole_before : tie.Need-returns-then-whole_before
+returns-then-whole_before c = begins_whole _ _ _ _ _ (sym c.before.before.Whole-before.ensures ∙ c.before.if-whole_before.true) c.rises.ensures
+
 returns : tie.Need-returns
-returns c = begins_whole _ _ _ _ _ (sym c.before.before.Whole-before.ensures ∙ c.before.if1.true) c.rises.ensures
+returns c = begins_short _ _ _ _ (sym c.before.Whole-before.ensures ∙ c.if-whole_before.false)
 
-returns-2 : tie.Need-returns-2
-returns-2 c = begins_short _ _ _ _ (sym c.before.Whole-before.ensures ∙ c.if1.false)
-
-pub begins-spec : {M : Type 1} → statement M
-begins-spec = tie.close (tie.spec whole-before-requires rises-requires returns returns-2)
+pub begins_spec : {M : Type 1} → statement M
+begins_spec = tie.close (tie.spec whole_before-requires rises-requires returns-then-whole_before returns)

@@ -13,47 +13,47 @@ use borrow.Author.Rules.{rules}
 use Rattle.rows.proofs.check.check.Statement.{statement}
 use Rattle.rows.proofs.check.check.Tie as tie
 
-abbrev invariant-loop : tie.invariant-loop
-invariant-loop starts neighbours weights points ids distances places n i₀ i = (i ≤ n) × (any (bad_node (network starts neighbours weights) points places ids distances) i ≡ false)
+abbrev invariant-loop-i : tie.invariant-loop-i
+invariant-loop-i starts neighbours weights points ids distances places n i₀ i = (i ≤ n) × (any (bad_node (network starts neighbours weights) points places ids distances) i ≡ false)
 
-abbrev decreases-loop : tie.decreases-loop
-decreases-loop starts neighbours weights points ids distances places n i₀ i = n - i
+abbrev decreases-loop-i : tie.decreases-loop-i
+decreases-loop-i starts neighbours weights points ids distances places n i₀ i = n - i
 
-sub-n : tie.Need-overflow-sub-n invariant-loop decreases-loop
-sub-n c = let s = c.before.before.before.before.before.before in omega (arith, s.requires.readable.accepted.some)
+overflow_sub-n : tie.Need-overflow_sub-n invariant-loop-i decreases-loop-i
+overflow_sub-n c = let s = c.before.before.before.before.before.before in omega (arith, s.requires.readable.accepted.some)
 
-loop-holds : tie.Need-loop-init invariant-loop decreases-loop
+loop-holds : tie.Need-loop-i-init invariant-loop-i decreases-loop-i
 loop-holds c = (search rules, any_start _)
 
-bad-node-requires : tie.Need-bad-node-requires invariant-loop decreases-loop
-bad-node-requires c κs = let s = c.before.before.before.before.before.before.before.before in (s.requires, c.loop-test.true)
+bad_node-requires : tie.Need-bad_node-requires invariant-loop-i decreases-loop-i
+bad_node-requires c κs = let s = c.before.before.before.before.before.before.before.before in (s.requires, c.loop-i-test.true)
 
-returns : tie.Need-returns invariant-loop decreases-loop
-returns c = let s = c.before.before.before.before.before.before.before.before.before.before in ap not (found _ _ _ c.before.before.loop-test.true (sym c.before.bad-node.ensures ∙ c.if1.true)) ∙ check_table s.requires
+returns-then-bad_node : tie.Need-returns-then-bad_node invariant-loop-i decreases-loop-i
+returns-then-bad_node c = let s = c.before.before.before.before.before.before.before.before.before.before in ap not (found _ _ _ c.before.before.loop-i-test.true (sym c.before.bad_node.ensures ∙ c.if-bad_node.true)) ∙ check_table s.requires
 
-add-i : tie.Need-overflow-add-i invariant-loop decreases-loop
-add-i c = search rules
+overflow_add-i : tie.Need-overflow_add-i invariant-loop-i decreases-loop-i
+overflow_add-i c = search rules
 
-loop-less : tie.Need-loop-smaller invariant-loop decreases-loop
+loop-less : tie.Need-loop-i-smaller invariant-loop-i decreases-loop-i
 loop-less c = search rules
 
-loop-again : tie.Need-loop-preserved invariant-loop decreases-loop
-loop-again c = (search rules, any_more _ _ c.before.before.before.loop.invariant.1 (sym c.before.bad-node.ensures ∙ c.if1.false))
+loop-again : tie.Need-loop-i-preserved invariant-loop-i decreases-loop-i
+loop-again c = (search rules, any_more _ _ c.before.before.before.loop-i.invariant.1 (sym c.before.bad_node.ensures ∙ c.if-bad_node.false))
 
-returns-2 : tie.Need-returns-2 invariant-loop decreases-loop
-returns-2 c = let s = c.before.before.before.before.before.before.before.before in ap not (not_found _ _ _ c.before.loop.invariant.0 c.loop-test.false c.before.loop.invariant.1) ∙ check_table s.requires
+returns : tie.Need-returns invariant-loop-i decreases-loop-i
+returns c = let s = c.before.before.before.before.before.before.before.before in ap not (not_found _ _ _ c.before.loop-i.invariant.0 c.loop-i-test.false c.before.loop-i.invariant.1) ∙ check_table s.requires
 
-pub check-spec : {M : Type 1} → statement M
-check-spec =
+pub check_spec : {M : Type 1} → statement M
+check_spec =
     tie.close
     (tie.spec
-    invariant-loop
-    decreases-loop
-    sub-n
+    invariant-loop-i
+    decreases-loop-i
+    overflow_sub-n
     loop-holds
-    bad-node-requires
-    returns
-    add-i
+    bad_node-requires
+    returns-then-bad_node
+    overflow_add-i
     loop-less
     loop-again
-    returns-2)
+    returns)

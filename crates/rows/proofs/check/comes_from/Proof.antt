@@ -5,23 +5,23 @@ use borrow.Author.Rules.{rules}
 use Rattle.rows.proofs.check.comes_from.Statement.{statement}
 use Rattle.rows.proofs.check.comes_from.Tie as tie
 
-returns : tie.Need-returns
-returns c = comes_short _ _ _ _ _ _ _ c.if1.true
+returns-then-d-w : tie.Need-returns-then-d-w
+returns-then-d-w c = comes_short _ _ _ _ _ _ _ c.if-d-w.true
 
-row-of-requires : tie.Need-row-of-requires
-row-of-requires c κs = search rules
+row_of-near-requires : tie.Need-row_of-near-requires
+row_of-near-requires c κs = search rules
 
-row-of-requires-2 : tie.Need-row-of-requires-2
-row-of-requires-2 c κs = search rules
+row_of-far-requires : tie.Need-row_of-far-requires
+row_of-far-requires c κs = search rules
 
 holds-requires : tie.Need-holds-requires
 holds-requires c κs =
     let s = c.before.before.before.before.before in
-    rw (c.before.row_of.ensures, c.row-of2.ensures) (row_parts_even _ _ _ _ s.requires)
+    rw (c.before.row_of-near.ensures, c.row_of-far.ensures) (row_parts_even _ _ _ _ s.requires)
 
-returns-2 : tie.Need-returns-2
-returns-2 c = comes_held _ _ _ _ _ _ _ _ c.before.before.before.if1.false (rw (c.before.before.row_of.ensures, c.before.row-of2.ensures) at c.holds.ensures)
+returns : tie.Need-returns
+returns c = comes_held _ _ _ _ _ _ _ _ c.before.before.before.if-d-w.false (rw (c.before.before.row_of-near.ensures, c.before.row_of-far.ensures) at c.holds.ensures)
 
-pub comes-from-spec : {M : Type 1} → statement M
-comes-from-spec =
-    tie.close (tie.spec returns row-of-requires row-of-requires-2 holds-requires returns-2)
+pub comes_from_spec : {M : Type 1} → statement M
+comes_from_spec =
+    tie.close (tie.spec returns-then-d-w row_of-near-requires row_of-far-requires holds-requires returns)

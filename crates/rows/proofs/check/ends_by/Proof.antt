@@ -5,43 +5,43 @@ use borrow.Author.Rules.{rules}
 use Rattle.rows.proofs.check.ends_by.Statement.{statement}
 use Rattle.rows.proofs.check.ends_by.Tie as tie
 
-sub-last : tie.Need-overflow-sub-last
-sub-last c = search rules
+overflow_sub-last : tie.Need-overflow_sub-last
+overflow_sub-last c = search rules
 
-mul-q : tie.Need-overflow-mul-q
-mul-q c = search rules
+offset_bounds-ids-last : tie.Need-offset_bounds-ids-last
+offset_bounds-ids-last c = search rules
 
-shared-slice-read-q : tie.Need-shared-slice-read-q
-shared-slice-read-q c = search rules
+bounds-ids-last : tie.Need-bounds-ids-last
+bounds-ids-last c = search rules
 
-mul-long : tie.Need-overflow-mul-long
-mul-long c = search rules
+offset_bounds-distances-last : tie.Need-offset_bounds-distances-last
+offset_bounds-distances-last c = search rules
 
-shared-slice-read-long : tie.Need-shared-slice-read-long
-shared-slice-read-long c = search rules
+bounds-distances-last : tie.Need-bounds-distances-last
+bounds-distances-last c = search rules
 
-long-requires : tie.Need-long-requires
-long-requires c κs = search rules
+long-e-requires : tie.Need-long-e-requires
+long-e-requires c κs = search rules
 
-returns : tie.Need-returns
-returns c = ends_short _ _ _ _ c.if1.true
+returns-then-q : tie.Need-returns-then-q
+returns-then-q c = ends_short _ _ _ _ c.if-q.true
 
 precedes-requires : tie.Need-precedes-requires
 precedes-requires c κs = search rules
 
-returns-2 : tie.Need-returns-2
-returns-2 c = ends_full _ _ _ _ _ c.before.if1.false (rw c.before.before.long.ensures at c.precedes.ensures)
+returns : tie.Need-returns
+returns c = ends_full _ _ _ _ _ c.before.if-q.false (rw c.before.before.long-e.ensures at c.precedes.ensures)
 
-pub ends-by-spec : {M : Type 1} → statement M
-ends-by-spec =
+pub ends_by_spec : {M : Type 1} → statement M
+ends_by_spec =
     tie.close
     (tie.spec
-    sub-last
-    mul-q
-    shared-slice-read-q
-    mul-long
-    shared-slice-read-long
-    long-requires
-    returns
+    overflow_sub-last
+    offset_bounds-ids-last
+    bounds-ids-last
+    offset_bounds-distances-last
+    bounds-distances-last
+    long-e-requires
+    returns-then-q
     precedes-requires
-    returns-2)
+    returns)

@@ -13,61 +13,61 @@ use borrow.Author.Rules.{rules}
 use Rattle.rows.proofs.check.has_within.Statement.{statement}
 use Rattle.rows.proofs.check.has_within.Tie as tie
 
-abbrev invariant-loop : tie.invariant-loop
-invariant-loop ids distances p d j₀ j = (j ≤ length ids) × (any (is_within ids distances p d) j ≡ false)
+abbrev invariant-loop-j : tie.invariant-loop-j
+invariant-loop-j ids distances p d j₀ j = (j ≤ length ids) × (any (is_within ids distances p d) j ≡ false)
 
-abbrev decreases-loop : tie.decreases-loop
-decreases-loop ids distances p d j₀ j = length ids - j
+abbrev decreases-loop-j : tie.decreases-loop-j
+decreases-loop-j ids distances p d j₀ j = length ids - j
 
-loop-holds : tie.Need-loop-init invariant-loop decreases-loop
+loop-holds : tie.Need-loop-j-init invariant-loop-j decreases-loop-j
 loop-holds c = (search rules, any_start _)
 
-mul-q : tie.Need-overflow-mul-q invariant-loop decreases-loop
-mul-q c = search rules
+offset_bounds-ids-j : tie.Need-offset_bounds-ids-j invariant-loop-j decreases-loop-j
+offset_bounds-ids-j c = search rules
 
-shared-slice-read-q : tie.Need-shared-slice-read-q invariant-loop decreases-loop
-shared-slice-read-q c = search rules
+bounds-ids-j : tie.Need-bounds-ids-j invariant-loop-j decreases-loop-j
+bounds-ids-j c = search rules
 
-mul-long : tie.Need-overflow-mul-long invariant-loop decreases-loop
-mul-long c = search rules
+offset_bounds-distances-j : tie.Need-offset_bounds-distances-j invariant-loop-j decreases-loop-j
+offset_bounds-distances-j c = search rules
 
-shared-slice-read-long : tie.Need-shared-slice-read-long invariant-loop decreases-loop
-shared-slice-read-long c = search rules
+bounds-distances-j : tie.Need-bounds-distances-j invariant-loop-j decreases-loop-j
+bounds-distances-j c = search rules
 
-long-requires : tie.Need-long-requires invariant-loop decreases-loop
-long-requires c κs = search rules
+long-e-requires : tie.Need-long-e-requires invariant-loop-j decreases-loop-j
+long-e-requires c κs = search rules
 
-returns : tie.Need-returns invariant-loop decreases-loop
+returns-then-e-d : tie.Need-returns-then-e-d invariant-loop-j decreases-loop-j
 unfolding has_within
-returns c = found _ _ _ c.before.before.before.before.before.loop-test.true (within_yes _ _ _ _ _ c.before.if1.true (rw c.before.before.long.ensures at c.if2.true))
+returns-then-e-d c = found _ _ _ c.before.before.before.before.before.loop-j-test.true (within_yes _ _ _ _ _ c.before.else-q-p.true (rw c.before.before.long-e.ensures at c.if-e-d.true))
 
-add-j : tie.Need-overflow-add-j invariant-loop decreases-loop
-add-j c = search rules
+overflow_add-j : tie.Need-overflow_add-j invariant-loop-j decreases-loop-j
+overflow_add-j c = search rules
 
-loop-less : tie.Need-loop-smaller invariant-loop decreases-loop
+loop-less : tie.Need-loop-j-smaller invariant-loop-j decreases-loop-j
 loop-less c = search rules
 
-loop-again : tie.Need-loop-preserved invariant-loop decreases-loop
-loop-again c = (search rules, any_more _ _ c.before.before.before.before.before.loop.invariant.1 (⊎_elim (λ a. within_far _ _ _ _ _ (rw c.before.long.ensures at a.1.left)) (λ a. within_other _ _ _ _ _ a.left) c.if1.branch))
+loop-again : tie.Need-loop-j-preserved invariant-loop-j decreases-loop-j
+loop-again c = (search rules, any_more _ _ c.before.before.before.before.before.loop-j.invariant.1 (⊎_elim (λ a. within_far _ _ _ _ _ (rw c.before.long-e.ensures at a.1.left)) (λ a. within_other _ _ _ _ _ a.left) c.else-q-p.branch))
 
-returns-2 : tie.Need-returns-2 invariant-loop decreases-loop
+returns : tie.Need-returns invariant-loop-j decreases-loop-j
 unfolding has_within
-returns-2 c = not_found _ _ _ c.before.loop.invariant.0 c.loop-test.false c.before.loop.invariant.1
+returns c = not_found _ _ _ c.before.loop-j.invariant.0 c.loop-j-test.false c.before.loop-j.invariant.1
 
-pub has-within-spec : {M : Type 1} → statement M
-has-within-spec =
+pub has_within_spec : {M : Type 1} → statement M
+has_within_spec =
     tie.close
     (tie.spec
-    invariant-loop
-    decreases-loop
+    invariant-loop-j
+    decreases-loop-j
     loop-holds
-    mul-q
-    shared-slice-read-q
-    mul-long
-    shared-slice-read-long
-    long-requires
-    returns
-    add-j
+    offset_bounds-ids-j
+    bounds-ids-j
+    offset_bounds-distances-j
+    bounds-distances-j
+    long-e-requires
+    returns-then-e-d
+    overflow_add-j
     loop-less
     loop-again
-    returns-2)
+    returns)

@@ -13,57 +13,57 @@ use borrow.Author.Rules.{rules}
 use Rattle.rows.proofs.check.holds.Statement.{statement}
 use Rattle.rows.proofs.check.holds.Tie as tie
 
-abbrev invariant-loop : tie.invariant-loop
-invariant-loop ids distances p d j₀ j = (j ≤ length ids) × (any (is_entry ids distances p d) j ≡ false)
+abbrev invariant-loop-j : tie.invariant-loop-j
+invariant-loop-j ids distances p d j₀ j = (j ≤ length ids) × (any (is_entry ids distances p d) j ≡ false)
 
-abbrev decreases-loop : tie.decreases-loop
-decreases-loop ids distances p d j₀ j = length ids - j
+abbrev decreases-loop-j : tie.decreases-loop-j
+decreases-loop-j ids distances p d j₀ j = length ids - j
 
-loop-holds : tie.Need-loop-init invariant-loop decreases-loop
+loop-holds : tie.Need-loop-j-init invariant-loop-j decreases-loop-j
 loop-holds c = (search rules, any_start _)
 
-mul-q : tie.Need-overflow-mul-q invariant-loop decreases-loop
-mul-q c = search rules
+offset_bounds-ids-j : tie.Need-offset_bounds-ids-j invariant-loop-j decreases-loop-j
+offset_bounds-ids-j c = search rules
 
-shared-slice-read-q : tie.Need-shared-slice-read-q invariant-loop decreases-loop
-shared-slice-read-q c = search rules
+bounds-ids-j : tie.Need-bounds-ids-j invariant-loop-j decreases-loop-j
+bounds-ids-j c = search rules
 
-mul-e : tie.Need-overflow-mul-e invariant-loop decreases-loop
-mul-e c = search rules
+offset_bounds-distances-j : tie.Need-offset_bounds-distances-j invariant-loop-j decreases-loop-j
+offset_bounds-distances-j c = search rules
 
-shared-slice-read-e : tie.Need-shared-slice-read-e invariant-loop decreases-loop
-shared-slice-read-e c = search rules
+bounds-distances-j : tie.Need-bounds-distances-j invariant-loop-j decreases-loop-j
+bounds-distances-j c = search rules
 
-returns : tie.Need-returns invariant-loop decreases-loop
+returns-then-e-d : tie.Need-returns-then-e-d invariant-loop-j decreases-loop-j
 unfolding row_holds
-returns c = found _ _ _ c.before.before.before.before.loop-test.true (entry_yes _ _ _ _ _ c.before.if1.true c.if2.true)
+returns-then-e-d c = found _ _ _ c.before.before.before.before.loop-j-test.true (entry_yes _ _ _ _ _ c.before.else-q-p.true c.if-e-d.true)
 
-add-j : tie.Need-overflow-add-j invariant-loop decreases-loop
-add-j c = search rules
+overflow_add-j : tie.Need-overflow_add-j invariant-loop-j decreases-loop-j
+overflow_add-j c = search rules
 
-loop-less : tie.Need-loop-smaller invariant-loop decreases-loop
+loop-less : tie.Need-loop-j-smaller invariant-loop-j decreases-loop-j
 loop-less c = search rules
 
-loop-again : tie.Need-loop-preserved invariant-loop decreases-loop
-loop-again c = (search rules, any_more _ _ c.before.before.before.before.loop.invariant.1 (⊎_elim (λ a. entry_far _ _ _ _ _ a.1.left) (λ a. entry_other _ _ _ _ _ a.left) c.if1.branch))
+loop-again : tie.Need-loop-j-preserved invariant-loop-j decreases-loop-j
+loop-again c = (search rules, any_more _ _ c.before.before.before.before.loop-j.invariant.1 (⊎_elim (λ a. entry_far _ _ _ _ _ a.1.left) (λ a. entry_other _ _ _ _ _ a.left) c.else-q-p.branch))
 
-returns-2 : tie.Need-returns-2 invariant-loop decreases-loop
+returns : tie.Need-returns invariant-loop-j decreases-loop-j
 unfolding row_holds
-returns-2 c = not_found _ _ _ c.before.loop.invariant.0 c.loop-test.false c.before.loop.invariant.1
+returns c = not_found _ _ _ c.before.loop-j.invariant.0 c.loop-j-test.false c.before.loop-j.invariant.1
 
-pub holds-spec : {M : Type 1} → statement M
-holds-spec =
+pub holds_spec : {M : Type 1} → statement M
+holds_spec =
     tie.close
     (tie.spec
-    invariant-loop
-    decreases-loop
+    invariant-loop-j
+    decreases-loop-j
     loop-holds
-    mul-q
-    shared-slice-read-q
-    mul-e
-    shared-slice-read-e
-    returns
-    add-j
+    offset_bounds-ids-j
+    bounds-ids-j
+    offset_bounds-distances-j
+    bounds-distances-j
+    returns-then-e-d
+    overflow_add-j
     loop-less
     loop-again
-    returns-2)
+    returns)

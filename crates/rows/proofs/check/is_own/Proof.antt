@@ -6,20 +6,20 @@ use borrow.Author.Rules.{rules}
 use Rattle.rows.proofs.check.is_own.Statement.{statement}
 use Rattle.rows.proofs.check.is_own.Tie as tie
 
-wide-requires : tie.Need-wide-requires
-wide-requires c κs = search rules
+wide-at-requires : tie.Need-wide-at-requires
+wide-at-requires c κs = search rules
 
-shared-slice-read-mark : tie.Need-shared-slice-read-mark
-shared-slice-read-mark c = search rules
+bounds-points-i : tie.Need-bounds-points-i
+bounds-points-i c = search rules
+
+returns-then-at-i : tie.Need-returns-then-at-i
+returns-then-at-i c = own_other _ _ _ _ (omega (arith, c.if-at-i.true, c.before.before.wide-at.ensures))
+
+returns-then-d-ne0 : tie.Need-returns-then-d-ne0
+returns-then-d-ne0 c = own_far _ _ _ _ (omega (arith, c.before.if-at-i.false, c.before.before.before.wide-at.ensures)) c.if-d-ne0.true
 
 returns : tie.Need-returns
-returns c = own_other _ _ _ _ (omega (arith, c.if1.true, c.before.before.wide.ensures))
+returns c = own_marked _ _ _ _ (omega (arith, c.before.if-at-i.false, c.before.before.before.wide-at.ensures)) c.if-d-ne0.false
 
-returns-2 : tie.Need-returns-2
-returns-2 c = own_far _ _ _ _ (omega (arith, c.before.if1.false, c.before.before.before.wide.ensures)) c.if2.true
-
-returns-3 : tie.Need-returns-3
-returns-3 c = own_marked _ _ _ _ (omega (arith, c.before.if1.false, c.before.before.before.wide.ensures)) c.if2.false
-
-pub is-own-spec : {M : Type 1} → statement M
-is-own-spec = tie.close (tie.spec wide-requires shared-slice-read-mark returns returns-2 returns-3)
+pub is_own_spec : {M : Type 1} → statement M
+is_own_spec = tie.close (tie.spec wide-at-requires bounds-points-i returns-then-at-i returns-then-d-ne0 returns)

@@ -6,17 +6,17 @@ use borrow.Author.Rules.{rules}
 use Rattle.rows.proofs.check.is_placed.Statement.{statement}
 use Rattle.rows.proofs.check.is_placed.Tie as tie
 
-has-within-requires : tie.Need-has-within-requires
-has-within-requires c κs = search rules
+has_within-requires : tie.Need-has_within-requires
+has_within-requires c κs = search rules
+
+returns-then-has_within : tie.Need-returns-then-has_within
+returns-then-has_within c = placed_stands _ _ _ _ (sym c.before.has-Within.ensures ∙ c.if-has_within.true)
+
+ends_by-requires : tie.Need-ends_by-requires
+ends_by-requires c κs = search rules
 
 returns : tie.Need-returns
-returns c = placed_stands _ _ _ _ (sym c.before.has-Within.ensures ∙ c.if1.true)
+returns c = placed_ends _ _ _ _ _ (sym c.before.before.has-Within.ensures ∙ c.before.if-has_within.false) c.ends_by.ensures
 
-ends-by-requires : tie.Need-ends-by-requires
-ends-by-requires c κs = search rules
-
-returns-2 : tie.Need-returns-2
-returns-2 c = placed_ends _ _ _ _ _ (sym c.before.before.has-Within.ensures ∙ c.before.if1.false) c.ends_by.ensures
-
-pub is-placed-spec : {M : Type 1} → statement M
-is-placed-spec = tie.close (tie.spec has-within-requires returns ends-by-requires returns-2)
+pub is_placed_spec : {M : Type 1} → statement M
+is_placed_spec = tie.close (tie.spec has_within-requires returns-then-has_within ends_by-requires returns)

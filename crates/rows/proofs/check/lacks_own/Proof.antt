@@ -5,21 +5,21 @@ use borrow.Author.Rules.{rules}
 use Rattle.rows.proofs.check.lacks_own.Statement.{statement}
 use Rattle.rows.proofs.check.lacks_own.Tie as tie
 
-shared-slice-read-mark : tie.Need-shared-slice-read-mark
-shared-slice-read-mark c = search rules
+bounds-points-i : tie.Need-bounds-points-i
+bounds-points-i c = search rules
 
-returns : tie.Need-returns
-returns c = lacks_none _ _ _ _ c.if1.true
+returns-then-mark-eq0 : tie.Need-returns-then-mark-eq0
+returns-then-mark-eq0 c = lacks_none _ _ _ _ c.if-mark-eq0.true
 
-cast-holds : tie.Need-overflow-cast-holds
-cast-holds c = search rules
+overflow_cast-i : tie.Need-overflow_cast-i
+overflow_cast-i c = search rules
 
 holds-requires : tie.Need-holds-requires
 holds-requires c κs = search rules
 
-returns-2 : tie.Need-returns-2
-returns-2 c = lacks_held _ _ _ _ _ c.before.if1.false c.holds.ensures
+returns : tie.Need-returns
+returns c = lacks_held _ _ _ _ _ c.before.if-mark-eq0.false c.holds.ensures
 
-pub lacks-own-spec : {M : Type 1} → statement M
-lacks-own-spec =
-    tie.close (tie.spec shared-slice-read-mark returns cast-holds holds-requires returns-2)
+pub lacks_own_spec : {M : Type 1} → statement M
+lacks_own_spec =
+    tie.close (tie.spec bounds-points-i returns-then-mark-eq0 overflow_cast-i holds-requires returns)

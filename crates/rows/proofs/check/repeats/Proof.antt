@@ -6,55 +6,55 @@ use borrow.Author.Rules.{rules}
 use Rattle.rows.proofs.check.repeats.Statement.{statement}
 use Rattle.rows.proofs.check.repeats.Tie as tie
 
-sub-q : tie.Need-overflow-sub-q
-sub-q c = search rules
+overflow_sub-q : tie.Need-overflow_sub-q
+overflow_sub-q c = search rules
 
-mul-q : tie.Need-overflow-mul-q
-mul-q c = search rules
+offset_bounds-ids-j : tie.Need-offset_bounds-ids-j
+offset_bounds-ids-j c = search rules
 
-shared-slice-read-q : tie.Need-shared-slice-read-q
-shared-slice-read-q c = search rules
+bounds-ids-j : tie.Need-bounds-ids-j
+bounds-ids-j c = search rules
 
-sub-e : tie.Need-overflow-sub-e
-sub-e c = search rules
+overflow_sub-e : tie.Need-overflow_sub-e
+overflow_sub-e c = search rules
 
-mul-e : tie.Need-overflow-mul-e
-mul-e c = search rules
+offset_bounds-distances-j : tie.Need-offset_bounds-distances-j
+offset_bounds-distances-j c = search rules
 
-shared-slice-read-e : tie.Need-shared-slice-read-e
-shared-slice-read-e c = search rules
+bounds-distances-j : tie.Need-bounds-distances-j
+bounds-distances-j c = search rules
 
-mul-p : tie.Need-overflow-mul-p
-mul-p c = search rules
+offset_bounds-ids-j-2 : tie.Need-offset_bounds-ids-j-2
+offset_bounds-ids-j-2 c = search rules
 
-shared-slice-read-p : tie.Need-shared-slice-read-p
-shared-slice-read-p c = search rules
+bounds-ids-j-2 : tie.Need-bounds-ids-j-2
+bounds-ids-j-2 c = search rules
 
-mul-d : tie.Need-overflow-mul-d
-mul-d c = search rules
+offset_bounds-distances-j-2 : tie.Need-offset_bounds-distances-j-2
+offset_bounds-distances-j-2 c = search rules
 
-shared-slice-read-d : tie.Need-shared-slice-read-d
-shared-slice-read-d c = search rules
+bounds-distances-j-2 : tie.Need-bounds-distances-j-2
+bounds-distances-j-2 c = search rules
+
+returns-then-q-p : tie.Need-returns-then-q-p
+returns-then-q-p c = repeats_other [] _ _ _ c.if-q-p.true
 
 returns : tie.Need-returns
-returns c = repeats_other [] _ _ _ c.if1.true
+returns c = repeats_same [] _ _ _ c.if-q-p.false
 
-returns-2 : tie.Need-returns-2
-returns-2 c = repeats_same [] _ _ _ c.if1.false
-
-pub repeats-spec : {M : Type 1} → statement M
-repeats-spec =
+pub repeats_spec : {M : Type 1} → statement M
+repeats_spec =
     tie.close
     (tie.spec
-    sub-q
-    mul-q
-    shared-slice-read-q
-    sub-e
-    mul-e
-    shared-slice-read-e
-    mul-p
-    shared-slice-read-p
-    mul-d
-    shared-slice-read-d
-    returns
-    returns-2)
+    overflow_sub-q
+    offset_bounds-ids-j
+    bounds-ids-j
+    overflow_sub-e
+    offset_bounds-distances-j
+    bounds-distances-j
+    offset_bounds-ids-j-2
+    bounds-ids-j-2
+    offset_bounds-distances-j-2
+    bounds-distances-j-2
+    returns-then-q-p
+    returns)

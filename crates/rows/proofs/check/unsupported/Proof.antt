@@ -14,89 +14,89 @@ use borrow.Author.Rules.{rules}
 use Rattle.rows.proofs.check.unsupported.Statement.{statement}
 use Rattle.rows.proofs.check.unsupported.Tie as tie
 
-abbrev invariant-loop : tie.invariant-loop
-invariant-loop starts neighbours weights points ids distances places i near far j₀ j = (j ≤ length near) × (any (unsupported_at (network starts neighbours weights) points places ids distances i) j ≡ false)
+abbrev invariant-loop-j : tie.invariant-loop-j
+invariant-loop-j starts neighbours weights points ids distances places i near far j₀ j = (j ≤ length near) × (any (unsupported_at (network starts neighbours weights) points places ids distances i) j ≡ false)
 
-abbrev decreases-loop : tie.decreases-loop
-decreases-loop starts neighbours weights points ids distances places i near far j₀ j = length near - j
+abbrev decreases-loop-j : tie.decreases-loop-j
+decreases-loop-j starts neighbours weights points ids distances places i near far j₀ j = length near - j
 
-abbrev G : tie.Start invariant-loop decreases-loop → Network
+abbrev G : tie.Start invariant-loop-j decreases-loop-j → Network
 G s = network s.args.starts.now s.args.neighbours.now s.args.weights.now
 
 -- at place j the code tests what the definition tests
-tested : (c : tie.After-is-supported invariant-loop decreases-loop)
+tested : (c : tie.After-is_supported invariant-loop-j decreases-loop-j)
     → let s = c.before.before.before.before.before.before.before.before.before.before.before.before.before in
     let a = s.args in
-    unsupported_at (G s) a.points.now a.places a.ids.now a.distances.now a.i c.before.before.before.before.loop.j ≡ not c.is-supported.result
+    unsupported_at (G s) a.points.now a.places a.ids.now a.distances.now a.i c.before.before.before.before.loop-j.j ≡ not c.is_supported.result
 unfolding unsupported_at
 tested c =
     let w = c.before.before.before.before.before in
-    rw (← w.before.row_of.ensures, ← w.row-of2.ensures) (ap not (sym c.is-supported.ensures))
+    rw (← w.before.row_of-near.ensures, ← w.row_of-far.ensures) (ap not (sym c.is_supported.ensures))
 
-row-of-requires : tie.Need-row-of-requires invariant-loop decreases-loop
-row-of-requires c κs = let s = c.before.before.before.before.before.before in (rows_lie s.requires.0.readable _ s.requires.1).in_ids
+row_of-near-requires : tie.Need-row_of-near-requires invariant-loop-j decreases-loop-j
+row_of-near-requires c κs = let s = c.before.before.before.before.before.before in (rows_lie s.requires.0.readable _ s.requires.1).in_ids
 
-row-of-requires-2 : tie.Need-row-of-requires-2 invariant-loop decreases-loop
-row-of-requires-2 c κs = let s = c.before.before.before.before.before.before.before in (rows_lie s.requires.0.readable _ s.requires.1).in_dists
+row_of-far-requires : tie.Need-row_of-far-requires invariant-loop-j decreases-loop-j
+row_of-far-requires c κs = let s = c.before.before.before.before.before.before.before in (rows_lie s.requires.0.readable _ s.requires.1).in_dists
 
-loop-holds : tie.Need-loop-init invariant-loop decreases-loop
+loop-holds : tie.Need-loop-j-init invariant-loop-j decreases-loop-j
 loop-holds c = (search rules, any_start _)
 
-mul-p : tie.Need-overflow-mul-p invariant-loop decreases-loop
-mul-p c = search rules
+offset_bounds-near-j : tie.Need-offset_bounds-near-j invariant-loop-j decreases-loop-j
+offset_bounds-near-j c = search rules
 
-shared-slice-read-p : tie.Need-shared-slice-read-p invariant-loop decreases-loop
-shared-slice-read-p c = search rules
+bounds-near-j : tie.Need-bounds-near-j invariant-loop-j decreases-loop-j
+bounds-near-j c = search rules
 
-mul-d : tie.Need-overflow-mul-d invariant-loop decreases-loop
-mul-d c = search rules
+offset_bounds-far-j : tie.Need-offset_bounds-far-j invariant-loop-j decreases-loop-j
+offset_bounds-far-j c = search rules
 
-shared-slice-read-d : tie.Need-shared-slice-read-d invariant-loop decreases-loop
-shared-slice-read-d c =
+bounds-far-j : tie.Need-bounds-far-j invariant-loop-j decreases-loop-j
+bounds-far-j c =
     let w = c.before.before.before.before in
     let s = w.before.before.before.before.before.before.before.before in
-    let e = ap length w.before.row_of.ensures in
-    let f = ap length w.row-of2.ensures in
-    omega (arith, row_parts_even s.args.places s.args.i s.args.ids.now s.args.distances.now (rows_lie s.requires.0.readable _ s.requires.1), c.before.before.loop-test.true)
+    let e = ap length w.before.row_of-near.ensures in
+    let f = ap length w.row_of-far.ensures in
+    omega (arith, row_parts_even s.args.places s.args.i s.args.ids.now s.args.distances.now (rows_lie s.requires.0.readable _ s.requires.1), c.before.before.loop-j-test.true)
 
-is-supported-requires : tie.Need-is-supported-requires invariant-loop decreases-loop
-is-supported-requires c κs = let s = c.before.before.before.before.before.before.before.before.before.before.before.before in (s.requires.0, s.requires.1)
+is_supported-requires : tie.Need-is_supported-requires invariant-loop-j decreases-loop-j
+is_supported-requires c κs = let s = c.before.before.before.before.before.before.before.before.before.before.before.before in (s.requires.0, s.requires.1)
 
-returns : tie.Need-returns invariant-loop decreases-loop
+returns-then-not-is_supported : tie.Need-returns-then-not-is_supported invariant-loop-j decreases-loop-j
 unfolding unsupported
-returns c = found _ _ _ (rw c.before.before.before.before.before.before.before.row_of.ensures at c.before.before.before.before.loop-test.true) (tested c.before ∙ c.if1.true)
+returns-then-not-is_supported c = found _ _ _ (rw c.before.before.before.before.before.before.before.row_of-near.ensures at c.before.before.before.before.loop-j-test.true) (tested c.before ∙ c.if-not-is_supported.true)
 
-add-j : tie.Need-overflow-add-j invariant-loop decreases-loop
-add-j c = search rules
+overflow_add-j : tie.Need-overflow_add-j invariant-loop-j decreases-loop-j
+overflow_add-j c = search rules
 
-loop-less : tie.Need-loop-smaller invariant-loop decreases-loop
+loop-less : tie.Need-loop-j-smaller invariant-loop-j decreases-loop-j
 loop-less c = search rules
 
-loop-again : tie.Need-loop-preserved invariant-loop decreases-loop
-loop-again c = (search rules, any_more _ _ c.before.before.before.before.before.loop.invariant.1 (tested c.before ∙ c.if1.false))
+loop-again : tie.Need-loop-j-preserved invariant-loop-j decreases-loop-j
+loop-again c = (search rules, any_more _ _ c.before.before.before.before.before.loop-j.invariant.1 (tested c.before ∙ c.if-not-is_supported.false))
 
-returns-2 : tie.Need-returns-2 invariant-loop decreases-loop
+returns : tie.Need-returns invariant-loop-j decreases-loop-j
 unfolding unsupported
-returns-2 c =
-    let e = c.before.before.before.row_of.ensures in
-    not_found _ _ _ (rw e at c.before.loop.invariant.0) (rw e at c.loop-test.false) c.before.loop.invariant.1
+returns c =
+    let e = c.before.before.before.row_of-near.ensures in
+    not_found _ _ _ (rw e at c.before.loop-j.invariant.0) (rw e at c.loop-j-test.false) c.before.loop-j.invariant.1
 
-pub unsupported-spec : {M : Type 1} → statement M
-unsupported-spec =
+pub unsupported_spec : {M : Type 1} → statement M
+unsupported_spec =
     tie.close
     (tie.spec
-    invariant-loop
-    decreases-loop
-    row-of-requires
-    row-of-requires-2
+    invariant-loop-j
+    decreases-loop-j
+    row_of-near-requires
+    row_of-far-requires
     loop-holds
-    mul-p
-    shared-slice-read-p
-    mul-d
-    shared-slice-read-d
-    is-supported-requires
-    returns
-    add-j
+    offset_bounds-near-j
+    bounds-near-j
+    offset_bounds-far-j
+    bounds-far-j
+    is_supported-requires
+    returns-then-not-is_supported
+    overflow_add-j
     loop-less
     loop-again
-    returns-2)
+    returns)

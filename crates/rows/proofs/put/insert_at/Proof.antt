@@ -11,59 +11,59 @@ use Rattle.rows.proofs.PutLaws.{insert_turn, insert_end}
 use Rattle.rows.proofs.put.insert_at.Statement.{statement}
 use Rattle.rows.proofs.put.insert_at.Tie as tie
 
-abbrev invariant-loop : tie.invariant-loop
-invariant-loop row₀ place v held₀ at₀ row held at = (length row ≡ length row₀) × (insert_at at held row ≡ insert_at place v row₀)
+abbrev invariant-loop-at : tie.invariant-loop-at
+invariant-loop-at row₀ place v held₀ at₀ row held at = (length row ≡ length row₀) × (insert_at at held row ≡ insert_at place v row₀)
 
-abbrev decreases-loop : tie.decreases-loop
-decreases-loop row₀ place v held₀ at₀ row held at = length row - at
+abbrev decreases-loop-at : tie.decreases-loop-at
+decreases-loop-at row₀ place v held₀ at₀ row held at = length row - at
 
-loop-holds : tie.Need-loop-init invariant-loop decreases-loop
+loop-holds : tie.Need-loop-at-init invariant-loop-at decreases-loop-at
 loop-holds c = (refl, refl)
 
-mul-x : tie.Need-overflow-mul-x invariant-loop decreases-loop
-mul-x c = search rules
+offset_bounds-row-at : tie.Need-offset_bounds-row-at invariant-loop-at decreases-loop-at
+offset_bounds-row-at c = search rules
 
-slice-read-x : tie.Need-slice-read-x invariant-loop decreases-loop
-slice-read-x c = search rules
+bounds-row-at : tie.Need-bounds-row-at invariant-loop-at decreases-loop-at
+bounds-row-at c = search rules
 
-mul-row : tie.Need-overflow-mul-row invariant-loop decreases-loop
-mul-row c = search rules
+offset_bounds-row-at-in-loop-at : tie.Need-offset_bounds-row-at-in-loop-at invariant-loop-at decreases-loop-at
+offset_bounds-row-at-in-loop-at c = search rules
 
-slice-write-row : tie.Need-slice-write-row invariant-loop decreases-loop
-slice-write-row c = search rules
+bounds-row-at-in-loop-at : tie.Need-bounds-row-at-in-loop-at invariant-loop-at decreases-loop-at
+bounds-row-at-in-loop-at c = search rules
 
-add_at : tie.Need-overflow-add-at invariant-loop decreases-loop
-add_at c = search rules
+overflow_add-at : tie.Need-overflow_add-at invariant-loop-at decreases-loop-at
+overflow_add-at c = search rules
 
-loop-less : tie.Need-loop-smaller invariant-loop decreases-loop
+loop-less : tie.Need-loop-at-smaller invariant-loop-at decreases-loop-at
 loop-less c = simp length-set (omega arith)
 
-loop-again : tie.Need-loop-preserved invariant-loop decreases-loop
+loop-again : tie.Need-loop-at-preserved invariant-loop-at decreases-loop-at
 loop-again c =
-    let l = c.before.before.loop in
+    let l = c.before.before.loop-at in
     (simp length-set l.invariant.0, insert_turn l.at l.held l.row (omega arith) ∙ l.invariant.1)
 
-same_length : tie.Need-same-length invariant-loop decreases-loop
-same_length c = search rules
+shape_of-row : tie.Need-shape_of-row invariant-loop-at decreases-loop-at
+shape_of-row c = search rules
 
-returns : tie.Need-returns invariant-loop decreases-loop
+returns : tie.Need-returns invariant-loop-at decreases-loop-at
 returns c =
-    let l = c.before.loop in
+    let l = c.before.loop-at in
     sym (insert_end l.at l.held l.row (omega arith)) ∙ l.invariant.1
 
-pub insert-at-spec : {M : Type 1} → statement M
-insert-at-spec =
+pub insert_at_spec : {M : Type 1} → statement M
+insert_at_spec =
     tie.close
     (tie.spec
-    invariant-loop
-    decreases-loop
+    invariant-loop-at
+    decreases-loop-at
     loop-holds
-    mul-x
-    slice-read-x
-    mul-row
-    slice-write-row
-    add_at
+    offset_bounds-row-at
+    bounds-row-at
+    offset_bounds-row-at-in-loop-at
+    bounds-row-at-in-loop-at
+    overflow_add-at
     loop-less
     loop-again
-    same_length
+    shape_of-row
     returns)

@@ -5,65 +5,65 @@ use Rattle.rows.proofs.RowLends.{put_in_row}
 use Rattle.rows.proofs.put.put_in_row.Statement.{statement}
 use Rattle.rows.proofs.put.put_in_row.Tie as tie
 
-mul-a : tie.Need-overflow-mul-a
-mul-a c = search rules
+overflow_mul-a : tie.Need-overflow_mul-a
+overflow_mul-a c = search rules
 
-add-e : tie.Need-overflow-add-e
-add-e c = search rules
+overflow_add-e : tie.Need-overflow_add-e
+overflow_add-e c = search rules
 
-mul-put-in : tie.Need-overflow-mul-put-in
-mul-put-in c = search rules
+offset_bounds-ids-a : tie.Need-offset_bounds-ids-a
+offset_bounds-ids-a c = search rules
 
-sub-put-in : tie.Need-overflow-sub-put-in
-sub-put-in c = search rules
+slice_bounds-put_in-count : tie.Need-slice_bounds-put_in-count
+slice_bounds-put_in-count c = search rules
 
-part-put-in-start : tie.Need-slice-bounds-put-in-start
+part-put-in-start : tie.Need-slice_bounds-put_in-start
 part-put-in-start c = search rules
 
-part-put-in-end : tie.Need-slice-bounds-put-in-end
+part-put-in-end : tie.Need-slice_bounds-put_in-end
 part-put-in-end c = search rules
 
-mul-put-in-2 : tie.Need-overflow-mul-put-in-2
-mul-put-in-2 c = search rules
+offset_bounds-distances-a : tie.Need-offset_bounds-distances-a
+offset_bounds-distances-a c = search rules
 
-sub-put-in-2 : tie.Need-overflow-sub-put-in-2
-sub-put-in-2 c = search rules
+slice_bounds-put_in-count-2 : tie.Need-slice_bounds-put_in-count-2
+slice_bounds-put_in-count-2 c = search rules
 
-part-put-in-start-2 : tie.Need-slice-bounds-put-in-start-2
+part-put-in-start-2 : tie.Need-slice_bounds-put_in-start-2
 part-put-in-start-2 c = search rules
 
-part-put-in-end-2 : tie.Need-slice-bounds-put-in-end-2
+part-put-in-end-2 : tie.Need-slice_bounds-put_in-end-2
 part-put-in-end-2 c = search rules
 
-put-in-requires : tie.Need-put-in-requires
-put-in-requires c κs = search rules
+put_in-requires : tie.Need-put_in-requires
+put_in-requires c κs = search rules
 
-same_length : tie.Need-same-length
-same_length c = search rules
+shape_of-ids : tie.Need-shape_of-ids
+shape_of-ids c = search rules
 
-same-length-2 : tie.Need-same-length-2
-same-length-2 c = search rules
+shape_of-distances : tie.Need-shape_of-distances
+shape_of-distances c = search rules
 
 returns : tie.Need-returns
 returns c =
     let t = c.before.before.before.before in
     put_in_row t.before.before.before.before.before.requires t.put_in.ensures
 
-pub put-in-row-spec : {M : Type 1} → statement M
-put-in-row-spec =
+pub put_in_row_spec : {M : Type 1} → statement M
+put_in_row_spec =
     tie.close
     (tie.spec
-    mul-a
-    add-e
-    mul-put-in
-    sub-put-in
+    overflow_mul-a
+    overflow_add-e
+    offset_bounds-ids-a
+    slice_bounds-put_in-count
     part-put-in-start
     part-put-in-end
-    mul-put-in-2
-    sub-put-in-2
+    offset_bounds-distances-a
+    slice_bounds-put_in-count-2
     part-put-in-start-2
     part-put-in-end-2
-    put-in-requires
-    same_length
-    same-length-2
+    put_in-requires
+    shape_of-ids
+    shape_of-distances
     returns)

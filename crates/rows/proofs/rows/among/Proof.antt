@@ -9,51 +9,51 @@ use borrow.Author.Rules.{rules}
 use Rattle.rows.proofs.rows.among.Statement.{statement}
 use Rattle.rows.proofs.rows.among.Tie as tie
 
-abbrev invariant-loop : tie.invariant-loop
-invariant-loop ids p k j₀ c₀ j c = (j ≤ k) × (c ≤ j) × (c ≡ among ids p j)
+abbrev invariant-loop-j : tie.invariant-loop-j
+invariant-loop-j ids p k j₀ c₀ j c = (j ≤ k) × (c ≤ j) × (c ≡ among ids p j)
 
-abbrev decreases-loop : tie.decreases-loop
-decreases-loop ids p k j₀ c₀ j c = k - j
+abbrev decreases-loop-j : tie.decreases-loop-j
+decreases-loop-j ids p k j₀ c₀ j c = k - j
 
-loop-holds : tie.Need-loop-init invariant-loop decreases-loop
+loop-holds : tie.Need-loop-j-init invariant-loop-j decreases-loop-j
 loop-holds c = (search rules, search rules, sym (among_start _ _))
 
-mul-q : tie.Need-overflow-mul-q invariant-loop decreases-loop
-mul-q c = search rules
+offset_bounds-ids-j : tie.Need-offset_bounds-ids-j invariant-loop-j decreases-loop-j
+offset_bounds-ids-j c = search rules
 
-shared-slice-read-q : tie.Need-shared-slice-read-q invariant-loop decreases-loop
-shared-slice-read-q c = search rules
+bounds-ids-j : tie.Need-bounds-ids-j invariant-loop-j decreases-loop-j
+bounds-ids-j c = search rules
 
-same-requires : tie.Need-same-requires invariant-loop decreases-loop
-same-requires c κs = search rules
+same-c-requires : tie.Need-same-c-requires invariant-loop-j decreases-loop-j
+same-c-requires c κs = search rules
 
-add-c : tie.Need-overflow-add-c invariant-loop decreases-loop
-add-c c = omega (arith, c.same.ensures.1)
+overflow_add-c : tie.Need-overflow_add-c invariant-loop-j decreases-loop-j
+overflow_add-c c = omega (arith, c.same-c.ensures.1)
 
-add-j : tie.Need-overflow-add-j invariant-loop decreases-loop
-add-j c = search rules
+overflow_add-j : tie.Need-overflow_add-j invariant-loop-j decreases-loop-j
+overflow_add-j c = search rules
 
-loop-less : tie.Need-loop-smaller invariant-loop decreases-loop
+loop-less : tie.Need-loop-j-smaller invariant-loop-j decreases-loop-j
 loop-less c = search rules
 
-loop-again : tie.Need-loop-preserved invariant-loop decreases-loop
-loop-again c = (search rules, omega (arith, c.same.ensures.1), among_turn _ _ _ _ _ c.before.before.before.loop.invariant.2 c.same.ensures.0)
+loop-again : tie.Need-loop-j-preserved invariant-loop-j decreases-loop-j
+loop-again c = (search rules, omega (arith, c.same-c.ensures.1), among_turn _ _ _ _ _ c.before.before.before.loop-j.invariant.2 c.same-c.ensures.0)
 
-returns : tie.Need-returns invariant-loop decreases-loop
-returns c = among_end _ _ _ _ _ c.before.loop.invariant.0 c.loop-test.false c.before.loop.invariant.2
+returns : tie.Need-returns invariant-loop-j decreases-loop-j
+returns c = among_end _ _ _ _ _ c.before.loop-j.invariant.0 c.loop-j-test.false c.before.loop-j.invariant.2
 
-pub among-spec : {M : Type 1} → statement M
-among-spec =
+pub among_spec : {M : Type 1} → statement M
+among_spec =
     tie.close
     (tie.spec
-    invariant-loop
-    decreases-loop
+    invariant-loop-j
+    decreases-loop-j
     loop-holds
-    mul-q
-    shared-slice-read-q
-    same-requires
-    add-c
-    add-j
+    offset_bounds-ids-j
+    bounds-ids-j
+    same-c-requires
+    overflow_add-c
+    overflow_add-j
     loop-less
     loop-again
     returns)

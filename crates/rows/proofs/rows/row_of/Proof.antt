@@ -8,29 +8,29 @@ use borrow.Author.Rules.{rules}
 use Rattle.rows.proofs.rows.row_of.Statement.{statement}
 use Rattle.rows.proofs.rows.row_of.Tie as tie
 
-mul-from : tie.Need-overflow-mul-from
-mul-from c = search rules
+overflow_mul-from : tie.Need-overflow_mul-from
+overflow_mul-from c = search rules
 
-add-end : tie.Need-overflow-add-end
-add-end c = search rules
+overflow_add-end : tie.Need-overflow_add-end
+overflow_add-end c = search rules
 
-mul-result : tie.Need-overflow-mul-result
-mul-result c = search rules
+offset_bounds-entries-from : tie.Need-offset_bounds-entries-from
+offset_bounds-entries-from c = search rules
 
-sub-result : tie.Need-overflow-sub-result
-sub-result c = search rules
+slice_bounds-result-count : tie.Need-slice_bounds-result-count
+slice_bounds-result-count c = search rules
 
-part-result-start : tie.Need-slice-bounds-result-start
+part-result-start : tie.Need-slice_bounds-result-start
 part-result-start c = search rules
 
-part-result-end : tie.Need-slice-bounds-result-end
+part-result-end : tie.Need-slice_bounds-result-end
 part-result-end c = search rules
 
 returns : tie.Need-returns
 unfolding row_entries
 returns c = let a = c.before.args in let q : a.i * a.places + a.places - a.i * a.places ≡ a.places = omega arith in rw q
 
-pub row-of-spec : {M : Type 1} → statement M
-row-of-spec =
+pub row_of_spec : {M : Type 1} → statement M
+row_of_spec =
     tie.close
-    (tie.spec mul-from add-end mul-result sub-result part-result-start part-result-end returns)
+    (tie.spec overflow_mul-from overflow_add-end offset_bounds-entries-from slice_bounds-result-count part-result-start part-result-end returns)

@@ -7,11 +7,11 @@ use Rattle.network.specs.Count.{bit}
 use Rattle.rows.proofs.rows.same.Statement.{statement}
 use Rattle.rows.proofs.rows.same.Tie as tie
 
-returns : tie.Need-returns
-returns c = (sym (ap bit (eq-eqb _ _ c.if1.true)), omega arith)
+returns-then-q-p : tie.Need-returns-then-q-p
+returns-then-q-p c = (sym (ap bit (eq-eqb _ _ c.if-q-p.true)), omega arith)
 
-returns-2 : tie.Need-returns-2
-returns-2 c = (sym (ap bit (ne_eqb _ _ c.if1.false)), omega arith)
+returns : tie.Need-returns
+returns c = (sym (ap bit (ne_eqb _ _ c.if-q-p.false)), omega arith)
 
 pub same_spec : {M : Type 1} → statement M
-same_spec = tie.close (tie.spec returns returns-2)
+same_spec = tie.close (tie.spec returns-then-q-p returns)

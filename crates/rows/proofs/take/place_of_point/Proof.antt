@@ -9,49 +9,49 @@ use borrow.Author.Rules.{rules}
 use Rattle.rows.proofs.take.place_of_point.Statement.{statement}
 use Rattle.rows.proofs.take.place_of_point.Tie as tie
 
-abbrev invariant-loop : tie.invariant-loop
-invariant-loop ids p at₀ at = (at ≤ length ids) × ((j : _) → j < at → get_or ids j 0 ≢ p)
+abbrev invariant-loop-at : tie.invariant-loop-at
+invariant-loop-at ids p at₀ at = (at ≤ length ids) × ((j : _) → j < at → get_or ids j 0 ≢ p)
 
-abbrev decreases-loop : tie.decreases-loop
-decreases-loop ids p at₀ at = length ids - at
+abbrev decreases-loop-at : tie.decreases-loop-at
+decreases-loop-at ids p at₀ at = length ids - at
 
-loop-holds : tie.Need-loop-init invariant-loop decreases-loop
+loop-holds : tie.Need-loop-at-init invariant-loop-at decreases-loop-at
 loop-holds c = (omega arith, λ j h. absurd (omega arith))
 
-mul-q : tie.Need-overflow-mul-q invariant-loop decreases-loop
-mul-q c = search rules
+offset_bounds-ids-at : tie.Need-offset_bounds-ids-at invariant-loop-at decreases-loop-at
+offset_bounds-ids-at c = search rules
 
-shared-slice-read-q : tie.Need-shared-slice-read-q invariant-loop decreases-loop
-shared-slice-read-q c = search rules
+bounds-ids-at : tie.Need-bounds-ids-at invariant-loop-at decreases-loop-at
+bounds-ids-at c = search rules
 
-returns : tie.Need-returns invariant-loop decreases-loop
-returns c = let l = c.before.before.before.loop in record { most = l.invariant.0; before = l.invariant.1; here = λ h. c.if1.true }
+returns-then-q-p : tie.Need-returns-then-q-p invariant-loop-at decreases-loop-at
+returns-then-q-p c = let l = c.before.before.before.loop-at in record { most = l.invariant.0; before = l.invariant.1; here = λ h. c.if-q-p.true }
 
-add_at : tie.Need-overflow-add-at invariant-loop decreases-loop
-add_at c = search rules
+overflow_add-at : tie.Need-overflow_add-at invariant-loop-at decreases-loop-at
+overflow_add-at c = search rules
 
-loop-less : tie.Need-loop-smaller invariant-loop decreases-loop
+loop-less : tie.Need-loop-at-smaller invariant-loop-at decreases-loop-at
 loop-less c = search rules
 
-loop-again : tie.Need-loop-preserved invariant-loop decreases-loop
+loop-again : tie.Need-loop-at-preserved invariant-loop-at decreases-loop-at
 loop-again c =
     let l = c.before.before.before in
-    (omega arith, point_more l.before.args.ids.now l.before.args.p l.loop.at l.loop.invariant.1 c.if1.false)
+    (omega arith, point_more l.before.args.ids.now l.before.args.p l.loop-at.at l.loop-at.invariant.1 c.if-q-p.false)
 
-returns-2 : tie.Need-returns-2 invariant-loop decreases-loop
-returns-2 c = let l = c.before.loop in record { most = l.invariant.0; before = l.invariant.1; here = λ h. absurd (omega arith) }
+returns : tie.Need-returns invariant-loop-at decreases-loop-at
+returns c = let l = c.before.loop-at in record { most = l.invariant.0; before = l.invariant.1; here = λ h. absurd (omega arith) }
 
-pub place-of-point-spec : {M : Type 1} → statement M
-place-of-point-spec =
+pub place_of_point_spec : {M : Type 1} → statement M
+place_of_point_spec =
     tie.close
     (tie.spec
-    invariant-loop
-    decreases-loop
+    invariant-loop-at
+    decreases-loop-at
     loop-holds
-    mul-q
-    shared-slice-read-q
-    returns
-    add_at
+    offset_bounds-ids-at
+    bounds-ids-at
+    returns-then-q-p
+    overflow_add-at
     loop-less
     loop-again
-    returns-2)
+    returns)

@@ -6,55 +6,55 @@ use borrow.Author.Rules.{rules}
 use Rattle.rows.proofs.take.take_at.Statement.{statement}
 use Rattle.rows.proofs.take.take_at.Tie as tie
 
-abbrev invariant-loop : tie.invariant-loop
-invariant-loop row₀ place held₀ at₀ row held at = Shifting row₀ row place at held
+abbrev invariant-loop-at : tie.invariant-loop-at
+invariant-loop-at row₀ place held₀ at₀ row held at = Shifting row₀ row place at held
 
-abbrev decreases-loop : tie.decreases-loop
-decreases-loop row₀ place held₀ at₀ row held at = at
+abbrev decreases-loop-at : tie.decreases-loop-at
+decreases-loop-at row₀ place held₀ at₀ row held at = at
 
-loop-holds : tie.Need-loop-init invariant-loop decreases-loop
+loop-holds : tie.Need-loop-at-init invariant-loop-at decreases-loop-at
 loop-holds c = shift_none c.args.row.now c.args.place c.requires
 
-sub_at : tie.Need-overflow-sub-at invariant-loop decreases-loop
-sub_at c = search rules
+overflow_sub-at : tie.Need-overflow_sub-at invariant-loop-at decreases-loop-at
+overflow_sub-at c = search rules
 
-mul-x : tie.Need-overflow-mul-x invariant-loop decreases-loop
-mul-x c = search rules
+offset_bounds-row-at : tie.Need-offset_bounds-row-at invariant-loop-at decreases-loop-at
+offset_bounds-row-at c = search rules
 
-slice-read-x : tie.Need-slice-read-x invariant-loop decreases-loop
-slice-read-x c = let l = c.before.before.loop.invariant in omega (arith, l.size, l.high)
+bounds-row-at : tie.Need-bounds-row-at invariant-loop-at decreases-loop-at
+bounds-row-at c = let l = c.before.before.loop-at.invariant in omega (arith, l.size, l.high)
 
-mul-row : tie.Need-overflow-mul-row invariant-loop decreases-loop
-mul-row c = search rules
+offset_bounds-row-at-in-loop-at : tie.Need-offset_bounds-row-at-in-loop-at invariant-loop-at decreases-loop-at
+offset_bounds-row-at-in-loop-at c = search rules
 
-slice-write-row : tie.Need-slice-write-row invariant-loop decreases-loop
-slice-write-row c = let l = c.before.before.loop.invariant in omega (arith, l.size, l.high)
+bounds-row-at-in-loop-at : tie.Need-bounds-row-at-in-loop-at invariant-loop-at decreases-loop-at
+bounds-row-at-in-loop-at c = let l = c.before.before.loop-at.invariant in omega (arith, l.size, l.high)
 
-loop-less : tie.Need-loop-smaller invariant-loop decreases-loop
+loop-less : tie.Need-loop-at-smaller invariant-loop-at decreases-loop-at
 loop-less c = search rules
 
-loop-again : tie.Need-loop-preserved invariant-loop decreases-loop
-loop-again c = shift_more c.before.before.loop.invariant c.before.loop-test.true
+loop-again : tie.Need-loop-at-preserved invariant-loop-at decreases-loop-at
+loop-again c = shift_more c.before.before.loop-at.invariant c.before.loop-at-test.true
 
-same_length : tie.Need-same-length invariant-loop decreases-loop
-same_length c = c.before.loop.invariant.size
+shape_of-row : tie.Need-shape_of-row invariant-loop-at decreases-loop-at
+shape_of-row c = c.before.loop-at.invariant.size
 
-returns : tie.Need-returns invariant-loop decreases-loop
-returns c = shift_all c.before.loop.invariant (omega arith)
+returns : tie.Need-returns invariant-loop-at decreases-loop-at
+returns c = shift_all c.before.loop-at.invariant (omega arith)
 
-pub take-at-spec : {M : Type 1} → statement M
-take-at-spec =
+pub take_at_spec : {M : Type 1} → statement M
+take_at_spec =
     tie.close
     (tie.spec
-    invariant-loop
-    decreases-loop
+    invariant-loop-at
+    decreases-loop-at
     loop-holds
-    sub_at
-    mul-x
-    slice-read-x
-    mul-row
-    slice-write-row
+    overflow_sub-at
+    offset_bounds-row-at
+    bounds-row-at
+    offset_bounds-row-at-in-loop-at
+    bounds-row-at-in-loop-at
     loop-less
     loop-again
-    same_length
+    shape_of-row
     returns)

@@ -6,54 +6,54 @@ use borrow.Author.Rules.{rules}
 use Rattle.rows.proofs.take.take_out.Statement.{statement}
 use Rattle.rows.proofs.take.take_out.Tie as tie
 
-among-requires : tie.Need-among-requires
-among-requires c κs = search rules
+among-c-requires : tie.Need-among-c-requires
+among-c-requires c κs = search rules
 
-same_length : tie.Need-same-length
-same_length c = search rules
+shape_of-ids-then-c-all : tie.Need-shape_of-ids-then-c-all
+shape_of-ids-then-c-all c = search rules
+
+returns-then-c-all : tie.Need-returns-then-c-all
+returns-then-c-all c = record { ids_size = refl; dists_size = refl; row = refl; was = has_not_all _ _ _ _ _ c.before.among-c.ensures c.if-c-all.true }
+
+place_of_point-at-requires : tie.Need-place_of_point-at-requires
+place_of_point-at-requires c κs = search rules
+
+take_at-requires : tie.Need-take_at-requires
+take_at-requires c κs = search rules
+
+take_at-requires-2 : tie.Need-take_at-requires-2
+take_at-requires-2 c κs = search rules
+
+shape_of-ids : tie.Need-shape_of-ids
+shape_of-ids c = search rules
+
+shape_of-distances : tie.Need-shape_of-distances
+shape_of-distances c = search rules
 
 returns : tie.Need-returns
-returns c = record { ids_size = refl; dists_size = refl; row = refl; was = has_not_all _ _ _ _ _ c.before.among.ensures c.if1.true }
-
-place-of-point-requires : tie.Need-place-of-point-requires
-place-of-point-requires c κs = search rules
-
-take-at-requires : tie.Need-take-at-requires
-take-at-requires c κs = search rules
-
-take-at-requires-2 : tie.Need-take-at-requires-2
-take-at-requires-2 c κs = search rules
-
-same-length-2 : tie.Need-same-length-2
-same-length-2 c = search rules
-
-same-length-3 : tie.Need-same-length-3
-same-length-3 c = search rules
-
-returns-2 : tie.Need-returns-2
-returns-2 c =
+returns c =
     let e = c.before.before in
     let i = e.before.before.before.before in
     let o = i.before.before in
     let f = i.take_at.ensures in
-    let g = e.take-at2.ensures in
+    let g = e.take_at-2.ensures in
     record {
       ids_size = f.size;
       dists_size = g.size;
-      row = taken_row (search rules) o.place-of-point.ensures f g;
-      was = has_all_lem _ _ _ _ _ o.before.before.before.among.ensures o.before.before.if1.false;
+      row = taken_row (search rules) o.place_of_point-at.ensures f g;
+      was = has_all_lem _ _ _ _ _ o.before.before.before.among-c.ensures o.before.before.if-c-all.false;
     }
 
-pub take-out-spec : {M : Type 1} → statement M
-take-out-spec =
+pub take_out_spec : {M : Type 1} → statement M
+take_out_spec =
     tie.close
     (tie.spec
-    among-requires
-    same_length
-    returns
-    place-of-point-requires
-    take-at-requires
-    take-at-requires-2
-    same-length-2
-    same-length-3
-    returns-2)
+    among-c-requires
+    shape_of-ids-then-c-all
+    returns-then-c-all
+    place_of_point-at-requires
+    take_at-requires
+    take_at-requires-2
+    shape_of-ids
+    shape_of-distances
+    returns)

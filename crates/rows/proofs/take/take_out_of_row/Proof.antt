@@ -5,65 +5,65 @@ use borrow.Author.Rules.{rules}
 use Rattle.rows.proofs.take.take_out_of_row.Statement.{statement}
 use Rattle.rows.proofs.take.take_out_of_row.Tie as tie
 
-mul-a : tie.Need-overflow-mul-a
-mul-a c = search rules
+overflow_mul-a : tie.Need-overflow_mul-a
+overflow_mul-a c = search rules
 
-add-e : tie.Need-overflow-add-e
-add-e c = search rules
+overflow_add-e : tie.Need-overflow_add-e
+overflow_add-e c = search rules
 
-mul-take-out : tie.Need-overflow-mul-take-out
-mul-take-out c = search rules
+offset_bounds-ids-a : tie.Need-offset_bounds-ids-a
+offset_bounds-ids-a c = search rules
 
-sub-take-out : tie.Need-overflow-sub-take-out
-sub-take-out c = search rules
+slice_bounds-take_out-count : tie.Need-slice_bounds-take_out-count
+slice_bounds-take_out-count c = search rules
 
-part-take-out-start : tie.Need-slice-bounds-take-out-start
+part-take-out-start : tie.Need-slice_bounds-take_out-start
 part-take-out-start c = search rules
 
-part-take-out-end : tie.Need-slice-bounds-take-out-end
+part-take-out-end : tie.Need-slice_bounds-take_out-end
 part-take-out-end c = search rules
 
-mul-take-out-2 : tie.Need-overflow-mul-take-out-2
-mul-take-out-2 c = search rules
+offset_bounds-distances-a : tie.Need-offset_bounds-distances-a
+offset_bounds-distances-a c = search rules
 
-sub-take-out-2 : tie.Need-overflow-sub-take-out-2
-sub-take-out-2 c = search rules
+slice_bounds-take_out-count-2 : tie.Need-slice_bounds-take_out-count-2
+slice_bounds-take_out-count-2 c = search rules
 
-part-take-out-start-2 : tie.Need-slice-bounds-take-out-start-2
+part-take-out-start-2 : tie.Need-slice_bounds-take_out-start-2
 part-take-out-start-2 c = search rules
 
-part-take-out-end-2 : tie.Need-slice-bounds-take-out-end-2
+part-take-out-end-2 : tie.Need-slice_bounds-take_out-end-2
 part-take-out-end-2 c = search rules
 
-take-out-requires : tie.Need-take-out-requires
-take-out-requires c κs = search rules
+take_out-requires : tie.Need-take_out-requires
+take_out-requires c κs = search rules
 
-same_length : tie.Need-same-length
-same_length c = search rules
+shape_of-ids : tie.Need-shape_of-ids
+shape_of-ids c = search rules
 
-same-length-2 : tie.Need-same-length-2
-same-length-2 c = search rules
+shape_of-distances : tie.Need-shape_of-distances
+shape_of-distances c = search rules
 
 returns : tie.Need-returns
 returns c =
     let t = c.before.before.before.before in
     taken_out_of_row t.before.before.before.before.before.requires t.take_out.ensures
 
-pub take-out-of-row-spec : {M : Type 1} → statement M
-take-out-of-row-spec =
+pub take_out_of_row_spec : {M : Type 1} → statement M
+take_out_of_row_spec =
     tie.close
     (tie.spec
-    mul-a
-    add-e
-    mul-take-out
-    sub-take-out
+    overflow_mul-a
+    overflow_add-e
+    offset_bounds-ids-a
+    slice_bounds-take_out-count
     part-take-out-start
     part-take-out-end
-    mul-take-out-2
-    sub-take-out-2
+    offset_bounds-distances-a
+    slice_bounds-take_out-count-2
     part-take-out-start-2
     part-take-out-end-2
-    take-out-requires
-    same_length
-    same-length-2
+    take_out-requires
+    shape_of-ids
+    shape_of-distances
     returns)

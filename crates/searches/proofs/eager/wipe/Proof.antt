@@ -9,36 +9,36 @@ use Rattle.searches.proofs.eager.wipe.Tie as tie
 clear-requires : tie.Need-clear-requires
 clear-requires c κs = search rules
 
-mul-e : tie.Need-overflow-mul-e
-mul-e c = search rules
+overflow_mul-e : tie.Need-overflow_mul-e
+overflow_mul-e c = search rules
 
-slice-relend-prefix-zero : tie.Need-slice-relend-prefix-zero
-slice-relend-prefix-zero c = search rules
+slice_bounds-zero-end : tie.Need-slice_bounds-zero-end
+slice_bounds-zero-end c = search rules
 
-slice-aggregate-zero : tie.Need-slice-aggregate-zero
-slice-aggregate-zero c =
+slice_bounds-zero-end-2 : tie.Need-slice_bounds-zero-end-2
+slice_bounds-zero-end-2 c =
     let k = c.before.before.before in
     sym (flags_length k.before.before.before.requires k.clear.ensures)
 
 zero-requires : tie.Need-zero-requires
 zero-requires c κs = search rules
 
-same_length : tie.Need-same-length
-same_length c = search rules
+shape_of-s : tie.Need-shape_of-s
+shape_of-s c = search rules
 
 returns : tie.Need-returns
 returns c =
     let k = c.before.before.before.before.before.before in
     wiped_all k.before.before.before.requires k.clear.ensures c.before.before.zero.ensures
 
-pub wipe-spec : {M : Type 1} → statement M
-wipe-spec =
+pub wipe_spec : {M : Type 1} → statement M
+wipe_spec =
     tie.close
     (tie.spec
     clear-requires
-    mul-e
-    slice-relend-prefix-zero
-    slice-aggregate-zero
+    overflow_mul-e
+    slice_bounds-zero-end
+    slice_bounds-zero-end-2
     zero-requires
-    same_length
+    shape_of-s
     returns)

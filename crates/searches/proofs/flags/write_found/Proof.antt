@@ -14,89 +14,89 @@ use borrow.Author.Rules.{rules}
 use Rattle.searches.proofs.flags.write_found.Statement.{statement}
 use Rattle.searches.proofs.flags.write_found.Tie as tie
 
-abbrev invariant-loop : tie.invariant-loop
-invariant-loop s answers₀ b n len₀ p₀ at₀ answers len p at =
+abbrev invariant-loop-at : tie.invariant-loop-at
+invariant-loop-at s answers₀ b n len₀ p₀ at₀ answers len p at =
     (at ≤ n) × (p ≡ at) × WrittenList (is_found b s) at answers₀ answers len
 
-abbrev decreases-loop : tie.decreases-loop
-decreases-loop s answers₀ b n len₀ p₀ at₀ answers len p at = n - at
+abbrev decreases-loop-at : tie.decreases-loop-at
+decreases-loop-at s answers₀ b n len₀ p₀ at₀ answers len p at = n - at
 
-loop-holds : tie.Need-loop-init invariant-loop decreases-loop
+loop-holds : tie.Need-loop-at-init invariant-loop-at decreases-loop-at
 loop-holds c =
     (omega arith, refl, written_none (is_found c.args.b c.args.s.now) c.args.answers.now)
 
-add-flag : tie.Need-overflow-add-flag invariant-loop decreases-loop
-add-flag c = search rules
+overflow_add-flag : tie.Need-overflow_add-flag invariant-loop-at decreases-loop-at
+overflow_add-flag c = search rules
 
-mul-flag : tie.Need-overflow-mul-flag invariant-loop decreases-loop
-mul-flag c = search rules
+offset_bounds-s-b : tie.Need-offset_bounds-s-b invariant-loop-at decreases-loop-at
+offset_bounds-s-b c = search rules
 
-shared-slice-read-flag : tie.Need-shared-slice-read-flag invariant-loop decreases-loop
-shared-slice-read-flag c = search rules
+bounds-s-b : tie.Need-bounds-s-b invariant-loop-at decreases-loop-at
+bounds-s-b c = search rules
 
-mul-answers : tie.Need-overflow-mul-answers invariant-loop decreases-loop
-mul-answers c = search rules
+offset_bounds-answers-len : tie.Need-offset_bounds-answers-len invariant-loop-at decreases-loop-at
+offset_bounds-answers-len c = search rules
 
-slice-write-answers : tie.Need-slice-write-answers invariant-loop decreases-loop
-slice-write-answers c =
+bounds-answers-len : tie.Need-bounds-answers-len invariant-loop-at decreases-loop-at
+bounds-answers-len c =
     let l = c.before.before.before in
-    omega (arith, l.loop.invariant.2.size, l.loop.invariant.2.few)
+    omega (arith, l.loop-at.invariant.2.size, l.loop-at.invariant.2.few)
 
-add-len : tie.Need-overflow-add-len invariant-loop decreases-loop
-add-len c =
+overflow_add-len : tie.Need-overflow_add-len invariant-loop-at decreases-loop-at
+overflow_add-len c =
     let l = c.before.before.before in
-    record { fits = omega (arith, l.loop.invariant.2.few) }
+    record { fits = omega (arith, l.loop-at.invariant.2.few) }
 
-add-p : tie.Need-overflow-add-p invariant-loop decreases-loop
-add-p c = search rules
+overflow_add-p : tie.Need-overflow_add-p invariant-loop-at decreases-loop-at
+overflow_add-p c = search rules
 
-add_at : tie.Need-overflow-add-at invariant-loop decreases-loop
-add_at c = search rules
+overflow_add-at : tie.Need-overflow_add-at invariant-loop-at decreases-loop-at
+overflow_add-at c = search rules
 
-loop-less : tie.Need-loop-smaller invariant-loop decreases-loop
+loop-less : tie.Need-loop-at-smaller invariant-loop-at decreases-loop-at
 loop-less c = search rules
 
-loop-again : tie.Need-loop-preserved invariant-loop decreases-loop
+loop-again : tie.Need-loop-at-preserved invariant-loop-at decreases-loop-at
 loop-again c =
     let i = c.before.before in
     let l = i.before in
-    let w = l.loop.invariant.2 in
+    let w = l.loop-at.invariant.2 in
     let s = l.before.args.s.now in
     let b = l.before.args.b in (
       omega arith,
       omega arith,
       ⊎_elim
-          (λ a. rw (a.1, a.2, l.loop.invariant.1) (written_more w (omega arith) (ap not (ne_eqb (get_or s (b + l.loop.at) 0) 0 a.0.taken))))
-          (λ a. rw (a.1, a.2) (written_skip w (ap not (eq-eqb (get_or s (b + l.loop.at) 0) 0 a.0.left))))
-          c.if1.branch,
+          (λ a. rw (a.1, a.2, l.loop-at.invariant.1) (written_more w (omega arith) (ap not (ne_eqb (get_or s (b + l.loop-at.at) 0) 0 a.0.taken))))
+          (λ a. rw (a.1, a.2) (written_skip w (ap not (eq-eqb (get_or s (b + l.loop-at.at) 0) 0 a.0.left))))
+          c.if-flag-ne0.branch,
     )
 
-same_length : tie.Need-same-length invariant-loop decreases-loop
-same_length c = search rules
+shape_of-answers : tie.Need-shape_of-answers invariant-loop-at decreases-loop-at
+shape_of-answers c = search rules
 
-returns : tie.Need-returns invariant-loop decreases-loop
+returns : tie.Need-returns invariant-loop-at decreases-loop-at
 returns c =
     let l = c.before in
-    let e : l.loop.at ≡ l.before.args.n = omega (arith, l.loop.invariant.0, c.loop-test.false) in
-    let w = rw e at l.loop.invariant.2 in
+    let e : l.loop-at.at ≡ l.before.args.n = omega (arith, l.loop-at.invariant.0, c.loop-at-test.false) in
+    let w = rw e at l.loop-at.invariant.2 in
     (written_all w, w.count)
 
-pub write-found-spec : {M : Type 1} → statement M
-write-found-spec =
+pub write_found_spec : {M : Type 1} → statement M
+write_found_spec =
     tie.close
     (tie.spec
-    invariant-loop
-    decreases-loop
+    invariant-loop-at
+    decreases-loop-at
     loop-holds
-    add-flag
-    mul-flag
-    shared-slice-read-flag
-    mul-answers
-    slice-write-answers
-    add-len
-    add-p
-    add_at
+    overflow_add-flag
+    offset_bounds-s-b
+    bounds-s-b
+    offset_bounds-answers-len
+    bounds-answers-len
+    overflow_add-len
+    overflow_add-p
+    overflow_add-at
     loop-less
     loop-again
-    same_length
+    shape_of-answers
     returns)

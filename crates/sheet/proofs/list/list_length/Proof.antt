@@ -11,91 +11,91 @@ use borrow.Author.Rules.{rules}
 use Rattle.sheet.proofs.list.list_length.Statement.{statement}
 use Rattle.sheet.proofs.list.list_length.Tie as tie
 
-abbrev invariant-loop : tie.invariant-loop
-invariant-loop starts neighbours weights households s₀ q n size₀ sum₀ i₀ s size sum i =
+abbrev invariant-loop-i : tie.invariant-loop-i
+invariant-loop-i starts neighbours weights households s₀ q n size₀ sum₀ i₀ s size sum i =
     let g = network starts neighbours weights in
     (xs : List ℕ) → CanList g xs q → MemberTaken (node_count g) xs s₀ households q q 0 (record { size = size₀; sum = sum₀ }) → Collecting g xs s households q size sum i
 
-abbrev decreases-loop : tie.decreases-loop
-decreases-loop starts neighbours weights households s₀ q n size₀ sum₀ i₀ s size sum i = n - i
+abbrev decreases-loop-i : tie.decreases-loop-i
+decreases-loop-i starts neighbours weights households s₀ q n size₀ sum₀ i₀ s size sum i = n - i
 
-abbrev start : tie.At-loop invariant-loop decreases-loop → tie.Start invariant-loop decreases-loop
+abbrev start : tie.At-loop-i invariant-loop-i decreases-loop-i → tie.Start invariant-loop-i decreases-loop-i
 start c = c.before.before.before.before.before.before.before.before.before.before
 
-abbrev G : tie.Start invariant-loop decreases-loop → Network
+abbrev G : tie.Start invariant-loop-i decreases-loop-i → Network
 G s = network s.args.starts.now s.args.neighbours.now s.args.weights.now
 
-listing : (c : tie.At-loop invariant-loop decreases-loop)
+listing : (c : tie.At-loop-i invariant-loop-i decreases-loop-i)
     → let a = (start c).args in
-    Collecting (G (start c)) a.s.now c.loop.s a.households.now a.q c.loop.size c.loop.sum c.loop.i
-listing c = c.loop.invariant (start c).args.s.now (start c).requires c.before.before.before.take_in.ensures
+    Collecting (G (start c)) a.s-1.now c.loop-i.s-1 a.households.now a.q c.loop-i.size c.loop-i.sum c.loop-i.i
+listing c = c.loop-i.invariant (start c).args.s.now (start c).requires c.before.before.before.take_in-first.ensures
 
 -- a member's place is below n
-low : (c : tie.In-loop invariant-loop decreases-loop) → let n = node_count (G (start c.before)) in (c.before.loop.i < n) × (n ≤ 65535)
+low : (c : tie.In-loop-i invariant-loop-i decreases-loop-i) → let n = node_count (G (start c.before)) in (c.before.loop-i.i < n) × (n ≤ 65535)
 low c =
     let s = start c.before in
-    (omega (arith, c.loop-test.true, listing_few s.pre (listing c.before)), s.pre.accepted.few)
+    (omega (arith, c.loop-i-test.true, listing_few s.pre (listing c.before)), s.pre.accepted.few)
 
-sub-n : tie.Need-overflow-sub-n invariant-loop decreases-loop
-sub-n c = omega (arith, c.before.before.before.before.before.requires.accepted.some)
+overflow_sub-n : tie.Need-overflow_sub-n invariant-loop-i decreases-loop-i
+overflow_sub-n c = omega (arith, c.before.before.before.before.before.requires.accepted.some)
 
-take-in-requires : tie.Need-take-in-requires invariant-loop decreases-loop
-take-in-requires c κs = can_begin c.before.before.before.before.before.before.requires
+take_in-first-requires : tie.Need-take_in-first-requires invariant-loop-i decreases-loop-i
+take_in-first-requires c κs = can_begin c.before.before.before.before.before.before.requires
 
-loop-holds : tie.Need-loop-init invariant-loop decreases-loop
+loop-holds : tie.Need-loop-i-init invariant-loop-i decreases-loop-i
 loop-holds c = λ xs can t. listing_start can t
 
-mul-node : tie.Need-overflow-mul-node invariant-loop decreases-loop
-mul-node c = search rules
+overflow_mul-node : tie.Need-overflow_mul-node invariant-loop-i decreases-loop-i
+overflow_mul-node c = search rules
 
-add-node : tie.Need-overflow-add-node invariant-loop decreases-loop
-add-node c = omega (arith, low c)
+overflow_add-node : tie.Need-overflow_add-node invariant-loop-i decreases-loop-i
+overflow_add-node c = omega (arith, low c)
 
-mul-node-2 : tie.Need-overflow-mul-node-2 invariant-loop decreases-loop
-mul-node-2 c = omega (arith, low c)
+offset_bounds-s-n : tie.Need-offset_bounds-s-n invariant-loop-i decreases-loop-i
+offset_bounds-s-n c = omega (arith, low c)
 
-slice-read-node : tie.Need-slice-read-node invariant-loop decreases-loop
-slice-read-node c = omega (arith, low c.before, (listing c.before.before).grows.list.room)
+bounds-s-n : tie.Need-bounds-s-n invariant-loop-i decreases-loop-i
+bounds-s-n c = omega (arith, low c.before, (listing c.before.before).grows.list.room)
 
-add-i : tie.Need-overflow-add-i invariant-loop decreases-loop
-add-i c = omega (arith, low c.before)
+overflow_add-i : tie.Need-overflow_add-i invariant-loop-i decreases-loop-i
+overflow_add-i c = omega (arith, low c.before)
 
-follow-requires : tie.Need-follow-requires invariant-loop decreases-loop
-follow-requires c κs =
+follow-members-requires : tie.Need-follow-members-requires invariant-loop-i decreases-loop-i
+follow-members-requires c κs =
     let i = c.before.before in
-    can_follow (start i.before).pre (listing i.before) i.loop-test.true
+    can_follow (start i.before).pre (listing i.before) i.loop-i-test.true
 
-loop-less : tie.Need-loop-smaller invariant-loop decreases-loop
+loop-less : tie.Need-loop-i-smaller invariant-loop-i decreases-loop-i
 loop-less c = omega (arith, low c.before.before.before.before.before)
 
-loop-again : tie.Need-loop-preserved invariant-loop decreases-loop
+loop-again : tie.Need-loop-i-preserved invariant-loop-i decreases-loop-i
 loop-again c =
     let f = c.before.before in
     let i = f.before.before.before in
-    λ xs can t. listing_more can (i.before.loop.invariant xs can t) i.loop-test.true f.follow.ensures
+    λ xs can t. listing_more can (i.before.loop-i.invariant xs can t) i.loop-i-test.true f.follow-members.ensures
 
-same_length : tie.Need-same-length invariant-loop decreases-loop
-same_length c = (listing c.before).grows.frame.size
+shape_of-s : tie.Need-shape_of-s invariant-loop-i decreases-loop-i
+shape_of-s c = (listing c.before).grows.frame.size
 
-returns : tie.Need-returns invariant-loop decreases-loop
-returns c = listing_done (start c.before).pre (listing c.before) c.loop-test.false
+returns : tie.Need-returns invariant-loop-i decreases-loop-i
+returns c = listing_done (start c.before).pre (listing c.before) c.loop-i-test.false
 
-pub list-length-spec : {M : Type 1} → statement M
-list-length-spec =
+pub list_length_spec : {M : Type 1} → statement M
+list_length_spec =
     tie.close
     (tie.spec
-    invariant-loop
-    decreases-loop
-    sub-n
-    take-in-requires
+    invariant-loop-i
+    decreases-loop-i
+    overflow_sub-n
+    take_in-first-requires
     loop-holds
-    mul-node
-    add-node
-    mul-node-2
-    slice-read-node
-    add-i
-    follow-requires
+    overflow_mul-node
+    overflow_add-node
+    offset_bounds-s-n
+    bounds-s-n
+    overflow_add-i
+    follow-members-requires
     loop-less
     loop-again
-    same_length
+    shape_of-s
     returns)

@@ -19,93 +19,93 @@ mark : (c : tie.After-wide) → let a = (start c).args in get_or a.s.now (4 * a.
 mark c = let a = (start c).args in ap (λ (z : ℕ). get_or a.s.now (4 * a.n + z) 0) c.wide.ensures
 
 -- a node that the list has not got, and room for it
-fresh : (c : tie.Else1) → let a = (start c.before.before).args in get_or a.s.now (4 * a.n + a.node) 0 ≢ suc a.q
-fresh c e = c.if1.false (omega (arith, mark c.before.before, e))
+fresh : (c : tie.Else-mark-q) → let a = (start c.before.before).args in get_or a.s.now (4 * a.n + a.node) 0 ≢ suc a.q
+fresh c e = c.if-mark-q.false (omega (arith, mark c.before.before, e))
 
-room : (c : tie.Else1) → let a = (start c.before.before).args in (a.size < a.n) × (a.n ≤ 65535)
+room : (c : tie.Else-mark-q) → let a = (start c.before.before).args in (a.size < a.n) × (a.n ≤ 65535)
 room c = let s = start c.before.before in (list_room s.pre.list s.args.node s.pre.inside (fresh c), s.pre.list.few)
 
-mul_at : tie.Need-overflow-mul-at
-mul_at c = search rules
+overflow_mul-at : tie.Need-overflow_mul-at
+overflow_mul-at c = search rules
 
 wide-requires : tie.Need-wide-requires
 wide-requires c κs = search rules
 
-add_at : tie.Need-overflow-add-at
-add_at c = search rules
+overflow_add-at : tie.Need-overflow_add-at
+overflow_add-at c = search rules
 
-mul-mark : tie.Need-overflow-mul-mark
-mul-mark c = search rules
+offset_bounds-s-at : tie.Need-offset_bounds-s-at
+offset_bounds-s-at c = search rules
 
-slice-read-mark : tie.Need-slice-read-mark
-slice-read-mark c = search rules
+bounds-s-at : tie.Need-bounds-s-at
+bounds-s-at c = search rules
 
-add-if1 : tie.Need-overflow-add-if1
-add-if1 c = search rules
+overflow_add-q : tie.Need-overflow_add-q
+overflow_add-q c = search rules
+
+returns-then-mark-q : tie.Need-returns-then-mark-q
+returns-then-mark-q c = let s = start c.before.before in taken_before s.pre.list s.args.node (omega (arith, mark c.before.before, c.if-mark-q.true))
+
+overflow_add-s : tie.Need-overflow_add-s
+overflow_add-s c = search rules
+
+offset_bounds-s-at-2 : tie.Need-offset_bounds-s-at-2
+offset_bounds-s-at-2 c = search rules
+
+bounds-s-at-2 : tie.Need-bounds-s-at-2
+bounds-s-at-2 c = search rules
+
+overflow_mul-s : tie.Need-overflow_mul-s
+overflow_mul-s c = search rules
+
+overflow_add-s-2 : tie.Need-overflow_add-s-2
+overflow_add-s-2 c = omega (arith, room c)
+
+offset_bounds-s-n : tie.Need-offset_bounds-s-n
+offset_bounds-s-n c = omega (arith, room c)
+
+bounds-s-n : tie.Need-bounds-s-n
+bounds-s-n c = simp length-set (omega (arith, room c, (start c.before.before).requires.list.room))
+
+households_at-more-requires : tie.Need-households_at-more-requires
+households_at-more-requires c κs = search rules
+
+overflow_add-result : tie.Need-overflow_add-result
+overflow_add-result c = omega (arith, room c.before)
+
+overflow_add-result-2 : tie.Need-overflow_add-result-2
+overflow_add-result-2 c =
+    omega (arith, room c.before, (start c.before.before.before).requires.list.low, c.households_at-more.ensures.1)
+
+shape_of-s : tie.Need-shape_of-s
+shape_of-s c = search rules
 
 returns : tie.Need-returns
-returns c = let s = start c.before.before in taken_before s.pre.list s.args.node (omega (arith, mark c.before.before, c.if1.true))
-
-add-s : tie.Need-overflow-add-s
-add-s c = search rules
-
-mul-s : tie.Need-overflow-mul-s
-mul-s c = search rules
-
-slice-write-s : tie.Need-slice-write-s
-slice-write-s c = search rules
-
-mul-s-2 : tie.Need-overflow-mul-s-2
-mul-s-2 c = search rules
-
-add-s-2 : tie.Need-overflow-add-s-2
-add-s-2 c = omega (arith, room c)
-
-mul-s-3 : tie.Need-overflow-mul-s-3
-mul-s-3 c = omega (arith, room c)
-
-slice-write-s-2 : tie.Need-slice-write-s-2
-slice-write-s-2 c = simp length-set (omega (arith, room c, (start c.before.before).requires.list.room))
-
-households-at-requires : tie.Need-households-at-requires
-households-at-requires c κs = search rules
-
-add-t11 : tie.Need-overflow-add-t11
-add-t11 c = omega (arith, room c.before)
-
-add-t14 : tie.Need-overflow-add-t14
-add-t14 c =
-    omega (arith, room c.before, (start c.before.before.before).requires.list.low, c.households-at.ensures.1)
-
-same_length : tie.Need-same-length
-same_length c = search rules
-
-returns-2 : tie.Need-returns-2
-returns-2 c =
+returns c =
     let s = start c.before.before.before in
-    let h = c.households-at.ensures in
+    let h = c.households_at-more.ensures in
     rw (c.before.before.before.wide.ensures, add-one s.args.q, h.0) (taken_new s.pre.list s.args.node s.pre.inside (fresh c.before) (omega arith))
 
-pub take-in-spec : {M : Type 1} → statement M
-take-in-spec =
+pub take_in_spec : {M : Type 1} → statement M
+take_in_spec =
     tie.close
     (tie.spec
-    mul_at
+    overflow_mul-at
     wide-requires
-    add_at
-    mul-mark
-    slice-read-mark
-    add-if1
-    returns
-    add-s
-    mul-s
-    slice-write-s
-    mul-s-2
-    add-s-2
-    mul-s-3
-    slice-write-s-2
-    households-at-requires
-    add-t11
-    add-t14
-    same_length
-    returns-2)
+    overflow_add-at
+    offset_bounds-s-at
+    bounds-s-at
+    overflow_add-q
+    returns-then-mark-q
+    overflow_add-s
+    offset_bounds-s-at-2
+    bounds-s-at-2
+    overflow_mul-s
+    overflow_add-s-2
+    offset_bounds-s-n
+    bounds-s-n
+    households_at-more-requires
+    overflow_add-result
+    overflow_add-result-2
+    shape_of-s
+    returns)

@@ -6,32 +6,32 @@ use borrow.Author.Rules.{rules}
 use Rattle.sheet.proofs.sheet.sheet.Statement.{statement}
 use Rattle.sheet.proofs.sheet.sheet.Tie as tie
 
-abbrev start_of : tie.After-start-all → tie.Start
+abbrev start_of : tie.After-start_all-waiting → tie.Start
 start_of c = c.before.before.before.before.before.before.before.before.before
 
-sub-n : tie.Need-overflow-sub-n
-sub-n c = search rules
+overflow_sub-n : tie.Need-overflow_sub-n
+overflow_sub-n c = search rules
 
-start-all-requires : tie.Need-start-all-requires
-start-all-requires c κs = let p = c.before.before.before.before.before.before.before.before.requires in record { few = p.accepted.few; blank = p.blank; room = omega (arith, p.room) }
+start_all-waiting-requires : tie.Need-start_all-waiting-requires
+start_all-waiting-requires c κs = let p = c.before.before.before.before.before.before.before.before.requires in record { few = p.accepted.few; blank = p.blank; room = omega (arith, p.room) }
 
-settle-waiting-requires : tie.Need-settle-waiting-requires
-settle-waiting-requires c κs = let a = c.before.before.before in can_settle (start_of a).requires a.start-all.ensures
+settle_waiting-requires : tie.Need-settle_waiting-requires
+settle_waiting-requires c κs = let a = c.before.before.before in can_settle (start_of a).requires a.start_all-waiting.ensures
 
-write-entries-requires : tie.Need-write-entries-requires
-write-entries-requires c κs =
+write_entries-requires : tie.Need-write_entries-requires
+write_entries-requires c κs =
     let w = c.before.before.before.before in
     let a = w.before.before.before.before in
-    can_write_all (start_of a).requires a.start-all.ensures w.settle-waiting.ensures
+    can_write_all (start_of a).requires a.start_all-waiting.ensures w.settle_waiting.ensures
 
 zero-requires : tie.Need-zero-requires
 zero-requires c κs = search rules
 
-same_length : tie.Need-same-length
-same_length c = search rules
+shape_of-s : tie.Need-shape_of-s
+shape_of-s c = search rules
 
-same-length-2 : tie.Need-same-length-2
-same-length-2 c = search rules
+shape_of-answers : tie.Need-shape_of-answers
+shape_of-answers c = search rules
 
 returns : tie.Need-returns
 returns c =
@@ -39,17 +39,17 @@ returns c =
     let e = z.before.before.before.before.before.before in
     let w = e.before.before.before.before.before in
     let a = w.before.before.before.before in
-    sheet_left (start_of a).requires a.start-all.ensures w.settle-waiting.ensures e.write_entries.ensures z.zero.ensures
+    sheet_left (start_of a).requires a.start_all-waiting.ensures w.settle_waiting.ensures e.write_entries.ensures z.zero.ensures
 
-pub sheet-spec : {M : Type 1} → statement M
-sheet-spec =
+pub sheet_spec : {M : Type 1} → statement M
+sheet_spec =
     tie.close
     (tie.spec
-    sub-n
-    start-all-requires
-    settle-waiting-requires
-    write-entries-requires
+    overflow_sub-n
+    start_all-waiting-requires
+    settle_waiting-requires
+    write_entries-requires
     zero-requires
-    same_length
-    same-length-2
+    shape_of-s
+    shape_of-answers
     returns)

@@ -16,30 +16,30 @@ use Rattle.site_calls.proofs.distances.answer.Tie as tie
 abbrev G : tie.Start → Network
 G s = network s.args.starts.now s.args.neighbours.now s.args.weights.now
 
-abbrev start : tie.After-distances-number → tie.Start
+abbrev start : tie.After-distances_number-refusal → tie.Start
 start c = c.before.before.before.before.before.before.before.before
 
 -- behind the test no condition is met
-ready : (e : tie.Else1) → let s = start e.before in DistancesReady (G s) s.args.node s.args.scratch.now s.args.answers.now
+ready : (e : tie.Else-refusal-ne0) → let s = start e.before in DistancesReady (G s) s.args.node s.args.scratch.now s.args.answers.now
 ready e =
     let n = e.before in
     let s = start n in
-    distances_ready (G s) s.args.node s.args.scratch.now s.args.answers.now (sym n.distances-number.ensures ∙ e.if1.false)
+    distances_ready (G s) s.args.node s.args.scratch.now s.args.answers.now (sym n.distances_number-refusal.ensures ∙ e.if-refusal-ne0.false)
 
-distances-number-requires : tie.Need-distances-number-requires
-distances-number-requires c κs = search rules
+distances_number-refusal-requires : tie.Need-distances_number-refusal-requires
+distances_number-refusal-requires c κs = search rules
 
-same_length : tie.Need-same-length
-same_length c = search rules
+shape_of-scratch-then-refusal-ne0 : tie.Need-shape_of-scratch-then-refusal-ne0
+shape_of-scratch-then-refusal-ne0 c = search rules
 
-same-length-2 : tie.Need-same-length-2
-same-length-2 c = search rules
+shape_of-answers-then-refusal-ne0 : tie.Need-shape_of-answers-then-refusal-ne0
+shape_of-answers-then-refusal-ne0 c = search rules
 
-returns : tie.Need-returns
-returns c =
+returns-then-refusal-ne0 : tie.Need-returns-then-refusal-ne0
+returns-then-refusal-ne0 c =
     let n = c.before in
     let s = start n in
-    distances_refused (G s) s.args.node s.args.scratch.now s.args.answers.now n.distances-number.result n.distances-number.ensures c.if1.true
+    distances_refused (G s) s.args.node s.args.scratch.now s.args.answers.now n.distances_number-refusal.result n.distances_number-refusal.ensures c.if-refusal-ne0.true
 
 zero-requires : tie.Need-zero-requires
 zero-requires c κs = search rules
@@ -59,34 +59,34 @@ distances-requires c κs =
       omega (arith, p.places),
     )
 
-same-length-3 : tie.Need-same-length-3
-same-length-3 c = search rules
+shape_of-scratch : tie.Need-shape_of-scratch
+shape_of-scratch c = search rules
 
-same-length-4 : tie.Need-same-length-4
-same-length-4 c = search rules
+shape_of-answers : tie.Need-shape_of-answers
+shape_of-answers c = search rules
 
-returns-2 : tie.Need-returns-2
-returns-2 c =
+returns : tie.Need-returns
+returns c =
     let d = c.before.before.before.before in
     let z = d.before.before.before.before.before in
     let e = z.before.before in
     let n = e.before in
     let s = start n in
     let long = length s.args.scratch.now in
-    distances_done (G s) s.args.node s.args.scratch.now s.args.answers.now (sym n.distances-number.ensures ∙ e.if1.false)
+    distances_done (G s) s.args.node s.args.scratch.now s.args.answers.now (sym n.distances_number-refusal.ensures ∙ e.if-refusal-ne0.false)
     (all_zero long (zero_length long z.zero.ensures) d.distances.ensures.area)
-    d.distances.ensures.answers
+    d.distances.ensures.answers-1
 
-pub answer-spec : {M : Type 1} → statement M
-answer-spec =
+pub answer_spec : {M : Type 1} → statement M
+answer_spec =
     tie.close
     (tie.spec
-    distances-number-requires
-    same_length
-    same-length-2
-    returns
+    distances_number-refusal-requires
+    shape_of-scratch-then-refusal-ne0
+    shape_of-answers-then-refusal-ne0
+    returns-then-refusal-ne0
     zero-requires
     distances-requires
-    same-length-3
-    same-length-4
-    returns-2)
+    shape_of-scratch
+    shape_of-answers
+    returns)

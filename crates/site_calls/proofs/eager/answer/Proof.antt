@@ -12,39 +12,39 @@ use borrow.Author.Rules.{rules}
 use Rattle.site_calls.proofs.eager.answer.Statement.{statement}
 use Rattle.site_calls.proofs.eager.answer.Tie as tie
 
-abbrev start : tie.After-eager-number → tie.Start
+abbrev start : tie.After-eager_number-refusal → tie.Start
 start c = c.before.before.before.before.before.before.before.before.before.before.before
 
-abbrev G : tie.After-eager-number → Network
+abbrev G : tie.After-eager_number-refusal → Network
 G n = let a = (start n).args in network a.starts.now a.neighbours.now a.weights.now
 
 -- behind the test no condition is met
-none : (e : tie.Else1)
+none : (e : tie.Else-refusal-ne0)
     → let a = (start e.before).args in
-    eager_number (G e.before) a.points.now a.q a.k a.scratch.now a.answers.now a.visits.now ≡ 0
-none e = sym e.before.eager-number.ensures ∙ e.if1.false
+    eager_number (G e.before) a.points.now a.q a.k a.scratch-1.now a.answers-1.now a.visits-1.now ≡ 0
+none e = sym e.before.eager_number-refusal.ensures ∙ e.if-refusal-ne0.false
 
-eager-number-requires : tie.Need-eager-number-requires
-eager-number-requires c κs = search rules
+eager_number-refusal-requires : tie.Need-eager_number-refusal-requires
+eager_number-refusal-requires c κs = search rules
 
-same_length : tie.Need-same-length
-same_length c = search rules
+shape_of-scratch-then-refusal-ne0 : tie.Need-shape_of-scratch-then-refusal-ne0
+shape_of-scratch-then-refusal-ne0 c = search rules
 
-same-length-2 : tie.Need-same-length-2
-same-length-2 c = search rules
+shape_of-answers-then-refusal-ne0 : tie.Need-shape_of-answers-then-refusal-ne0
+shape_of-answers-then-refusal-ne0 c = search rules
 
-same-length-3 : tie.Need-same-length-3
-same-length-3 c = search rules
+shape_of-visits-then-refusal-ne0 : tie.Need-shape_of-visits-then-refusal-ne0
+shape_of-visits-then-refusal-ne0 c = search rules
 
-returns : tie.Need-returns
-returns c =
+returns-then-refusal-ne0 : tie.Need-returns-then-refusal-ne0
+returns-then-refusal-ne0 c =
     let n = c.before in
     let a = (start n).args in
-    let r = n.eager-number.result in
-    let h = n.eager-number.ensures in
-    eager_is (G n) a.points.now a.q a.k a.limit a.scratch.now a.answers.now a.visits.now
-    (limited_refused (G n) a.points.now a.q a.k a.limit a.scratch.now a.answers.now r h c.if1.true)
-    (visits_refused (G n) a.points.now a.q a.k a.limit a.visits.now r h c.if1.true)
+    let r = n.eager_number-refusal.result in
+    let h = n.eager_number-refusal.ensures in
+    eager_is (G n) a.points.now a.q a.k a.limit a.scratch-1.now a.answers-1.now a.visits-1.now
+    (limited_refused (G n) a.points.now a.q a.k a.limit a.scratch-1.now a.answers-1.now r h c.if-refusal-ne0.true)
+    (visits_refused (G n) a.points.now a.q a.k a.limit a.visits-1.now r h c.if-refusal-ne0.true)
 
 zero-requires : tie.Need-zero-requires
 zero-requires c κs = search rules
@@ -57,50 +57,50 @@ eager-requires c κs =
     let z = c.before.before.before.before.before.before in
     let e = z.before.before in
     let a = (start e.before).args in
-    let r = eager_ready (G e.before) a.points.now a.q a.k a.scratch.now a.answers.now a.visits.now (none e) in
+    let r = eager_ready (G e.before) a.points.now a.q a.k a.scratch-1.now a.answers-1.now a.visits-1.now (none e) in
     rw c.wide.ensures (limited_search r.0 z.zero.ensures, (r.0.places, r.1))
 
-listed-of-requires : tie.Need-listed-of-requires
-listed-of-requires c κs = search rules
+listed_of-requires : tie.Need-listed_of-requires
+listed_of-requires c κs = search rules
 
-same-length-4 : tie.Need-same-length-4
-same-length-4 c = search rules
+shape_of-scratch : tie.Need-shape_of-scratch
+shape_of-scratch c = search rules
 
-same-length-5 : tie.Need-same-length-5
-same-length-5 c = search rules
+shape_of-answers : tie.Need-shape_of-answers
+shape_of-answers c = search rules
 
-same-length-6 : tie.Need-same-length-6
-same-length-6 c = search rules
+shape_of-visits : tie.Need-shape_of-visits
+shape_of-visits c = search rules
 
-returns-2 : tie.Need-returns-2
-returns-2 c =
+returns : tie.Need-returns
+returns c =
     let r = c.before.before.before.before.before.before.before in
     let w = r.before in
     let z = w.before.before.before.before.before.before in
     let e = z.before.before in
     let a = (start e.before).args in
-    let long = length a.scratch.now in
+    let long = length a.scratch-1.now in
     let h = rw w.wide.ensures at r.eager.ensures in
-    eager_is (G e.before) a.points.now a.q a.k a.limit a.scratch.now a.answers.now a.visits.now
+    eager_is (G e.before) a.points.now a.q a.k a.limit a.scratch-1.now a.answers-1.now a.visits-1.now
     (rw c.Listed-of.ensures
-    (limited_outcome_lem (G e.before) a.points.now a.q a.k a.limit a.scratch.now a.answers.now r.eager.result (none e) h.0
+    (limited_outcome_lem (G e.before) a.points.now a.q a.k a.limit a.scratch-1.now a.answers-1.now r.eager.result (none e) h.0
     (λ s. all_zero long (zero_length long z.zero.ensures) s)))
-    (visits_outcome_lem (G e.before) a.points.now a.q a.k a.limit a.visits.now _ _ _ _ _ r.eager.result (none e) h.0 h.1)
+    (visits_outcome_lem (G e.before) a.points.now a.q a.k a.limit a.visits-1.now _ _ _ _ _ r.eager.result (none e) h.0 h.1)
 
-pub answer-spec : {M : Type 1} → statement M
-answer-spec =
+pub answer_spec : {M : Type 1} → statement M
+answer_spec =
     tie.close
     (tie.spec
-    eager-number-requires
-    same_length
-    same-length-2
-    same-length-3
-    returns
+    eager_number-refusal-requires
+    shape_of-scratch-then-refusal-ne0
+    shape_of-answers-then-refusal-ne0
+    shape_of-visits-then-refusal-ne0
+    returns-then-refusal-ne0
     zero-requires
     wide-requires
     eager-requires
-    listed-of-requires
-    same-length-4
-    same-length-5
-    same-length-6
-    returns-2)
+    listed_of-requires
+    shape_of-scratch
+    shape_of-answers
+    shape_of-visits
+    returns)

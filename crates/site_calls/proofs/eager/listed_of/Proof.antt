@@ -6,17 +6,17 @@ use borrow.Author.Rules.{rules}
 use Rattle.site_calls.proofs.eager.listed_of.Statement.{statement}
 use Rattle.site_calls.proofs.eager.listed_of.Tie as tie
 
-enum_told : tie.Need-enum-told
-enum_told c = search rules
+enum_told-1 : tie.Need-enum_told-1
+enum_told-1 c = search rules
 
-enum-known-answer : tie.Need-enum-known-answer
-enum-known-answer c = search rules
+enum_known-answer : tie.Need-enum_known-answer
+enum_known-answer c = search rules
 
-returns : tie.Need-returns
-returns c = cc
+returns-in-Refused : tie.Need-returns-in-Refused
+returns-in-Refused c = cc
 
-returns-2 : tie.Need-returns-2
-returns-2 c = ap limited_listed (sym c.before.answer.given.1)
+returns-in-Listed : tie.Need-returns-in-Listed
+returns-in-Listed c = ap limited_listed (sym c.before.answer-1.given.1)
 
-pub listed-of-spec : {M : Type 1} → statement M
-listed-of-spec = tie.close (tie.spec enum_told enum-known-answer returns returns-2)
+pub listed_of_spec : {M : Type 1} → statement M
+listed_of_spec = tie.close (tie.spec enum_told-1 enum_known-answer returns-in-Refused returns-in-Listed)

@@ -13,55 +13,55 @@ use Rattle.site_calls.proofs.lazy.answer.Tie as tie
 abbrev G : tie.Start → Network
 G s = network s.args.starts.now s.args.neighbours.now s.args.weights.now
 
-abbrev start : tie.After-search-number → tie.Start
+abbrev start : tie.After-search_number-refusal → tie.Start
 start n = n.before.before.before.before.before.before.before.before.before
 
-search-number-requires : tie.Need-search-number-requires
-search-number-requires c κs = search rules
+search_number-refusal-requires : tie.Need-search_number-refusal-requires
+search_number-refusal-requires c κs = search rules
 
-same_length : tie.Need-same-length
-same_length c = search rules
+shape_of-scratch-then-refusal-ne0 : tie.Need-shape_of-scratch-then-refusal-ne0
+shape_of-scratch-then-refusal-ne0 c = search rules
 
-same-length-2 : tie.Need-same-length-2
-same-length-2 c = search rules
+shape_of-answers-then-refusal-ne0 : tie.Need-shape_of-answers-then-refusal-ne0
+shape_of-answers-then-refusal-ne0 c = search rules
 
-returns : tie.Need-returns
-returns c =
+returns-then-refusal-ne0 : tie.Need-returns-then-refusal-ne0
+returns-then-refusal-ne0 c =
     let n = c.before in
     let s = start n in
-    lazy_refused (G s) s.args.points.now s.args.q s.args.k s.args.scratch.now s.args.answers.now n.search-number.result n.search-number.ensures c.if1.true
+    lazy_refused (G s) s.args.points.now s.args.q s.args.k s.args.scratch.now s.args.answers.now n.search_number-refusal.result n.search_number-refusal.ensures c.if-refusal-ne0.true
 
-run-requires : tie.Need-run-requires
-run-requires c κs =
+run-length-requires : tie.Need-run-length-requires
+run-length-requires c κs =
     let e = c.before.before in
     let n = e.before in
     let s = start n in
-    search_ready (G s) s.args.points.now s.args.q s.args.k s.args.scratch.now s.args.answers.now (sym n.search-number.ensures ∙ e.if1.false)
+    search_ready (G s) s.args.points.now s.args.q s.args.k s.args.scratch.now s.args.answers.now (sym n.search_number-refusal.ensures ∙ e.if-refusal-ne0.false)
 
-same-length-3 : tie.Need-same-length-3
-same-length-3 c = search rules
+shape_of-scratch : tie.Need-shape_of-scratch
+shape_of-scratch c = search rules
 
-same-length-4 : tie.Need-same-length-4
-same-length-4 c = search rules
+shape_of-answers : tie.Need-shape_of-answers
+shape_of-answers c = search rules
 
-returns-2 : tie.Need-returns-2
-returns-2 c =
+returns : tie.Need-returns
+returns c =
     let r = c.before.before.before.before in
     let e = r.before.before.before in
     let n = e.before in
     let s = start n in
-    let h = r.run.ensures in
-    lazy_done (G s) s.args.points.now s.args.q s.args.k s.args.scratch.now s.args.answers.now (sym n.search-number.ensures ∙ e.if1.false) (all_zero (length s.args.scratch.now) refl h.area) h.sized h.answers
+    let h = r.run-length.ensures in
+    lazy_done (G s) s.args.points.now s.args.q s.args.k s.args.scratch.now s.args.answers.now (sym n.search_number-refusal.ensures ∙ e.if-refusal-ne0.false) (all_zero (length s.args.scratch.now) refl h.area) h.sized h.answers-1
 
-pub answer-spec : {M : Type 1} → statement M
-answer-spec =
+pub answer_spec : {M : Type 1} → statement M
+answer_spec =
     tie.close
     (tie.spec
-    search-number-requires
-    same_length
-    same-length-2
-    returns
-    run-requires
-    same-length-3
-    same-length-4
-    returns-2)
+    search_number-refusal-requires
+    shape_of-scratch-then-refusal-ne0
+    shape_of-answers-then-refusal-ne0
+    returns-then-refusal-ne0
+    run-length-requires
+    shape_of-scratch
+    shape_of-answers
+    returns)

@@ -17,27 +17,27 @@ use Rattle.site_calls.proofs.lazy.run.Tie as tie
 abbrev G : tie.Start → Network
 G s = network s.args.starts.now s.args.neighbours.now s.args.weights.now
 
-abbrev start : tie.After-wide → tie.Start
+abbrev start : tie.After-wide-k → tie.Start
 start c = c.before.before.before.before.before.before.before
 
 -- the words that are used: the product is small, and they are there
-abbrev used : tie.After-wide → ℕ
+abbrev used : tie.After-wide-k → ℕ
 used w =
     let s = start w in
-    12 * (length s.args.starts.now - 1) + 2 * w.wide.result * (length s.args.starts.now - 1 + length s.args.neighbours.now)
+    12 * (length s.args.starts.now - 1) + 2 * w.wide-k.result * (length s.args.starts.now - 1 + length s.args.neighbours.now)
 
-small : (w : tie.After-wide) → let s = start w in 2 * w.wide.result * (length s.args.starts.now - 1 + length s.args.neighbours.now) ≤ 32 * (length s.args.starts.now - 1 + length s.args.neighbours.now)
+small : (w : tie.After-wide-k) → let s = start w in 2 * w.wide-k.result * (length s.args.starts.now - 1 + length s.args.neighbours.now) ≤ 32 * (length s.args.starts.now - 1 + length s.args.neighbours.now)
 small w =
     let s = start w in
-    mul-le-mul_right (length s.args.starts.now - 1 + length s.args.neighbours.now) (omega (arith, w.wide.ensures, s.pre.query.few))
+    mul-le-mul_right (length s.args.starts.now - 1 + length s.args.neighbours.now) (omega (arith, w.wide-k.ensures, s.pre.query.few))
 
-fits : (w : tie.After-wide) → used w ≤ length (start w).args.scratch.now
+fits : (w : tie.After-wide-k) → used w ≤ length (start w).args.scratch.now
 fits w =
     let s = start w in
     let p = s.pre.query in
     omega (
       arith,
-      ap (λ (k : ℕ). 2 * k * (length s.args.starts.now - 1 + length s.args.neighbours.now)) w.wide.ensures,
+      ap (λ (k : ℕ). 2 * k * (length s.args.starts.now - 1 + length s.args.neighbours.now)) w.wide-k.ensures,
       words_for_lazy (G s) s.args.k,
       p.room,
     )
@@ -46,35 +46,35 @@ fits w =
 long : (z : tie.After-zero) → length z.zero.new.0 ≡ length (start z.before.before).args.scratch.now
 long z = zero_length (length (start z.before.before).args.scratch.now) z.zero.ensures
 
-sub-n : tie.Need-overflow-sub-n
-sub-n c = search rules
+overflow_sub-n : tie.Need-overflow_sub-n
+overflow_sub-n c = search rules
 
-wide-requires : tie.Need-wide-requires
-wide-requires c κs = search rules
+wide-k-requires : tie.Need-wide-k-requires
+wide-k-requires c κs = search rules
 
-mul-used : tie.Need-overflow-mul-used
-mul-used c = search rules
+overflow_mul-used : tie.Need-overflow_mul-used
+overflow_mul-used c = search rules
 
-mul-used-2 : tie.Need-overflow-mul-used-2
-mul-used-2 c = search rules
+overflow_mul-used-2 : tie.Need-overflow_mul-used-2
+overflow_mul-used-2 c = search rules
 
-add-used : tie.Need-overflow-add-used
-add-used c = search rules
+overflow_add-used : tie.Need-overflow_add-used
+overflow_add-used c = search rules
 
-mul-used-3 : tie.Need-overflow-mul-used-3
-mul-used-3 c = let p = (start c).requires.query.accepted in record { fits = omega (arith, small c, p.few_arcs, p.few) }
+overflow_mul-used-3 : tie.Need-overflow_mul-used-3
+overflow_mul-used-3 c = let p = (start c).requires.query.accepted in record { fits = omega (arith, small c, p.few_arcs, p.few) }
 
-add-used-2 : tie.Need-overflow-add-used-2
-add-used-2 c = let p = (start c).requires.query.accepted in record { fits = omega (arith, small c, p.few_arcs, p.few) }
+overflow_add-used-2 : tie.Need-overflow_add-used-2
+overflow_add-used-2 c = let p = (start c).requires.query.accepted in record { fits = omega (arith, small c, p.few_arcs, p.few) }
 
 zero-requires : tie.Need-zero-requires
 zero-requires c κs = search rules
 
-slice-relend-prefix-search : tie.Need-slice-relend-prefix-search
-slice-relend-prefix-search c = let z = c.before.before in omega (arith, fits z.before.before, long z)
+slice_bounds-search-end : tie.Need-slice_bounds-search-end
+slice_bounds-search-end c = let z = c.before.before in omega (arith, fits z.before.before, long z)
 
-slice-aggregate-search : tie.Need-slice-aggregate-search
-slice-aggregate-search c = let z = c.before.before.before in simp length-take (omega (arith, fits z.before.before, long z))
+slice_bounds-search-end-2 : tie.Need-slice_bounds-search-end-2
+slice_bounds-search-end-2 c = let z = c.before.before.before in simp length-take (omega (arith, fits z.before.before, long z))
 
 search-requires : tie.Need-search-requires
 search-requires c κs =
@@ -87,9 +87,9 @@ search-requires c κs =
         accepted = p.accepted;
         points = p.points;
         site = p.inside;
-        some = omega (arith, p.some, w.wide.ensures);
+        some = omega (arith, p.some, w.wide-k.ensures);
         blank = blank;
-        size = simp length-take (omega (arith, fits w, long z, mul-le-mul_left w.wide.result p.accepted.some));
+        size = simp length-take (omega (arith, fits w, long z, mul-le-mul_left w.wide-k.result p.accepted.some));
       },
       (
         s.pre.places,
@@ -104,11 +104,11 @@ search-requires c κs =
       ),
     )
 
-same_length : tie.Need-same-length
-same_length c = search rules
+shape_of-scratch : tie.Need-shape_of-scratch
+shape_of-scratch c = search rules
 
-same-length-2 : tie.Need-same-length-2
-same-length-2 c = search rules
+shape_of-answers : tie.Need-shape_of-answers
+shape_of-answers c = search rules
 
 returns : tie.Need-returns
 returns c =
@@ -118,8 +118,8 @@ returns c =
     let s = start w in
     let h = r.search.ensures in
     record {
-      sized = h.sized ∙ ap (λ (k : ℕ). length (listed (G s) s.args.points.now s.args.q k)) w.wide.ensures;
-      answers = h.answers ∙ ap (λ (k : ℕ). answered (listed (G s) s.args.points.now s.args.q k) s.args.answers.now) w.wide.ensures;
+      sized = h.sized ∙ ap (λ (k : ℕ). length (listed (G s) s.args.points.now s.args.q k)) w.wide-k.ensures;
+      answers = h.answers-1 ∙ ap (λ (k : ℕ). answered (listed (G s) s.args.points.now s.args.q k) s.args.answers.now) w.wide-k.ensures;
       area = part_wiped s.args.scratch.now (used w) z.zero.ensures (fits w) h.area;
     }
 
@@ -127,17 +127,17 @@ pub run_spec : {M : Type 1} → statement M
 run_spec =
     tie.close
     (tie.spec
-    sub-n
-    wide-requires
-    mul-used
-    mul-used-2
-    add-used
-    mul-used-3
-    add-used-2
+    overflow_sub-n
+    wide-k-requires
+    overflow_mul-used
+    overflow_mul-used-2
+    overflow_add-used
+    overflow_mul-used-3
+    overflow_add-used-2
     zero-requires
-    slice-relend-prefix-search
-    slice-aggregate-search
+    slice_bounds-search-end
+    slice_bounds-search-end-2
     search-requires
-    same_length
-    same-length-2
+    shape_of-scratch
+    shape_of-answers
     returns)

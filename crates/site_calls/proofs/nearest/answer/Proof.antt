@@ -11,62 +11,62 @@ use Rattle.site_calls.proofs.nearest.answer.Tie as tie
 abbrev G : tie.Start → Network
 G s = network s.args.starts.now s.args.neighbours.now s.args.weights.now
 
-abbrev start : tie.After-nearest-number → tie.Start
+abbrev start : tie.After-nearest_number-refusal → tie.Start
 start c = c.before.before.before.before.before.before.before.before.before.before.before
 
-nearest-number-requires : tie.Need-nearest-number-requires
-nearest-number-requires c κs = search rules
+nearest_number-refusal-requires : tie.Need-nearest_number-refusal-requires
+nearest_number-refusal-requires c κs = search rules
 
-same_length : tie.Need-same-length
-same_length c = search rules
+shape_of-scratch-then-refusal-ne0 : tie.Need-shape_of-scratch-then-refusal-ne0
+shape_of-scratch-then-refusal-ne0 c = search rules
 
-same-length-2 : tie.Need-same-length-2
-same-length-2 c = search rules
+shape_of-ids-then-refusal-ne0 : tie.Need-shape_of-ids-then-refusal-ne0
+shape_of-ids-then-refusal-ne0 c = search rules
 
-same-length-3 : tie.Need-same-length-3
-same-length-3 c = search rules
+shape_of-distances-then-refusal-ne0 : tie.Need-shape_of-distances-then-refusal-ne0
+shape_of-distances-then-refusal-ne0 c = search rules
 
-returns : tie.Need-returns
-returns c =
+returns-then-refusal-ne0 : tie.Need-returns-then-refusal-ne0
+returns-then-refusal-ne0 c =
     let n = c.before in
     let s = start n in
-    nearest_refused (G s) s.args.points.now s.args.node s.args.e s.args.k s.args.scratch.now s.args.ids.now s.args.distances.now n.nearest-number.result n.nearest-number.ensures c.if1.true
+    nearest_refused (G s) s.args.points.now s.args.node s.args.e s.args.k s.args.scratch.now s.args.ids.now s.args.distances.now n.nearest_number-refusal.result n.nearest_number-refusal.ensures c.if-refusal-ne0.true
 
-run-requires : tie.Need-run-requires
-run-requires c κs =
+run-length-requires : tie.Need-run-length-requires
+run-length-requires c κs =
     let e = c.before.before.before in
     let n = e.before in
     let s = start n in
-    nearest_ready (G s) s.args.points.now s.args.node s.args.k s.args.scratch.now s.args.ids.now s.args.distances.now (sym n.nearest-number.ensures ∙ e.if1.false)
+    nearest_ready (G s) s.args.points.now s.args.node s.args.k s.args.scratch.now s.args.ids.now s.args.distances.now (sym n.nearest_number-refusal.ensures ∙ e.if-refusal-ne0.false)
 
-same-length-4 : tie.Need-same-length-4
-same-length-4 c = search rules
+shape_of-scratch : tie.Need-shape_of-scratch
+shape_of-scratch c = search rules
 
-same-length-5 : tie.Need-same-length-5
-same-length-5 c = search rules
+shape_of-ids : tie.Need-shape_of-ids
+shape_of-ids c = search rules
 
-same-length-6 : tie.Need-same-length-6
-same-length-6 c = search rules
+shape_of-distances : tie.Need-shape_of-distances
+shape_of-distances c = search rules
 
-returns-2 : tie.Need-returns-2
-returns-2 c =
+returns : tie.Need-returns
+returns c =
     let r = c.before.before.before.before.before.before in
     let e = r.before.before.before.before in
     let n = e.before in
     let s = start n in
-    nearest_done (G s) s.args.points.now s.args.node s.args.e s.args.k s.args.scratch.now s.args.ids.now s.args.distances.now (sym n.nearest-number.ensures ∙ e.if1.false) r.run.ensures.0 r.run.ensures.1
+    nearest_done (G s) s.args.points.now s.args.node s.args.e s.args.k s.args.scratch.now s.args.ids.now s.args.distances.now (sym n.nearest_number-refusal.ensures ∙ e.if-refusal-ne0.false) r.run-length.ensures.0 r.run-length.ensures.1
 
-pub answer-spec : {M : Type 1} → statement M
-answer-spec =
+pub answer_spec : {M : Type 1} → statement M
+answer_spec =
     tie.close
     (tie.spec
-    nearest-number-requires
-    same_length
-    same-length-2
-    same-length-3
-    returns
-    run-requires
-    same-length-4
-    same-length-5
-    same-length-6
-    returns-2)
+    nearest_number-refusal-requires
+    shape_of-scratch-then-refusal-ne0
+    shape_of-ids-then-refusal-ne0
+    shape_of-distances-then-refusal-ne0
+    returns-then-refusal-ne0
+    run-length-requires
+    shape_of-scratch
+    shape_of-ids
+    shape_of-distances
+    returns)

@@ -15,39 +15,39 @@ use Rattle.site_calls.proofs.Copied.{copied_ids, copied_distances}
 use Rattle.numbers.proofs.Cleared.{zero_length, joined_wiped, all_zero}
 use Rattle.numbers.proofs.Words.{words_for_search}
 use borrow.Author.Rules.{rules}
-use Rattle.site_calls.proofs.nearest.run.Statement.{statement}
-use Rattle.site_calls.proofs.nearest.run.Tie as tie
+use Rattle.site_calls.proofs.nearest-found.run.Statement.{statement}
+use Rattle.site_calls.proofs.nearest-found.run.Tie as tie
 
 abbrev G : tie.Start → Network
 G s = network s.args.starts.now s.args.neighbours.now s.args.weights.now
 
 -- what was found, with the k that was given
-abbrev start : tie.After-nearest → tie.Start
+abbrev start : tie.After-nearest-found → tie.Start
 start c = c.before.before.before.before.before.before.before.before.before.before.before.before.before.before
 
-left : (c : tie.After-nearest) → NearestLeft (G (start c)) (start c).args.points.now (start c).args.node (start c).args.e (start c).args.k c.before.before.before.before.zero.new.0 c.nearest.new.1.1.1.1.0 c.nearest.result
-left c = rw c.before.before.before.before.before.before.wide.ensures at c.nearest.ensures
+left : (c : tie.After-nearest-found) → NearestLeft (G (start c)) (start c).args.points.now (start c).args.node (start c).args.e (start c).args.k c.before.before.before.before.zero.new.0 c.nearest-found.new.1.1.1.1.0 c.nearest-found.result
+left c = rw c.before.before.before.before.before.before.wide-wanted.ensures at c.nearest-found.ensures
 
-few : (c : tie.After-nearest) → c.nearest.result ≤ (start c).args.k
+few : (c : tie.After-nearest-found) → c.nearest-found.result ≤ (start c).args.k
 few c =
     let s = start c in
     omega (arith, (left c).count, nearest_length (G s) s.args.points.now s.args.node s.args.e s.args.k)
 
-long : (c : tie.After-nearest) → length c.nearest.new.1.1.1.1.0 ≡ length (start c).args.scratch.now
+long : (c : tie.After-nearest-found) → length c.nearest-found.new.1.1.1.1.0 ≡ length (start c).args.scratch.now
 long c = (left c).size ∙ zero_length (length (start c).args.scratch.now) c.before.before.before.before.zero.ensures
 
 -- the places of what was found are there
 room : (s : tie.Start) → 3 * s.args.k ≤ length s.args.scratch.now
 room s = let p = s.requires.query in omega (arith, words_for_search (G s) s.args.k p.some p.accepted.some, p.room)
 
-wide-requires : tie.Need-wide-requires
-wide-requires c κs = search rules
+wide-wanted-requires : tie.Need-wide-wanted-requires
+wide-wanted-requires c κs = search rules
 
 zero-requires : tie.Need-zero-requires
 zero-requires c κs = search rules
 
-nearest-requires : tie.Need-nearest-requires
-nearest-requires c κs =
+nearest-found-requires : tie.Need-nearest-found-requires
+nearest-found-requires c κs =
     let z = c.before.before.before in
     let w = z.before.before in
     let s = w.before.before.before.before.before.before.before.before in
@@ -55,7 +55,7 @@ nearest-requires c κs =
     let long = length s.args.scratch.now in
     record {
       points = p.points;
-      few = omega (arith, min-le_left w.wide.result (node_count (G s)));
+      few = omega (arith, min-le_left w.wide-wanted.result (node_count (G s)));
       blank = zero_blank long 0 z.zero.ensures;
       expand =
           record {
@@ -68,7 +68,7 @@ nearest-requires c κs =
                   words_for_search (G s) s.args.k p.some p.accepted.some,
                   p.room,
                   zero_length long z.zero.ensures,
-                  w.wide.ensures,
+                  w.wide-wanted.ensures,
                 );
           };
     }
@@ -77,37 +77,37 @@ copy-requires : tie.Need-copy-requires
 copy-requires c κs =
     let n = c.before.before.before.before in
     let w = n.before.before.before.before.before.before in
-    (omega (arith, few n, long n, room (start n), w.wide.ensures), omega (arith, few n, (start n).requires.id_places))
+    (omega (arith, few n, long n, room (start n), w.wide-wanted.ensures), omega (arith, few n, (start n).requires.id_places))
 
-mul-behind : tie.Need-overflow-mul-behind
-mul-behind c = search rules
+overflow_mul-behind : tie.Need-overflow_mul-behind
+overflow_mul-behind c = search rules
 
 copy-requires-2 : tie.Need-copy-requires-2
 copy-requires-2 c κs =
     let n = c.before.before.before.before.before.before.before.before.before in
     let w = n.before.before.before.before.before.before in
-    (omega (arith, few n, long n, room (start n), w.wide.ensures), omega (arith, few n, (start n).requires.distance_places))
+    (omega (arith, few n, long n, room (start n), w.wide-wanted.ensures), omega (arith, few n, (start n).requires.distance_places))
 
-mul-end : tie.Need-overflow-mul-end
-mul-end c = search rules
+overflow_mul-end : tie.Need-overflow_mul-end
+overflow_mul-end c = search rules
 
-slice-relend-prefix-zero : tie.Need-slice-relend-prefix-zero
-slice-relend-prefix-zero c = let n = c.before.before.before.before.before.before.before.before.before.before.before.before in omega (arith, long n, room (start n), n.before.before.before.before.before.before.wide.ensures)
+slice_bounds-zero-end : tie.Need-slice_bounds-zero-end
+slice_bounds-zero-end c = let n = c.before.before.before.before.before.before.before.before.before.before.before.before in omega (arith, long n, room (start n), n.before.before.before.before.before.before.wide-wanted.ensures)
 
-slice-aggregate-zero : tie.Need-slice-aggregate-zero
-slice-aggregate-zero c = let n = c.before.before.before.before.before.before.before.before.before.before.before.before.before in simp length-take (omega (arith, long n, room (start n), n.before.before.before.before.before.before.wide.ensures))
+slice_bounds-zero-end-2 : tie.Need-slice_bounds-zero-end-2
+slice_bounds-zero-end-2 c = let n = c.before.before.before.before.before.before.before.before.before.before.before.before.before in simp length-take (omega (arith, long n, room (start n), n.before.before.before.before.before.before.wide-wanted.ensures))
 
 zero-requires-2 : tie.Need-zero-requires-2
 zero-requires-2 c κs = search rules
 
-same_length : tie.Need-same-length
-same_length c = search rules
+shape_of-scratch : tie.Need-shape_of-scratch
+shape_of-scratch c = search rules
 
-same-length-2 : tie.Need-same-length-2
-same-length-2 c = search rules
+shape_of-ids : tie.Need-shape_of-ids
+shape_of-ids c = search rules
 
-same-length-3 : tie.Need-same-length-3
-same-length-3 c = search rules
+shape_of-distances : tie.Need-shape_of-distances
+shape_of-distances c = search rules
 
 returns : tie.Need-returns
 returns c =
@@ -117,22 +117,22 @@ returns c =
     let n = p.before.before.before.before.before in
     let s = start n in
     let w = n.before.before.before.before.before.before in
-    let ys = n.nearest.new.1.1.1.1.0 in
-    let end = 3 * w.wide.result in (
+    let ys = n.nearest-found.new.1.1.1.1.0 in
+    let end = 3 * w.wide-wanted.result in (
       all_zero (length s.args.scratch.now) refl
-          (joined_wiped s.args.scratch.now ys _ end (long n) (omega (arith, room s, w.wide.ensures)) (zero_length (length (take end ys)) z.zero2.ensures)
-          (zero_blank (length (take end ys)) 0 z.zero2.ensures)
-          n.nearest.ensures.blank),
+          (joined_wiped s.args.scratch.now ys _ end (long n) (omega (arith, room s, w.wide-wanted.ensures)) (zero_length (length (take end ys)) z.zero-2.ensures)
+          (zero_blank (length (take end ys)) 0 z.zero-2.ensures)
+          n.nearest-found.ensures.blank),
       record {
         count = (left n).count;
         id_answers =
             p.copy.ensures
             ∙ ap (λ l. answered l s.args.ids.now)
-            (ap (λ k. tabulate (λ i. get_or ys (k + i) 0) n.nearest.result) w.wide.ensures ∙ copied_ids (left n).count (left n).listed);
+            (ap (λ k. tabulate (λ i. get_or ys (k + i) 0) n.nearest-found.result) w.wide-wanted.ensures ∙ copied_ids (left n).count (left n).listed);
         distance_answers =
-            q.copy2.ensures
+            q.copy-2.ensures
             ∙ ap (λ l. answered l s.args.distances.now)
-            (ap (λ k. tabulate (λ i. get_or ys (2 * k + i) 0) n.nearest.result) w.wide.ensures ∙ copied_distances (left n).count (left n).listed);
+            (ap (λ k. tabulate (λ i. get_or ys (2 * k + i) 0) n.nearest-found.result) w.wide-wanted.ensures ∙ copied_distances (left n).count (left n).listed);
       },
     )
 
@@ -140,17 +140,17 @@ pub run_spec : {M : Type 1} → statement M
 run_spec =
     tie.close
     (tie.spec
-    wide-requires
+    wide-wanted-requires
     zero-requires
-    nearest-requires
+    nearest-found-requires
     copy-requires
-    mul-behind
+    overflow_mul-behind
     copy-requires-2
-    mul-end
-    slice-relend-prefix-zero
-    slice-aggregate-zero
+    overflow_mul-end
+    slice_bounds-zero-end
+    slice_bounds-zero-end-2
     zero-requires-2
-    same_length
-    same-length-2
-    same-length-3
+    shape_of-scratch
+    shape_of-ids
+    shape_of-distances
     returns)

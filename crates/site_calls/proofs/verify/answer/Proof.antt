@@ -11,33 +11,33 @@ use Rattle.numbers.proofs.Ready.{verify_ready}
 use Rattle.numbers.proofs.Cleared.{zero_length, all_zero}
 use Rattle.site_calls.proofs.Outcomes.{verify_refused, verify_done}
 use borrow.Author.Rules.{rules}
-use Rattle.site_calls.proofs.verify.answer.Statement.{statement}
-use Rattle.site_calls.proofs.verify.answer.Tie as tie
+use Rattle.site_calls.proofs.verify-yes.answer.Statement.{statement}
+use Rattle.site_calls.proofs.verify-yes.answer.Tie as tie
 
 abbrev G : tie.Start → Network
 G s = network s.args.starts.now s.args.neighbours.now s.args.weights.now
 
-abbrev start : tie.After-verify-number → tie.Start
+abbrev start : tie.After-verify_number-refusal → tie.Start
 start c = c.before.before.before.before.before.before.before
 
 -- behind the test no condition is met
-ready : (e : tie.Else1) → let s = start e.before in VerifyReady (G s) s.args.points.now s.args.p s.args.q s.args.k s.args.scratch.now
+ready : (e : tie.Else-refusal-ne0) → let s = start e.before in VerifyReady (G s) s.args.points.now s.args.p s.args.q s.args.k s.args.scratch.now
 ready e =
     let n = e.before in
     let s = start n in
-    verify_ready (G s) s.args.points.now s.args.p s.args.q s.args.k s.args.scratch.now (sym n.verify-number.ensures ∙ e.if1.false)
+    verify_ready (G s) s.args.points.now s.args.p s.args.q s.args.k s.args.scratch.now (sym n.verify_number-refusal.ensures ∙ e.if-refusal-ne0.false)
 
-verify-number-requires : tie.Need-verify-number-requires
-verify-number-requires c κs = search rules
+verify_number-refusal-requires : tie.Need-verify_number-refusal-requires
+verify_number-refusal-requires c κs = search rules
 
-same_length : tie.Need-same-length
-same_length c = search rules
+shape_of-scratch-then-refusal-ne0 : tie.Need-shape_of-scratch-then-refusal-ne0
+shape_of-scratch-then-refusal-ne0 c = search rules
 
-returns : tie.Need-returns
-returns c =
+returns-then-refusal-ne0 : tie.Need-returns-then-refusal-ne0
+returns-then-refusal-ne0 c =
     let n = c.before in
     let s = start n in
-    verify_refused (G s) s.args.points.now s.args.p s.args.q s.args.k s.args.scratch.now n.verify-number.result n.verify-number.ensures c.if1.true
+    verify_refused (G s) s.args.points.now s.args.p s.args.q s.args.k s.args.scratch.now n.verify_number-refusal.result n.verify_number-refusal.ensures c.if-refusal-ne0.true
 
 zero-requires : tie.Need-zero-requires
 zero-requires c κs = search rules
@@ -45,8 +45,8 @@ zero-requires c κs = search rules
 wide-requires : tie.Need-wide-requires
 wide-requires c κs = search rules
 
-verify-requires : tie.Need-verify-requires
-verify-requires c κs =
+verify-yes-requires : tie.Need-verify-yes-requires
+verify-yes-requires c κs =
     let z = c.before.before.before.before in
     let e = z.before.before in
     let s = start e.before in
@@ -64,11 +64,11 @@ verify-requires c κs =
       points = p.points;
     }
 
-same-length-2 : tie.Need-same-length-2
-same-length-2 c = search rules
+shape_of-scratch : tie.Need-shape_of-scratch
+shape_of-scratch c = search rules
 
-returns-2 : tie.Need-returns-2
-returns-2 c =
+returns : tie.Need-returns
+returns c =
     let v = c.before.before in
     let w = v.before in
     let z = w.before.before.before.before in
@@ -76,19 +76,19 @@ returns-2 c =
     let n = e.before in
     let s = start n in
     let long = length s.args.scratch.now in
-    verify_done (G s) s.args.points.now s.args.p s.args.q s.args.k s.args.scratch.now (sym n.verify-number.ensures ∙ e.if1.false)
-    (all_zero long (zero_length long z.zero.ensures) v.verify.ensures.area)
-    (v.verify.ensures.answer ∙ ap (λ k. verified (G s) s.args.points.now s.args.p s.args.q k) w.wide.ensures)
+    verify_done (G s) s.args.points.now s.args.p s.args.q s.args.k s.args.scratch.now (sym n.verify_number-refusal.ensures ∙ e.if-refusal-ne0.false)
+    (all_zero long (zero_length long z.zero.ensures) v.verify-yes.ensures.area)
+    (v.verify-yes.ensures.answer ∙ ap (λ k. verified (G s) s.args.points.now s.args.p s.args.q k) w.wide.ensures)
 
-pub answer-spec : {M : Type 1} → statement M
-answer-spec =
+pub answer_spec : {M : Type 1} → statement M
+answer_spec =
     tie.close
     (tie.spec
-    verify-number-requires
-    same_length
-    returns
+    verify_number-refusal-requires
+    shape_of-scratch-then-refusal-ne0
+    returns-then-refusal-ne0
     zero-requires
     wide-requires
-    verify-requires
-    same-length-2
-    returns-2)
+    verify-yes-requires
+    shape_of-scratch
+    returns)

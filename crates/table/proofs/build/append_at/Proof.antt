@@ -12,24 +12,24 @@ use borrow.Author.Rules.{rules}
 use Rattle.table.proofs.build.append_at.Statement.{statement}
 use Rattle.table.proofs.build.append_at.Tie as tie
 
-abbrev start : tie.After-wide → tie.Start
+abbrev start : tie.After-wide-at → tie.Start
 start c = c.before.before.before.before
 
 -- the row starts at node * places and has so many, and the node's word is its size
-from : (c : tie.After-wide) → c.wide.result * (start c).args.places ≡ (start c).args.node * (start c).args.places
-from c = ap (λ (x : ℕ). x * (start c).args.places) c.wide.ensures
+from : (c : tie.After-wide-at) → c.wide-at.result * (start c).args.places ≡ (start c).args.node * (start c).args.places
+from c = ap (λ (x : ℕ). x * (start c).args.places) c.wide-at.ensures
 
-small : (c : tie.After-wide2) → c.wide2.result ≤ (start c.before.before).args.places
+small : (c : tie.After-wide-size) → c.wide-size.result ≤ (start c.before.before).args.places
 small c =
     let w = c.before.before in
-    omega (arith, c.wide2.ensures, ap (λ (x : ℕ). get_or (start w).args.s.now x 0) w.wide.ensures, (start w).requires.look.size)
+    omega (arith, c.wide-size.ensures, ap (λ (x : ℕ). get_or (start w).args.s.now x 0) w.wide-at.ensures, (start w).requires.look.size)
 
-module _ (c : tie.After-wide2) where
-  abbrev w : tie.After-wide
+module _ (c : tie.After-wide-size) where
+  abbrev w : tie.After-wide-at
   w = c.before.before
 
   abbrev at : ℕ
-  at = w.wide.result * (start w).args.places
+  at = w.wide-at.result * (start w).args.places
 
   long : (xs : List ℕ) → (start w).args.node * (start w).args.places + (start w).args.places ≤ length xs
       → length (mid_of at (at + (start w).args.places - at) xs) ≡ (start w).args.places
@@ -41,71 +41,91 @@ module _ (c : tie.After-wide2) where
   long-dists : length (mid_of at (at + (start w).args.places - at) (start w).args.distances.now) ≡ (start w).args.places
   long-dists = long (start w).args.distances.now (start w).pre.dists_room
 
-wide-requires : tie.Need-wide-requires
-wide-requires c κs = search rules
+wide-at-requires : tie.Need-wide-at-requires
+wide-at-requires c κs = search rules
 
-mul-from : tie.Need-overflow-mul-from
-mul-from c = omega (arith, from c, (start c).requires.look.ids_room)
+overflow_mul-from : tie.Need-overflow_mul-from
+overflow_mul-from c = omega (arith, from c, (start c).requires.look.ids_room)
 
-add-end : tie.Need-overflow-add-end
-add-end c = omega (arith, from c, (start c).requires.look.ids_room)
+overflow_add-end : tie.Need-overflow_add-end
+overflow_add-end c = omega (arith, from c, (start c).requires.look.ids_room)
 
-mul_wide : tie.Need-overflow-mul-wide
-mul_wide c = search rules
+offset_bounds-s-at : tie.Need-offset_bounds-s-at
+offset_bounds-s-at c = search rules
 
-slice-read-wide : tie.Need-slice-read-wide
-slice-read-wide c = search rules
+bounds-s-at : tie.Need-bounds-s-at
+bounds-s-at c = search rules
 
-wide-requires-2 : tie.Need-wide-requires-2
-wide-requires-2 c κs = search rules
+wide-size-requires : tie.Need-wide-size-requires
+wide-size-requires c κs = search rules
 
-mul-append : tie.Need-overflow-mul-append
-mul-append c = let w = c.before.before in omega (arith, from w, (start w).requires.look.ids_room)
+offset_bounds-ids-from : tie.Need-offset_bounds-ids-from
+offset_bounds-ids-from c = let w = c.before.before in omega (arith, from w, (start w).requires.look.ids_room)
 
-sub-append : tie.Need-overflow-sub-append
-sub-append c = search rules
+slice_bounds-append-count : tie.Need-slice_bounds-append-count
+slice_bounds-append-count c = search rules
 
-part-append-start : tie.Need-slice-bounds-append-start
+part-append-start : tie.Need-slice_bounds-append-start
 part-append-start c = search rules
 
-part-append-end : tie.Need-slice-bounds-append-end
+part-append-end : tie.Need-slice_bounds-append-end
 part-append-end c = let w = c.before.before in omega (arith, from w, (start w).requires.look.ids_room)
 
-mul-append-2 : tie.Need-overflow-mul-append-2
-mul-append-2 c = let w = c.before.before.before in omega (arith, from w, (start w).requires.dists_room)
+offset_bounds-distances-from : tie.Need-offset_bounds-distances-from
+offset_bounds-distances-from c = let w = c.before.before.before in omega (arith, from w, (start w).requires.dists_room)
 
-sub-append-2 : tie.Need-overflow-sub-append-2
-sub-append-2 c = search rules
+slice_bounds-append-count-2 : tie.Need-slice_bounds-append-count-2
+slice_bounds-append-count-2 c = search rules
 
-part-append-start-2 : tie.Need-slice-bounds-append-start-2
+part-append-start-2 : tie.Need-slice_bounds-append-start-2
 part-append-start-2 c = search rules
 
-part-append-end-2 : tie.Need-slice-bounds-append-end-2
+part-append-end-2 : tie.Need-slice_bounds-append-end-2
 part-append-end-2 c = let w = c.before.before.before in omega (arith, from w, (start w).requires.dists_room)
 
-append-requires : tie.Need-append-requires
-append-requires c κs = let u = c.before.before in (omega (arith, long-ids u, long-dists u), omega (arith, small u, long-ids u), (start u.before.before).requires.some)
+append-then-requires : tie.Need-append-then-requires
+append-then-requires c κs = let u = c.before.before in (omega (arith, long-ids u, long-dists u), omega (arith, small u, long-ids u), (start u.before.before).requires.some)
 
-cast-s : tie.Need-overflow-cast-s
-cast-s c =
+overflow_cast-s : tie.Need-overflow_cast-s
+overflow_cast-s c =
     let a = c.before.before.before.before.before in
     let u = a.before.before.before in
-    omega (arith, (a.append.ensures.taken c.if1.true).count, small u, long-ids u, (start u.before.before).requires.places)
+    omega (arith, (a.append-then.ensures.taken c.if-size-then.true).count, small u, long-ids u, (start u.before.before).requires.places)
 
-mul-s : tie.Need-overflow-mul-s
-mul-s c = search rules
+offset_bounds-s-at-then-size-then : tie.Need-offset_bounds-s-at-then-size-then
+offset_bounds-s-at-then-size-then c = search rules
 
-slice-write-s : tie.Need-slice-write-s
-slice-write-s c = search rules
+bounds-s-at-then-size-then : tie.Need-bounds-s-at-then-size-then
+bounds-s-at-then-size-then c = search rules
 
-same_length : tie.Need-same-length
-same_length c = search rules
+shape_of-s-then-size-then : tie.Need-shape_of-s-then-size-then
+shape_of-s-then-size-then c = search rules
 
-same-length-2 : tie.Need-same-length-2
-same-length-2 c = search rules
+shape_of-ids-then-size-then : tie.Need-shape_of-ids-then-size-then
+shape_of-ids-then-size-then c = search rules
 
-same-length-3 : tie.Need-same-length-3
-same-length-3 c = search rules
+shape_of-distances-then-size-then : tie.Need-shape_of-distances-then-size-then
+shape_of-distances-then-size-then c = search rules
+
+returns-then-size-then : tie.Need-returns-then-size-then
+returns-then-size-then c =
+    let a = c.before.before.before.before.before in
+    let u = a.before.before.before in
+    let w = u.before.before in
+    let s = start w in
+    record {
+      taken =
+          λ e.
+          takes_at s.pre (w.wide-at.result * s.args.places) (w.wide-at.result * s.args.places + s.args.places) w.wide-at.result u.wide-size.result s.args.p s.args.d (from w) refl w.wide-at.ensures u.wide-size.ensures
+          (a.append-then.ensures.taken c.if-size-then.true);
+      refused = λ e. absurd (true≢false e);
+    }
+
+shape_of-ids : tie.Need-shape_of-ids
+shape_of-ids c = search rules
+
+shape_of-distances : tie.Need-shape_of-distances
+shape_of-distances c = search rules
 
 returns : tie.Need-returns
 returns c =
@@ -114,59 +134,39 @@ returns c =
     let w = u.before.before in
     let s = start w in
     record {
-      taken =
-          λ e.
-          takes_at s.pre (w.wide.result * s.args.places) (w.wide.result * s.args.places + s.args.places) w.wide.result u.wide2.result s.args.p s.args.d (from w) refl w.wide.ensures u.wide2.ensures
-          (a.append.ensures.taken c.if1.true);
-      refused = λ e. absurd (true≢false e);
-    }
-
-same-length-4 : tie.Need-same-length-4
-same-length-4 c = search rules
-
-same-length-5 : tie.Need-same-length-5
-same-length-5 c = search rules
-
-returns-2 : tie.Need-returns-2
-returns-2 c =
-    let a = c.before.before.before.before.before in
-    let u = a.before.before.before in
-    let w = u.before.before in
-    let s = start w in
-    record {
       taken = λ e. absurd (false≢true e);
       refused =
           λ e.
-          refuses_at s.pre (w.wide.result * s.args.places) (w.wide.result * s.args.places + s.args.places) w.wide.result u.wide2.result s.args.p s.args.d (from w) refl w.wide.ensures u.wide2.ensures
-          (a.append.ensures.refused c.if1.false);
+          refuses_at s.pre (w.wide-at.result * s.args.places) (w.wide-at.result * s.args.places + s.args.places) w.wide-at.result u.wide-size.result s.args.p s.args.d (from w) refl w.wide-at.ensures u.wide-size.ensures
+          (a.append-then.ensures.refused c.if-size-then.false);
     }
 
-pub append-at-spec : {M : Type 1} → statement M
-append-at-spec =
+pub append_at_spec : {M : Type 1} → statement M
+append_at_spec =
     tie.close
     (tie.spec
-    wide-requires
-    mul-from
-    add-end
-    mul_wide
-    slice-read-wide
-    wide-requires-2
-    mul-append
-    sub-append
+    wide-at-requires
+    overflow_mul-from
+    overflow_add-end
+    offset_bounds-s-at
+    bounds-s-at
+    wide-size-requires
+    offset_bounds-ids-from
+    slice_bounds-append-count
     part-append-start
     part-append-end
-    mul-append-2
-    sub-append-2
+    offset_bounds-distances-from
+    slice_bounds-append-count-2
     part-append-start-2
     part-append-end-2
-    append-requires
-    cast-s
-    mul-s
-    slice-write-s
-    same_length
-    same-length-2
-    same-length-3
-    returns
-    same-length-4
-    same-length-5
-    returns-2)
+    append-then-requires
+    overflow_cast-s
+    offset_bounds-s-at-then-size-then
+    bounds-s-at-then-size-then
+    shape_of-s-then-size-then
+    shape_of-ids-then-size-then
+    shape_of-distances-then-size-then
+    returns-then-size-then
+    shape_of-ids
+    shape_of-distances
+    returns)

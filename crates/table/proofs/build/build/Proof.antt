@@ -15,34 +15,34 @@ spread-requires : tie.Need-spread-requires
 spread-requires c κs =
     let d = c.before.before.before.before.before in
     let i = d.before.before.before.before in
-    can_spread i.before.before.before.before.before.before.before.before.before.requires i.empty.ensures d.empty2.ensures
+    can_spread i.before.before.before.before.before.before.before.before.before.requires i.empty.ensures d.empty-2.ensures
 
 zero-requires : tie.Need-zero-requires
 zero-requires c κs = search rules
 
-same_length : tie.Need-same-length
-same_length c = search rules
+shape_of-s : tie.Need-shape_of-s
+shape_of-s c = search rules
 
-same-length-2 : tie.Need-same-length-2
-same-length-2 c = search rules
+shape_of-ids : tie.Need-shape_of-ids
+shape_of-ids c = search rules
 
-same-length-3 : tie.Need-same-length-3
-same-length-3 c = search rules
+shape_of-distances : tie.Need-shape_of-distances
+shape_of-distances c = search rules
 
 returns : tie.Need-returns
 returns c =
     let z = c.before.before in
     build_left z.before.before.before.before.before.before.before.before.spread.ensures z.zero.ensures
 
-pub build-spec : {M : Type 1} → statement M
-build-spec =
+pub build_spec : {M : Type 1} → statement M
+build_spec =
     tie.close
     (tie.spec
     empty-requires
     empty-requires-2
     spread-requires
     zero-requires
-    same_length
-    same-length-2
-    same-length-3
+    shape_of-s
+    shape_of-ids
+    shape_of-distances
     returns)

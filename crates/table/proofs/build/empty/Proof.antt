@@ -12,53 +12,53 @@ use Rattle.network.specs.Distance.{NONE}
 use Rattle.table.proofs.build.empty.Statement.{statement}
 use Rattle.table.proofs.build.empty.Tie as tie
 
-abbrev invariant-loop : tie.invariant-loop
-invariant-loop entries₀ i₀ entries i = (i ≤ length entries₀) × (length entries ≡ length entries₀) × (entries ≡ replicate i NONE ++ drop i entries₀)
+abbrev invariant-loop-i : tie.invariant-loop-i
+invariant-loop-i entries₀ i₀ entries i = (i ≤ length entries₀) × (length entries ≡ length entries₀) × (entries ≡ replicate i NONE ++ drop i entries₀)
 
-abbrev decreases-loop : tie.decreases-loop
-decreases-loop entries₀ i₀ entries i = length entries - i
+abbrev decreases-loop-i : tie.decreases-loop-i
+decreases-loop-i entries₀ i₀ entries i = length entries - i
 
-loop-holds : tie.Need-loop-init invariant-loop decreases-loop
+loop-holds : tie.Need-loop-i-init invariant-loop-i decreases-loop-i
 loop-holds c = (search rules, refl, refl)
 
-mul-entries : tie.Need-overflow-mul-entries invariant-loop decreases-loop
-mul-entries c = search rules
+offset_bounds-entries-i : tie.Need-offset_bounds-entries-i invariant-loop-i decreases-loop-i
+offset_bounds-entries-i c = search rules
 
-slice-write-entries : tie.Need-slice-write-entries invariant-loop decreases-loop
-slice-write-entries c = search rules
+bounds-entries-i : tie.Need-bounds-entries-i invariant-loop-i decreases-loop-i
+bounds-entries-i c = search rules
 
-add-i : tie.Need-overflow-add-i invariant-loop decreases-loop
-add-i c = search rules
+overflow_add-i : tie.Need-overflow_add-i invariant-loop-i decreases-loop-i
+overflow_add-i c = search rules
 
-loop-less : tie.Need-loop-smaller invariant-loop decreases-loop
+loop-less : tie.Need-loop-i-smaller invariant-loop-i decreases-loop-i
 loop-less c = simp length-set (omega arith)
 
-loop-again : tie.Need-loop-preserved invariant-loop decreases-loop
+loop-again : tie.Need-loop-i-preserved invariant-loop-i decreases-loop-i
 loop-again c =
-    let l = c.before.loop in
+    let l = c.before.loop-i in
     (omega arith, simp length-set l.invariant.1, rw l.invariant.2 (fill_more l.i NONE c.before.before.args.entries.now (omega arith)))
 
-same_length : tie.Need-same-length invariant-loop decreases-loop
-same_length c = search rules
+shape_of-entries : tie.Need-shape_of-entries invariant-loop-i decreases-loop-i
+shape_of-entries c = search rules
 
-returns : tie.Need-returns invariant-loop decreases-loop
+returns : tie.Need-returns invariant-loop-i decreases-loop-i
 returns c =
-    let l = c.before.loop in
+    let l = c.before.loop-i in
     let s = c.before.before.args.entries.now in
     let e : l.i ≡ length s = omega arith in
     l.invariant.2 ∙ rw (e, drop-length, append-nil)
 
-pub empty-spec : {M : Type 1} → statement M
-empty-spec =
+pub empty_spec : {M : Type 1} → statement M
+empty_spec =
     tie.close
     (tie.spec
-    invariant-loop
-    decreases-loop
+    invariant-loop-i
+    decreases-loop-i
     loop-holds
-    mul-entries
-    slice-write-entries
-    add-i
+    offset_bounds-entries-i
+    bounds-entries-i
+    overflow_add-i
     loop-less
     loop-again
-    same_length
+    shape_of-entries
     returns)

@@ -8,14 +8,14 @@ use borrow.Author.Rules.{rules}
 use Rattle.table.proofs.build.has_place.Statement.{statement}
 use Rattle.table.proofs.build.has_place.Tie as tie
 
-returns : tie.Need-returns
-returns c = record { yes = λ e. absurd (false≢true e); no = λ e. record { why = inl c.if1.true } }
+returns-then-size-ids_row : tie.Need-returns-then-size-ids_row
+returns-then-size-ids_row c = record { yes = λ e. absurd (false≢true e); no = λ e. record { why = inl c.if-size-ids_row.true } }
 
 stands-requires : tie.Need-stands-requires
 stands-requires c κs = search rules
 
-returns-2 : tie.Need-returns-2
-returns-2 c = place_is c.before.if1.false (omega arith) c.stands.ensures
+returns : tie.Need-returns
+returns c = place_is c.before.if-size-ids_row.false (omega arith) c.stands.ensures
 
-pub has-place-spec : {M : Type 1} → statement M
-has-place-spec = tie.close (tie.spec returns stands-requires returns-2)
+pub has_place_spec : {M : Type 1} → statement M
+has_place_spec = tie.close (tie.spec returns-then-size-ids_row stands-requires returns)

@@ -9,43 +9,43 @@ use borrow.Author.Rules.{rules}
 use Rattle.table.proofs.build.has_place_at.Statement.{statement}
 use Rattle.table.proofs.build.has_place_at.Tie as tie
 
+wide-at-requires : tie.Need-wide-at-requires
+wide-at-requires c κs = search rules
+
+row_of-ids_row-requires : tie.Need-row_of-ids_row-requires
+row_of-ids_row-requires c κs =
+    let s = c.before.before.before in
+    omega (arith, ap (λ (x : ℕ). x * s.args.places) c.wide-at.ensures, s.requires.ids_room)
+
+offset_bounds-s-at : tie.Need-offset_bounds-s-at
+offset_bounds-s-at c = search rules
+
+bounds-s-at : tie.Need-bounds-s-at
+bounds-s-at c = omega (arith, c.before.before.wide-at.ensures, c.before.before.before.before.before.requires.word)
+
 wide-requires : tie.Need-wide-requires
 wide-requires c κs = search rules
 
-row-of-requires : tie.Need-row-of-requires
-row-of-requires c κs =
-    let s = c.before.before.before in
-    omega (arith, ap (λ (x : ℕ). x * s.args.places) c.wide.ensures, s.requires.ids_room)
-
-mul-size : tie.Need-overflow-mul-size
-mul-size c = search rules
-
-shared-slice-read-size : tie.Need-shared-slice-read-size
-shared-slice-read-size c = omega (arith, c.before.before.wide.ensures, c.before.before.before.before.before.requires.word)
-
-wide-requires-2 : tie.Need-wide-requires-2
-wide-requires-2 c κs = search rules
-
-has-place-requires : tie.Need-has-place-requires
-has-place-requires c κs =
+has_place-requires : tie.Need-has_place-requires
+has_place-requires c κs =
     let w = c.before.before.before in
     let s = w.before.before.before in
-    let e = part_size s.requires w.wide.result w.wide.ensures c.before.before.row_of.ensures in
-    omega (arith, c.wide2.ensures, ap (λ (x : ℕ). get_or s.args.s.now x 0) w.wide.ensures, s.requires.size)
+    let e = part_size s.requires w.wide-at.result w.wide-at.ensures c.before.before.row_of-ids_row.ensures in
+    omega (arith, c.wide.ensures, ap (λ (x : ℕ). get_or s.args.s.now x 0) w.wide-at.ensures, s.requires.size)
 
 returns : tie.Need-returns
 returns c =
     let w = c.before.before.before.before in
-    place_look w.before.before.before.requires w.wide.result c.before.wide2.result _ _ w.wide.ensures c.before.wide2.ensures c.before.before.before.row_of.ensures c.has-place.ensures
+    place_look w.before.before.before.requires w.wide-at.result c.before.wide.result _ _ w.wide-at.ensures c.before.wide.ensures c.before.before.before.row_of-ids_row.ensures c.has_place.ensures
 
-pub has-place-at-spec : {M : Type 1} → statement M
-has-place-at-spec =
+pub has_place_at_spec : {M : Type 1} → statement M
+has_place_at_spec =
     tie.close
     (tie.spec
+    wide-at-requires
+    row_of-ids_row-requires
+    offset_bounds-s-at
+    bounds-s-at
     wide-requires
-    row-of-requires
-    mul-size
-    shared-slice-read-size
-    wide-requires-2
-    has-place-requires
+    has_place-requires
     returns)

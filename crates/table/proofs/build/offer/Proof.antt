@@ -17,165 +17,165 @@ use borrow.Author.Rules.{rules}
 use Rattle.table.proofs.build.offer.Statement.{statement}
 use Rattle.table.proofs.build.offer.Tie as tie
 
-abbrev invariant-loop : tie.invariant-loop
-invariant-loop starts neighbours weights s₀ ids places len node p d at ahead weighed more₀ j₀ s more j =
+abbrev invariant-loop-j : tie.invariant-loop-j
+invariant-loop-j starts neighbours weights s₀ ids places len node p d at ahead weighed more₀ j₀ s more j =
     (j ≤ length ahead) × OfferedOn (network starts neighbours weights) s₀ s ids places len more node p d j
 
-abbrev decreases-loop : tie.decreases-loop
-decreases-loop starts neighbours weights s₀ ids places len node p d at ahead weighed more₀ j₀ s more j = length ahead - j
+abbrev decreases-loop-j : tie.decreases-loop-j
+decreases-loop-j starts neighbours weights s₀ ids places len node p d at ahead weighed more₀ j₀ s more j = length ahead - j
 
-abbrev G : tie.Start invariant-loop decreases-loop → Network
+abbrev G : tie.Start invariant-loop-j decreases-loop-j → Network
 G s = network s.args.starts.now s.args.neighbours.now s.args.weights.now
 
 -- the parts of the node, and the arc at place j
-abbrev start : tie.After-weights-of invariant-loop decreases-loop → tie.Start invariant-loop decreases-loop
+abbrev start : tie.After-weights_of-weighed invariant-loop-j decreases-loop-j → tie.Start invariant-loop-j decreases-loop-j
 start c = c.before.before.before.before.before.before.before.before.before
 
-ahead : (c : tie.After-weights-of invariant-loop decreases-loop) → c.before.before.neighbours-of.result.now ≡ neighbours_of (G (start c)) (start c).args.node
-ahead c = rw c.before.before.before.wide.ensures at c.before.before.neighbours-of.ensures
+ahead : (c : tie.After-weights_of-weighed invariant-loop-j decreases-loop-j) → c.before.before.neighbours_of-ahead.result.now ≡ neighbours_of (G (start c)) (start c).args.node
+ahead c = rw c.before.before.before.wide.ensures at c.before.before.neighbours_of-ahead.ensures
 
-weighed : (c : tie.After-weights-of invariant-loop decreases-loop) → c.weights-of.result.now ≡ weights_of (G (start c)) (start c).args.node
-weighed c = rw c.before.wide2.ensures at c.weights-of.ensures
+weighed : (c : tie.After-weights_of-weighed invariant-loop-j decreases-loop-j) → c.weights_of-weighed.result.now ≡ weights_of (G (start c)) (start c).args.node
+weighed c = rw c.before.wide-2.ensures at c.weights_of-weighed.ensures
 
-place : (c : tie.In-loop invariant-loop decreases-loop)
+place : (c : tie.In-loop-j invariant-loop-j decreases-loop-j)
     → let s = start c.before.before in
-    ArcAt (G s) s.args.node c.before.loop.j c.before.before.before.before.neighbours-of.result.now c.before.before.weights-of.result.now
+    ArcAt (G s) s.args.node c.before.loop-j.j c.before.before.before.before.neighbours_of-ahead.result.now c.before.before.weights_of-weighed.result.now
 place c =
     let w = c.before.before in
     let s = start w in
-    arc_handed s.pre.can.accepted s.pre.can.inside (ahead w) (weighed w) c.loop-test.true
+    arc_handed s.pre.can.accepted s.pre.can.inside (ahead w) (weighed w) c.loop-j-test.true
 
-sub_at : tie.Need-overflow-sub-at invariant-loop decreases-loop
-sub_at c = search rules
+overflow_sub-at : tie.Need-overflow_sub-at invariant-loop-j decreases-loop-j
+overflow_sub-at c = search rules
 
-wide-requires : tie.Need-wide-requires invariant-loop decreases-loop
+wide-requires : tie.Need-wide-requires invariant-loop-j decreases-loop-j
 wide-requires c κs = search rules
 
-neighbours-of-requires : tie.Need-neighbours-of-requires invariant-loop decreases-loop
-neighbours-of-requires c κs =
+neighbours_of-ahead-requires : tie.Need-neighbours_of-ahead-requires invariant-loop-j decreases-loop-j
+neighbours_of-ahead-requires c κs =
     let s = c.before.before.before.before.before.before in
     (accepted_searchable s.requires.can.accepted).neighbours.part _ (omega (arith, c.wide.ensures, s.requires.can.inside))
 
-wide-requires-2 : tie.Need-wide-requires-2 invariant-loop decreases-loop
+wide-requires-2 : tie.Need-wide-requires-2 invariant-loop-j decreases-loop-j
 wide-requires-2 c κs = search rules
 
-weights-of-requires : tie.Need-weights-of-requires invariant-loop decreases-loop
-weights-of-requires c κs =
+weights_of-weighed-requires : tie.Need-weights_of-weighed-requires invariant-loop-j decreases-loop-j
+weights_of-weighed-requires c κs =
     let s = c.before.before.before.before.before.before.before.before in
-    (accepted_searchable s.requires.can.accepted).weights.part _ (omega (arith, c.wide2.ensures, s.requires.can.inside))
+    (accepted_searchable s.requires.can.accepted).weights.part _ (omega (arith, c.wide-2.ensures, s.requires.can.inside))
 
-loop-holds : tie.Need-loop-init invariant-loop decreases-loop
+loop-holds : tie.Need-loop-j-init invariant-loop-j decreases-loop-j
 loop-holds c = (omega arith, entered_none (start c).requires.can.queue)
 
-mul-to : tie.Need-overflow-mul-to invariant-loop decreases-loop
-mul-to c = search rules
+offset_bounds-ahead-j : tie.Need-offset_bounds-ahead-j invariant-loop-j decreases-loop-j
+offset_bounds-ahead-j c = search rules
 
-shared-slice-read-to : tie.Need-shared-slice-read-to invariant-loop decreases-loop
-shared-slice-read-to c = search rules
+bounds-ahead-j : tie.Need-bounds-ahead-j invariant-loop-j decreases-loop-j
+bounds-ahead-j c = search rules
 
-mul-far : tie.Need-overflow-mul-far invariant-loop decreases-loop
-mul-far c = search rules
+offset_bounds-weighed-j : tie.Need-offset_bounds-weighed-j invariant-loop-j decreases-loop-j
+offset_bounds-weighed-j c = search rules
 
-shared-slice-read-far : tie.Need-shared-slice-read-far invariant-loop decreases-loop
-shared-slice-read-far c = (place c.before.before).weighed
+bounds-weighed-j : tie.Need-bounds-weighed-j invariant-loop-j decreases-loop-j
+bounds-weighed-j c = (place c.before.before).weighed
 
-add-far : tie.Need-overflow-add-far invariant-loop decreases-loop
-add-far c =
+overflow_add-far : tie.Need-overflow_add-far invariant-loop-j decreases-loop-j
+overflow_add-far c =
     let s = start c.before.before.before.before in
     omega (arith, s.pre.can.accepted.weight_high (place c.before.before).arc, (place c.before.before).weight, s.pre.can.fits)
 
-add-j : tie.Need-overflow-add-j invariant-loop decreases-loop
-add-j c = search rules
+overflow_add-j : tie.Need-overflow_add-j invariant-loop-j decreases-loop-j
+overflow_add-j c = search rules
 
 -- the word of the node that the arc leads to is as it was
-kept : (c : tie.In-loop invariant-loop decreases-loop)
+kept : (c : tie.In-loop-j invariant-loop-j decreases-loop-j)
     → let s = start c.before.before in
-    let to = get_or c.before.before.before.before.neighbours-of.result.now c.before.loop.j 0 in
-    get_or c.before.loop.s to 0 ≡ get_or s.args.s.now to 0
+    let to = get_or c.before.before.before.before.neighbours_of-ahead.result.now c.before.loop-j.j 0 in
+    get_or c.before.loop-j.s-1 to 0 ≡ get_or s.args.s.now to 0
 kept c =
     let s = start c.before.before in
-    c.before.loop.invariant.1.frame.words _ (omega (arith, s.pre.can.accepted.leads_in (place c).arc, (place c).to))
+    c.before.loop-j.invariant.1.frame.words _ (omega (arith, s.pre.can.accepted.leads_in (place c).arc, (place c).to))
 
-has-place-at-requires : tie.Need-has-place-at-requires invariant-loop decreases-loop
-has-place-at-requires c κs =
+has_place_at-requires : tie.Need-has_place_at-requires invariant-loop-j decreases-loop-j
+has_place_at-requires c κs =
     let i = c.before.before.before in
     let s = start i.before.before in
-    look_kept (kept i) i.before.loop.invariant.1.frame.size (s.pre.looks _ (omega (arith, s.pre.can.accepted.leads_in (place i).arc, (place i).to)))
+    look_kept (kept i) i.before.loop-j.invariant.1.frame.size (s.pre.looks _ (omega (arith, s.pre.can.accepted.leads_in (place i).arc, (place i).to)))
 
-tag-of-requires : tie.Need-tag-of-requires invariant-loop decreases-loop
-tag-of-requires c κs =
+tag_of-tag-requires : tie.Need-tag_of-tag-requires invariant-loop-j decreases-loop-j
+tag_of-tag-requires c κs =
     let i = c.before.before.before.before.before in
     let s = start i.before.before in
     let f = s.pre.can.accepted.few in
     (omega (arith, s.pre.can.point), omega (arith, s.pre.can.accepted.leads_in (place i).arc, (place i).to))
 
-push-at-requires : tie.Need-push-at-requires invariant-loop decreases-loop
-push-at-requires c κs =
+push_at-requires : tie.Need-push_at-requires invariant-loop-j decreases-loop-j
+push_at-requires c κs =
     let i = c.before.before.before.before.before.before.before in
-    let f = i.before.loop.invariant.1 in
+    let f = i.before.loop-j.invariant.1 in
     (f.queue, omega (arith, f.frame.size, f.grown, (start i.before.before).pre.can.room, (place i).low))
 
-add-more : tie.Need-overflow-add-more invariant-loop decreases-loop
-add-more c =
+overflow_add-more : tie.Need-overflow_add-more invariant-loop-j decreases-loop-j
+overflow_add-more c =
     let i = c.before.before.before.before.before.before.before.before.before.before in
     let s = start i.before.before in
-    omega (arith, i.before.loop.invariant.1.grown, s.pre.can.room, (place i).low, s.good.1.1.1.0)
+    omega (arith, i.before.loop-j.invariant.1.grown, s.pre.can.room, (place i).low, s.good.1.1.1.0)
 
-loop-less : tie.Need-loop-smaller invariant-loop decreases-loop
+loop-less : tie.Need-loop-j-smaller-then-has_place_at invariant-loop-j decreases-loop-j
 loop-less c = search rules
 
-loop-again : tie.Need-loop-preserved invariant-loop decreases-loop
+loop-again : tie.Need-loop-j-preserved-then-has_place_at invariant-loop-j decreases-loop-j
 loop-again c =
     let t = c.before.before.before.before in
     let i = t.before.before.before.before.before.before in
     let s = start i.before.before in
-    let e : key_of (s.args.d + get_or i.before.before.weights-of.result.now i.before.loop.j 0) t.tag_of.result ≡ arc_offer (G s) s.args.node s.args.p s.args.d i.before.loop.j = omega (arith, t.tag_of.ensures, (place i).to, (place i).weight) in
-    let h = t.before.before.has-place-at.ensures.yes t.before.if1.true in
-    (omega arith, entered_pushed i.before.loop.invariant.1 (rw (place i).to at (place_kept {xs = s.args.s.now} (kept i) h)) (rw e at c.before.before.push_at.ensures))
+    let e : key_of (s.args.d + get_or i.before.before.weights_of-weighed.result.now i.before.loop-j.j 0) t.tag_of-tag.result ≡ arc_offer (G s) s.args.node s.args.p s.args.d i.before.loop-j.j = omega (arith, t.tag_of-tag.ensures, (place i).to, (place i).weight) in
+    let h = t.before.before.has_place_at.ensures.yes t.before.if-has_place_at.true in
+    (omega arith, entered_pushed i.before.loop-j.invariant.1 (rw (place i).to at (place_kept {xs = s.args.s.now} (kept i) h)) (rw e at c.before.before.push_at.ensures))
 
-loop-less-2 : tie.Need-loop-smaller-2 invariant-loop decreases-loop
+loop-less-2 : tie.Need-loop-j-smaller invariant-loop-j decreases-loop-j
 loop-less-2 c = search rules
 
-loop-again-2 : tie.Need-loop-preserved-2 invariant-loop decreases-loop
+loop-again-2 : tie.Need-loop-j-preserved invariant-loop-j decreases-loop-j
 loop-again-2 c =
     let i = c.before.before.before.before.before in
-    (omega arith, entered_passed i.before.loop.invariant.1 (λ h. place_not_none h (rw (place i).to at (none_kept {xs = (start i.before.before).args.s.now} (kept i) (c.before.has-place-at.ensures.no c.if1.false)))))
+    (omega arith, entered_passed i.before.loop-j.invariant.1 (λ h. place_not_none h (rw (place i).to at (none_kept {xs = (start i.before.before).args.s.now} (kept i) (c.before.has_place_at.ensures.no c.if-has_place_at.false)))))
 
-same_length : tie.Need-same-length invariant-loop decreases-loop
-same_length c = search rules
+shape_of-s : tie.Need-shape_of-s invariant-loop-j decreases-loop-j
+shape_of-s c = search rules
 
-returns : tie.Need-returns invariant-loop decreases-loop
+returns : tie.Need-returns invariant-loop-j decreases-loop-j
 returns c =
     let e = ahead c.before.before in
-    let l = c.before.loop in
-    let q : l.j ≡ length (neighbours_of (G (start c.before.before)) (start c.before.before).args.node) = omega (arith, ap length e, l.invariant.0, c.loop-test.false) in
+    let l = c.before.loop-j in
+    let q : l.j ≡ length (neighbours_of (G (start c.before.before)) (start c.before.before).args.node) = omega (arith, ap length e, l.invariant.0, c.loop-j-test.false) in
     rw q at l.invariant.1
 
-pub offer-spec : {M : Type 1} → statement M
-offer-spec =
+pub offer_spec : {M : Type 1} → statement M
+offer_spec =
     tie.close
     (tie.spec
-    invariant-loop
-    decreases-loop
-    sub_at
+    invariant-loop-j
+    decreases-loop-j
+    overflow_sub-at
     wide-requires
-    neighbours-of-requires
+    neighbours_of-ahead-requires
     wide-requires-2
-    weights-of-requires
+    weights_of-weighed-requires
     loop-holds
-    mul-to
-    shared-slice-read-to
-    mul-far
-    shared-slice-read-far
-    add-far
-    add-j
-    has-place-at-requires
-    tag-of-requires
-    push-at-requires
-    add-more
+    offset_bounds-ahead-j
+    bounds-ahead-j
+    offset_bounds-weighed-j
+    bounds-weighed-j
+    overflow_add-far
+    overflow_add-j
+    has_place_at-requires
+    tag_of-tag-requires
+    push_at-requires
+    overflow_add-more
     loop-less
     loop-again
     loop-less-2
     loop-again-2
-    same_length
+    shape_of-s
     returns)

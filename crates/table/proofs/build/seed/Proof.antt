@@ -13,78 +13,78 @@ use borrow.Author.Rules.{rules}
 use Rattle.table.proofs.build.seed.Statement.{statement}
 use Rattle.table.proofs.build.seed.Tie as tie
 
-abbrev invariant-loop : tie.invariant-loop
-invariant-loop points s₀ n len₀ v₀ s len v = (v ≤ n) × PointsSeeded points s₀ s v len
+abbrev invariant-loop-v : tie.invariant-loop-v
+invariant-loop-v points s₀ n len₀ v₀ s len v = (v ≤ n) × PointsSeeded points s₀ s v len
 
-abbrev decreases-loop : tie.decreases-loop
-decreases-loop points s₀ n len₀ v₀ s len v = n - v
+abbrev decreases-loop-v : tie.decreases-loop-v
+decreases-loop-v points s₀ n len₀ v₀ s len v = n - v
 
-loop-holds : tie.Need-loop-init invariant-loop decreases-loop
+loop-holds : tie.Need-loop-v-init invariant-loop-v decreases-loop-v
 loop-holds c =
     let s = c.before.before in
     (omega arith, entered_none (seed_queue (length s.args.points.now) s.requires.blank))
 
-cast-node : tie.Need-overflow-cast-node invariant-loop decreases-loop
-cast-node c = search rules
+overflow_cast-node : tie.Need-overflow_cast-node invariant-loop-v decreases-loop-v
+overflow_cast-node c = search rules
 
-shared-slice-read-mark : tie.Need-shared-slice-read-mark invariant-loop decreases-loop
-shared-slice-read-mark c = search rules
+bounds-points-v : tie.Need-bounds-points-v invariant-loop-v decreases-loop-v
+bounds-points-v c = search rules
 
-add-v : tie.Need-overflow-add-v invariant-loop decreases-loop
-add-v c = search rules
+overflow_add-v : tie.Need-overflow_add-v invariant-loop-v decreases-loop-v
+overflow_add-v c = search rules
 
-tag-of-requires : tie.Need-tag-of-requires invariant-loop decreases-loop
-tag-of-requires c κs = search rules
+tag_of-tag-requires : tie.Need-tag_of-tag-requires invariant-loop-v decreases-loop-v
+tag_of-tag-requires c κs = search rules
 
-push-at-requires : tie.Need-push-at-requires invariant-loop decreases-loop
-push-at-requires c κs = search rules
+push_at-requires : tie.Need-push_at-requires invariant-loop-v decreases-loop-v
+push_at-requires c κs = search rules
 
-add-len : tie.Need-overflow-add-len invariant-loop decreases-loop
-add-len c = search rules
+overflow_add-len : tie.Need-overflow_add-len invariant-loop-v decreases-loop-v
+overflow_add-len c = search rules
 
-loop-less : tie.Need-loop-smaller invariant-loop decreases-loop
+loop-less : tie.Need-loop-v-smaller-then-mark-gt0 invariant-loop-v decreases-loop-v
 loop-less c = search rules
 
-loop-again : tie.Need-loop-preserved invariant-loop decreases-loop
+loop-again : tie.Need-loop-v-preserved-then-mark-gt0 invariant-loop-v decreases-loop-v
 loop-again c =
     let i = c.before.before.before.before.before.before.before in
     let b = c.before.before.before.before.before in
-    let e = c.before.before.before.before.tag_of.ensures in
-    (omega arith, entered_pushed i.before.loop.invariant.1 (lt-ltb 0 _ b.if1.true) (rw e at c.before.before.push_at.ensures))
+    let e = c.before.before.before.before.tag_of-tag.ensures in
+    (omega arith, entered_pushed i.before.loop-v.invariant.1 (lt-ltb 0 _ b.if-mark-gt0.true) (rw e at c.before.before.push_at.ensures))
 
-loop-less-2 : tie.Need-loop-smaller-2 invariant-loop decreases-loop
+loop-less-2 : tie.Need-loop-v-smaller invariant-loop-v decreases-loop-v
 loop-less-2 c = search rules
 
-loop-again-2 : tie.Need-loop-preserved-2 invariant-loop decreases-loop
+loop-again-2 : tie.Need-loop-v-preserved invariant-loop-v decreases-loop-v
 loop-again-2 c =
     let i = c.before.before in
-    (omega arith, entered_passed i.before.loop.invariant.1 (λ e. absurd (omega (arith, ltb-true 0 (get_or i.before.before.before.before.args.points.now i.before.loop.v 0) e, c.if1.false))))
+    (omega arith, entered_passed i.before.loop-v.invariant.1 (λ e. absurd (omega (arith, ltb-true 0 (get_or i.before.before.before.before.args.points.now i.before.loop-v.v 0) e, c.if-mark-gt0.false))))
 
-same_length : tie.Need-same-length invariant-loop decreases-loop
-same_length c = search rules
+shape_of-s : tie.Need-shape_of-s invariant-loop-v decreases-loop-v
+shape_of-s c = search rules
 
-returns : tie.Need-returns invariant-loop decreases-loop
+returns : tie.Need-returns invariant-loop-v decreases-loop-v
 returns c =
-    let l = c.before.loop in
+    let l = c.before.loop-v in
     let e : l.v ≡ length c.before.before.before.before.args.points.now = omega arith in
     rw e at l.invariant.1
 
-pub seed-spec : {M : Type 1} → statement M
-seed-spec =
+pub seed_spec : {M : Type 1} → statement M
+seed_spec =
     tie.close
     (tie.spec
-    invariant-loop
-    decreases-loop
+    invariant-loop-v
+    decreases-loop-v
     loop-holds
-    cast-node
-    shared-slice-read-mark
-    add-v
-    tag-of-requires
-    push-at-requires
-    add-len
+    overflow_cast-node
+    bounds-points-v
+    overflow_add-v
+    tag_of-tag-requires
+    push_at-requires
+    overflow_add-len
     loop-less
     loop-again
     loop-less-2
     loop-again-2
-    same_length
+    shape_of-s
     returns)

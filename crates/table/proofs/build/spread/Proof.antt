@@ -15,107 +15,107 @@ use borrow.Author.Rules.{rules}
 use Rattle.table.proofs.build.spread.Statement.{statement}
 use Rattle.table.proofs.build.spread.Tie as tie
 
-abbrev invariant-loop : tie.invariant-loop
-invariant-loop starts neighbours weights points s₀ ids₀ distances₀ places n len left₀ s ids distances left =
+abbrev invariant-loop-left : tie.invariant-loop-left
+invariant-loop-left starts neighbours weights points s₀ ids₀ distances₀ places n len left₀ s ids distances left =
     (length s ≡ length s₀) × Filling (network starts neighbours weights) points places s ids distances left
 
-abbrev decreases-loop : tie.decreases-loop
-decreases-loop starts neighbours weights points s₀ ids₀ distances₀ places n len left₀ s ids distances left =
+abbrev decreases-loop-left : tie.decreases-loop-left
+decreases-loop-left starts neighbours weights points s₀ ids₀ distances₀ places n len left₀ s ids distances left =
     left + free_arcs (network starts neighbours weights) places s (node_count (network starts neighbours weights))
 
-abbrev G : tie.Start invariant-loop decreases-loop → Network
+abbrev G : tie.Start invariant-loop-left decreases-loop-left → Network
 G s = network s.args.starts.now s.args.neighbours.now s.args.weights.now
 
-abbrev start_of : tie.At-loop invariant-loop decreases-loop → tie.Start invariant-loop decreases-loop
+abbrev start_of : tie.At-loop-left invariant-loop-left decreases-loop-left → tie.Start invariant-loop-left decreases-loop-left
 start_of c = c.before.before.before.before.before.before.before.before.before.before.before.before
 
 -- the offer that was popped: its turn, and its node, point and distance
-abbrev turn : tie.After-tag-parent invariant-loop decreases-loop → tie.At-loop invariant-loop decreases-loop
+abbrev turn : tie.After-tag_parent-node invariant-loop-left decreases-loop-left → tie.At-loop-left invariant-loop-left decreases-loop-left
 turn c = c.before.before.before.before.before.before.before
 
-abbrev node : tie.After-tag-parent invariant-loop decreases-loop → ℕ
-node c = c.tag-parent.result
+abbrev node : tie.After-tag_parent-node invariant-loop-left decreases-loop-left → ℕ
+node c = c.tag_parent-node.result
 
-abbrev point : tie.After-tag-parent invariant-loop decreases-loop → ℕ
-point c = c.before.tag-node.result
+abbrev point : tie.After-tag_parent-node invariant-loop-left decreases-loop-left → ℕ
+point c = c.before.tag_node-p.result
 
-abbrev far : tie.After-tag-parent invariant-loop decreases-loop → ℕ
-far c = c.before.before.before.before.pop-at.result.distance
+abbrev far : tie.After-tag_parent-node invariant-loop-left decreases-loop-left → ℕ
+far c = c.before.before.before.before.pop_at-e.result.distance
 
-tag_fits : (c : tie.After-pop-at invariant-loop decreases-loop) → c.pop-at.result.tag < 4294967296
+tag_fits : (c : tie.After-pop_at-e invariant-loop-left decreases-loop-left) → c.pop_at-e.result.tag < 4294967296
 tag_fits c = omega arith
 
-node_fits : (c : tie.After-tag-parent invariant-loop decreases-loop) → node c < 65536
-node_fits c = omega (arith, c.tag-parent.ensures)
+node_fits : (c : tie.After-tag_parent-node invariant-loop-left decreases-loop-left) → node c < 65536
+node_fits c = omega (arith, c.tag_parent-node.ensures)
 
-point-fits : (c : tie.After-tag-parent invariant-loop decreases-loop) → point c < 65536
-point-fits c = omega (arith, c.before.tag-node.ensures, tag_fits c.before.before.before.before)
+point-fits : (c : tie.After-tag_parent-node invariant-loop-left decreases-loop-left) → point c < 65536
+point-fits c = omega (arith, c.before.tag_node-p.ensures, tag_fits c.before.before.before.before)
 
-popped : (c : tie.After-tag-parent invariant-loop decreases-loop)
-    → PoppedAt (turn c).loop.s c.before.before.before.before.pop-at.new.0 (node_count (G (start_of (turn c)))) (turn c).loop.left (offer_of (node c) (point c) (far c))
+popped : (c : tie.After-tag_parent-node invariant-loop-left decreases-loop-left)
+    → PoppedAt (turn c).loop-left.s-1 c.before.before.before.before.pop_at-e.new.0 (node_count (G (start_of (turn c)))) (turn c).loop-left.left (offer_of (node c) (point c) (far c))
 popped c =
-    let r = c.before.before.before.before.pop-at in
-    let e : key_of r.result.distance r.result.tag ≡ offer_of (node c) (point c) (far c) = omega (arith, c.tag-parent.ensures, c.before.tag-node.ensures) in
+    let r = c.before.before.before.before.pop_at-e in
+    let e : key_of r.result.distance r.result.tag ≡ offer_of (node c) (point c) (far c) = omega (arith, c.tag_parent-node.ensures, c.before.tag_node-p.ensures) in
     rw e at r.ensures
 
-more : (c : tie.After-tag-parent invariant-loop decreases-loop) → 0 < (turn c).loop.left
-more c = omega (arith, c.before.before.before.before.before.before.loop-test.true)
+more : (c : tie.After-tag_parent-node invariant-loop-left decreases-loop-left) → 0 < (turn c).loop-left.left
+more c = omega (arith, c.before.before.before.before.before.before.loop-left-test.true)
 
-some : (c : tie.After-tag-parent invariant-loop decreases-loop) → 1 ≤ (start_of (turn c)).args.places
+some : (c : tie.After-tag_parent-node invariant-loop-left decreases-loop-left) → 1 ≤ (start_of (turn c)).args.places
 some c = omega (arith, (start_of (turn c)).pre.can.least)
 
-sub-n : tie.Need-overflow-sub-n invariant-loop decreases-loop
-sub-n c = search rules
+overflow_sub-n : tie.Need-overflow_sub-n invariant-loop-left decreases-loop-left
+overflow_sub-n c = search rules
 
-seed-requires : tie.Need-seed-requires invariant-loop decreases-loop
-seed-requires c κs =
+seed-len-requires : tie.Need-seed-len-requires invariant-loop-left decreases-loop-left
+seed-len-requires c κs =
     let p = c.before.before.before.before.before.before.before.before.requires.can in
     record { few = omega (arith, p.points, p.accepted.few); blank = p.blank; room = omega (arith, p.points, p.room) }
 
 -- the arrays and the scratch when every point has been offered to its own row
-begun : (c : tie.At-loop invariant-loop decreases-loop)
-    → Filling (G (start_of c)) (start_of c).args.points.now (start_of c).args.places c.before.before.before.seed.new.1.0 (start_of c).args.ids.now
-    (start_of c).args.distances.now c.before.before.before.seed.result
-begun c = filling_start (start_of c).requires c.before.before.before.seed.ensures
+begun : (c : tie.At-loop-left invariant-loop-left decreases-loop-left)
+    → Filling (G (start_of c)) (start_of c).args.points.now (start_of c).args.places c.before.before.before.seed-len.new.1.0 (start_of c).args.ids.now
+    (start_of c).args.distances.now c.before.before.before.seed-len.result
+begun c = filling_start (start_of c).requires c.before.before.before.seed-len.ensures
 
-loop-holds : tie.Need-loop-init invariant-loop decreases-loop
-loop-holds c = (refl, filling_start c.before.before.before.before.before.before.before.before.before.before.before.requires c.before.before.seed.ensures)
+loop-holds : tie.Need-loop-left-init invariant-loop-left decreases-loop-left
+loop-holds c = (refl, filling_start c.before.before.before.before.before.before.before.before.before.before.before.requires c.before.before.seed-len.ensures)
 
-pop-at-requires : tie.Need-pop-at-requires invariant-loop decreases-loop
-pop-at-requires c κs = (c.before.before.loop.invariant.1.queue, omega (arith, c.before.loop-test.true))
+pop_at-e-requires : tie.Need-pop_at-e-requires invariant-loop-left decreases-loop-left
+pop_at-e-requires c κs = (c.before.before.loop-left.invariant.1.queue, omega (arith, c.before.loop-left-test.true))
 
-sub-left : tie.Need-overflow-sub-left invariant-loop decreases-loop
-sub-left c = search rules
+overflow_sub-left : tie.Need-overflow_sub-left invariant-loop-left decreases-loop-left
+overflow_sub-left c = search rules
 
-tag-node-requires : tie.Need-tag-node-requires invariant-loop decreases-loop
-tag-node-requires c κs = search rules
+tag_node-p-requires : tie.Need-tag_node-p-requires invariant-loop-left decreases-loop-left
+tag_node-p-requires c κs = search rules
 
-tag-parent-requires : tie.Need-tag-parent-requires invariant-loop decreases-loop
-tag-parent-requires c κs = search rules
+tag_parent-node-requires : tie.Need-tag_parent-node-requires invariant-loop-left decreases-loop-left
+tag_parent-node-requires c κs = search rules
 
-lockers-at-requires : tie.Need-lockers-at-requires invariant-loop decreases-loop
-lockers-at-requires c κs = search rules
+lockers_at-all-requires : tie.Need-lockers_at-all-requires invariant-loop-left decreases-loop-left
+lockers_at-all-requires c κs = search rules
 
-abbrev at-point : tie.After-lockers-at invariant-loop decreases-loop → tie.After-tag-parent invariant-loop decreases-loop
+abbrev at-point : tie.After-lockers_at-all invariant-loop-left decreases-loop-left → tie.After-tag_parent-node invariant-loop-left decreases-loop-left
 at-point l = l.before
 
-append-at-requires : tie.Need-append-at-requires invariant-loop decreases-loop
-append-at-requires c κs =
+append_at-requires : tie.Need-append_at-requires invariant-loop-left decreases-loop-left
+append_at-requires c κs =
     let l = c.before.before.before in
     let t = at-point l in
     let s = start_of (turn t) in
-    rw l.lockers-at.ensures.0
-    (can_append s.pre.can.accepted (some t) (turn t).loop.inv.1 (more t) (node t) (point t) (far t) (node_fits t) (point-fits t) (popped t) s.pre.can.most)
+    rw l.lockers_at-all.ensures.0
+    (can_append s.pre.can.accepted (some t) (turn t).loop-left.inv.1 (more t) (node t) (point t) (far t) (node_fits t) (point-fits t) (popped t) s.pre.can.most)
 
-offer-requires : tie.Need-offer-requires invariant-loop decreases-loop
-offer-requires c κs =
+offer-left-requires : tie.Need-offer-left-requires invariant-loop-left decreases-loop-left
+offer-left-requires c κs =
     let a = c.before.before.before.before.before.before.before.before.before in
     let l = a.before.before.before.before in
     let t = at-point l in
     let s = start_of (turn t) in
-    can_offer s.pre.can.accepted (some t) (turn t).loop.inv.1 (more t) (node t) (point t) (far t) (node_fits t) (point-fits t) (popped t) (rw l.lockers-at.ensures.0 at (a.append_at.ensures.taken c.before.before.if1.true))
+    can_offer s.pre.can.accepted (some t) (turn t).loop-left.inv.1 (more t) (node t) (point t) (far t) (node_fits t) (point-fits t) (popped t) (rw l.lockers_at-all.ensures.0 at (a.append_at.ensures.taken c.before.before.if-append_at.true))
 
-loop-less : tie.Need-loop-smaller invariant-loop decreases-loop
+loop-less : tie.Need-loop-left-smaller-then-append_at invariant-loop-left decreases-loop-left
 loop-less c =
     let o = c.before.before in
     let i = o.before.before.before in
@@ -123,10 +123,10 @@ loop-less c =
     let l = a.before.before.before.before in
     let t = at-point l in
     let s = start_of (turn t) in
-    let r = rw l.lockers-at.ensures.0 at (a.append_at.ensures.taken i.if1.true) in
-    taken_less s.pre.can.accepted (some t) (turn t).loop.inv.1 (more t) (node t) (point t) (far t) (node_fits t) (point-fits t) (popped t) r o.offer.ensures
+    let r = rw l.lockers_at-all.ensures.0 at (a.append_at.ensures.taken i.if-append_at.true) in
+    taken_less s.pre.can.accepted (some t) (turn t).loop-left.inv.1 (more t) (node t) (point t) (far t) (node_fits t) (point-fits t) (popped t) r o.offer-left.ensures
 
-loop-again : tie.Need-loop-preserved invariant-loop decreases-loop
+loop-again : tie.Need-loop-left-preserved-then-append_at invariant-loop-left decreases-loop-left
 loop-again c =
     let o = c.before.before in
     let i = o.before.before.before in
@@ -134,64 +134,64 @@ loop-again c =
     let l = a.before.before.before.before in
     let t = at-point l in
     let s = start_of (turn t) in
-    let r = rw l.lockers-at.ensures.0 at (a.append_at.ensures.taken i.if1.true) in (
-      taken_size s.pre.can.accepted (some t) (turn t).loop.inv.1 (more t) (node t) (point t) (far t) (node_fits t) (point-fits t) (popped t) r o.offer.ensures ∙ (turn t).loop.inv.0,
-      filling_taken s.pre.can.accepted (some t) (turn t).loop.inv.1 (more t) (node t) (point t) (far t) (node_fits t) (point-fits t) (popped t) r o.offer.ensures,
+    let r = rw l.lockers_at-all.ensures.0 at (a.append_at.ensures.taken i.if-append_at.true) in (
+      taken_size s.pre.can.accepted (some t) (turn t).loop-left.inv.1 (more t) (node t) (point t) (far t) (node_fits t) (point-fits t) (popped t) r o.offer-left.ensures ∙ (turn t).loop-left.inv.0,
+      filling_taken s.pre.can.accepted (some t) (turn t).loop-left.inv.1 (more t) (node t) (point t) (far t) (node_fits t) (point-fits t) (popped t) r o.offer-left.ensures,
     )
 
-loop-less-2 : tie.Need-loop-smaller-2 invariant-loop decreases-loop
+loop-less-2 : tie.Need-loop-left-smaller invariant-loop-left decreases-loop-left
 loop-less-2 c =
     let a = c.before.before.before.before.before.before.before in
     let l = a.before.before.before.before in
     let t = at-point l in
     let s = start_of (turn t) in
-    let r = a.append_at.ensures.refused c.if1.false in
-    refused_less s.pre.can.accepted (some t) (turn t).loop.inv.1 (more t) (node t) (point t) (far t) (node_fits t) (point-fits t) (popped t) r
+    let r = a.append_at.ensures.refused c.if-append_at.false in
+    refused_less s.pre.can.accepted (some t) (turn t).loop-left.inv.1 (more t) (node t) (point t) (far t) (node_fits t) (point-fits t) (popped t) r
 
-loop-again-2 : tie.Need-loop-preserved-2 invariant-loop decreases-loop
+loop-again-2 : tie.Need-loop-left-preserved invariant-loop-left decreases-loop-left
 loop-again-2 c =
     let a = c.before.before.before.before.before.before.before in
     let l = a.before.before.before.before in
     let t = at-point l in
     let s = start_of (turn t) in
-    let r = a.append_at.ensures.refused c.if1.false in
-    (ap length r.words ∙ (popped t).size ∙ (turn t).loop.inv.0, filling_refused s.pre.can.accepted (some t) (turn t).loop.inv.1 (more t) (node t) (point t) (far t) (node_fits t) (point-fits t) (popped t) r)
+    let r = a.append_at.ensures.refused c.if-append_at.false in
+    (ap length r.words ∙ (popped t).size ∙ (turn t).loop-left.inv.0, filling_refused s.pre.can.accepted (some t) (turn t).loop-left.inv.1 (more t) (node t) (point t) (far t) (node_fits t) (point-fits t) (popped t) r)
 
-same_length : tie.Need-same-length invariant-loop decreases-loop
-same_length c = search rules
+shape_of-s : tie.Need-shape_of-s invariant-loop-left decreases-loop-left
+shape_of-s c = search rules
 
-same-length-2 : tie.Need-same-length-2 invariant-loop decreases-loop
-same-length-2 c = c.before.loop.invariant.1.sized.all_ids ∙ sym (begun c.before).sized.all_ids
+shape_of-ids : tie.Need-shape_of-ids invariant-loop-left decreases-loop-left
+shape_of-ids c = c.before.loop-left.invariant.1.sized.all_ids ∙ sym (begun c.before).sized.all_ids
 
-same-length-3 : tie.Need-same-length-3 invariant-loop decreases-loop
-same-length-3 c = c.before.loop.invariant.1.sized.all_dists ∙ sym (begun c.before).sized.all_dists
+shape_of-distances : tie.Need-shape_of-distances invariant-loop-left decreases-loop-left
+shape_of-distances c = c.before.loop-left.invariant.1.sized.all_dists ∙ sym (begun c.before).sized.all_dists
 
-returns : tie.Need-returns invariant-loop decreases-loop
+returns : tie.Need-returns invariant-loop-left decreases-loop-left
 returns c =
-    let l = c.before.loop in
-    record { size = l.invariant.0 ∙ c.before.before.before.before.seed.ensures.frame.size; table = filling_table (start_of c.before).pre.can.accepted l.invariant.1 (omega (arith, c.loop-test.false)) }
+    let l = c.before.loop-left in
+    record { size = l.invariant.0 ∙ c.before.before.before.before.seed-len.ensures.frame.size; table = filling_table (start_of c.before).pre.can.accepted l.invariant.1 (omega (arith, c.loop-left-test.false)) }
 
-pub spread-spec : {M : Type 1} → statement M
-spread-spec =
+pub spread_spec : {M : Type 1} → statement M
+spread_spec =
     tie.close
     (tie.spec
-    invariant-loop
-    decreases-loop
-    sub-n
-    seed-requires
+    invariant-loop-left
+    decreases-loop-left
+    overflow_sub-n
+    seed-len-requires
     loop-holds
-    pop-at-requires
-    sub-left
-    tag-node-requires
-    tag-parent-requires
-    lockers-at-requires
-    append-at-requires
-    offer-requires
+    pop_at-e-requires
+    overflow_sub-left
+    tag_node-p-requires
+    tag_parent-node-requires
+    lockers_at-all-requires
+    append_at-requires
+    offer-left-requires
     loop-less
     loop-again
     loop-less-2
     loop-again-2
-    same_length
-    same-length-2
-    same-length-3
+    shape_of-s
+    shape_of-ids
+    shape_of-distances
     returns)

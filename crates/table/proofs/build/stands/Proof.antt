@@ -10,51 +10,51 @@ use borrow.Author.Rules.{rules}
 use Rattle.table.proofs.build.stands.Statement.{statement}
 use Rattle.table.proofs.build.stands.Tie as tie
 
-abbrev invariant-loop : tie.invariant-loop
-invariant-loop ids_row size p j₀ j = (j ≤ size) × (Stands ids_row 0 j p → ⊥)
+abbrev invariant-loop-j : tie.invariant-loop-j
+invariant-loop-j ids_row size p j₀ j = (j ≤ size) × (Stands ids_row 0 j p → ⊥)
 
-abbrev decreases-loop : tie.decreases-loop
-decreases-loop ids_row size p j₀ j = size - j
+abbrev decreases-loop-j : tie.decreases-loop-j
+decreases-loop-j ids_row size p j₀ j = size - j
 
-loop-holds : tie.Need-loop-init invariant-loop decreases-loop
+loop-holds : tie.Need-loop-j-init invariant-loop-j decreases-loop-j
 loop-holds c = (omega arith, stands_none)
 
-mul-id : tie.Need-overflow-mul-id invariant-loop decreases-loop
-mul-id c = search rules
+offset_bounds-ids_row-j : tie.Need-offset_bounds-ids_row-j invariant-loop-j decreases-loop-j
+offset_bounds-ids_row-j c = search rules
 
-shared-slice-read-id : tie.Need-shared-slice-read-id invariant-loop decreases-loop
-shared-slice-read-id c = search rules
+bounds-ids_row-j : tie.Need-bounds-ids_row-j invariant-loop-j decreases-loop-j
+bounds-ids_row-j c = search rules
 
-returns : tie.Need-returns invariant-loop decreases-loop
-returns c =
+returns-then-id-p : tie.Need-returns-then-id-p invariant-loop-j decreases-loop-j
+returns-then-id-p c =
     record {
-      yes = λ e. record { index = c.before.before.before.loop.j; low = c.before.before.loop-test.true; is = rw (zero-add c.before.before.before.loop.j) c.if1.true };
+      yes = λ e. record { index = c.before.before.before.loop-j.j; low = c.before.before.loop-j-test.true; is = rw (zero-add c.before.before.before.loop-j.j) c.if-id-p.true };
       no = λ e. absurd (true≢false e);
     }
 
-add-j : tie.Need-overflow-add-j invariant-loop decreases-loop
-add-j c = search rules
+overflow_add-j : tie.Need-overflow_add-j invariant-loop-j decreases-loop-j
+overflow_add-j c = search rules
 
-loop-less : tie.Need-loop-smaller invariant-loop decreases-loop
+loop-less : tie.Need-loop-j-smaller invariant-loop-j decreases-loop-j
 loop-less c = search rules
 
-loop-again : tie.Need-loop-preserved invariant-loop decreases-loop
-loop-again c = (omega arith, stands_more c.before.before.before.loop.invariant.1 (rw (zero-add c.before.before.before.loop.j) c.if1.false))
+loop-again : tie.Need-loop-j-preserved invariant-loop-j decreases-loop-j
+loop-again c = (omega arith, stands_more c.before.before.before.loop-j.invariant.1 (rw (zero-add c.before.before.before.loop-j.j) c.if-id-p.false))
 
-returns-2 : tie.Need-returns-2 invariant-loop decreases-loop
-returns-2 c = record { yes = λ e. absurd (false≢true e); no = λ e s. c.before.loop.invariant.1 (record { index = s.index; low = omega (arith, s.low); is = s.is }) }
+returns : tie.Need-returns invariant-loop-j decreases-loop-j
+returns c = record { yes = λ e. absurd (false≢true e); no = λ e s. c.before.loop-j.invariant.1 (record { index = s.index; low = omega (arith, s.low); is = s.is }) }
 
-pub stands-spec : {M : Type 1} → statement M
-stands-spec =
+pub stands_spec : {M : Type 1} → statement M
+stands_spec =
     tie.close
     (tie.spec
-    invariant-loop
-    decreases-loop
+    invariant-loop-j
+    decreases-loop-j
     loop-holds
-    mul-id
-    shared-slice-read-id
-    returns
-    add-j
+    offset_bounds-ids_row-j
+    bounds-ids_row-j
+    returns-then-id-p
+    overflow_add-j
     loop-less
     loop-again
-    returns-2)
+    returns)

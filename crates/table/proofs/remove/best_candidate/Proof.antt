@@ -14,184 +14,184 @@ use borrow.Author.Rules.{rules}
 use Rattle.table.proofs.remove.best_candidate.Statement.{statement}
 use Rattle.table.proofs.remove.best_candidate.Tie as tie
 
-abbrev invariant-loop : tie.invariant-loop
-invariant-loop starts neighbours weights points ids distances places i ahead weighed from end best₀ j₀ best j = (j ≤ length ahead) × BestOf (network starts neighbours weights) points ids distances places i j (best.point, best.distance)
+abbrev invariant-loop-j : tie.invariant-loop-j
+invariant-loop-j starts neighbours weights points ids distances places i ahead weighed from end best₀ j₀ best j = (j ≤ length ahead) × BestOf (network starts neighbours weights) points ids distances places i j (best.point, best.distance)
 
-abbrev decreases-loop : tie.decreases-loop
-decreases-loop starts neighbours weights points ids distances places i ahead weighed from end best₀ j₀ best j = length ahead - j
+abbrev decreases-loop-j : tie.decreases-loop-j
+decreases-loop-j starts neighbours weights points ids distances places i ahead weighed from end best₀ j₀ best j = length ahead - j
 
-abbrev G : tie.Start invariant-loop decreases-loop → Network
+abbrev G : tie.Start invariant-loop-j decreases-loop-j → Network
 G s = network s.args.starts.now s.args.neighbours.now s.args.weights.now
 
 -- the parts of the node, and the arc at place j
-abbrev start : tie.After-weights-of invariant-loop decreases-loop → tie.Start invariant-loop decreases-loop
+abbrev start : tie.After-weights_of-weighed invariant-loop-j decreases-loop-j → tie.Start invariant-loop-j decreases-loop-j
 start c = c.before.before.before.before.before.before.before.before
 
-ahead : (c : tie.After-weights-of invariant-loop decreases-loop) → c.before.neighbours-of.result.now ≡ neighbours_of (G (start c)) (start c).args.i
-ahead c = c.before.neighbours-of.ensures
+ahead : (c : tie.After-weights_of-weighed invariant-loop-j decreases-loop-j) → c.before.neighbours_of-ahead.result.now ≡ neighbours_of (G (start c)) (start c).args.i
+ahead c = c.before.neighbours_of-ahead.ensures
 
-weighed : (c : tie.After-weights-of invariant-loop decreases-loop) → c.weights-of.result.now ≡ weights_of (G (start c)) (start c).args.i
-weighed c = c.weights-of.ensures
+weighed : (c : tie.After-weights_of-weighed invariant-loop-j decreases-loop-j) → c.weights_of-weighed.result.now ≡ weights_of (G (start c)) (start c).args.i
+weighed c = c.weights_of-weighed.ensures
 
-place : (c : tie.In-loop invariant-loop decreases-loop)
+place : (c : tie.In-loop-j invariant-loop-j decreases-loop-j)
     → let s = start c.before.before in
-    ArcAt (G s) s.args.i c.before.loop.j c.before.before.before.neighbours-of.result.now c.before.before.weights-of.result.now
+    ArcAt (G s) s.args.i c.before.loop-j.j c.before.before.before.neighbours_of-ahead.result.now c.before.before.weights_of-weighed.result.now
 place c =
     let w = c.before.before in
     let s = start w in
-    arc_handed s.pre.accepted s.pre.inside (ahead w) (weighed w) c.loop-test.true
+    arc_handed s.pre.accepted s.pre.inside (ahead w) (weighed w) c.loop-j-test.true
 
 -- row i, and the row of the node that the arc leads to
-own-fits : (s : tie.Start invariant-loop decreases-loop) → s.args.i * s.args.places + s.args.places ≤ length s.args.ids.now
+own-fits : (s : tie.Start invariant-loop-j decreases-loop-j) → s.args.i * s.args.places + s.args.places ≤ length s.args.ids.now
 own-fits s = (row_inside s.requires.sized s.requires.inside).0
 
-to_low : (c : tie.In-loop invariant-loop decreases-loop) → get_or c.before.before.before.neighbours-of.result.now c.before.loop.j 0 < node_count (G (start c.before.before))
+to_low : (c : tie.In-loop-j invariant-loop-j decreases-loop-j) → get_or c.before.before.before.neighbours_of-ahead.result.now c.before.loop-j.j 0 < node_count (G (start c.before.before))
 to_low c = omega (arith, (place c).to, (start c.before.before).pre.accepted.leads_in (place c).arc)
 
-row_low : (c : tie.After-wide invariant-loop decreases-loop) → c.wide.result < node_count (G (start c.before.before.before.before))
+row_low : (c : tie.After-wide invariant-loop-j decreases-loop-j) → c.wide.result < node_count (G (start c.before.before.before.before))
 row_low c = omega (arith, c.wide.ensures, to_low c.before.before)
 
-row-ids : (c : tie.After-wide invariant-loop decreases-loop) → c.wide.result * (start c.before.before.before.before).args.places + (start c.before.before.before.before).args.places ≤ length (start c.before.before.before.before).args.ids.now
+row-ids : (c : tie.After-wide invariant-loop-j decreases-loop-j) → c.wide.result * (start c.before.before.before.before).args.places + (start c.before.before.before.before).args.places ≤ length (start c.before.before.before.before).args.ids.now
 row-ids c = (row_inside (start c.before.before.before.before).pre.sized (row_low c)).0
 
-row-dists : (c : tie.After-wide invariant-loop decreases-loop) → c.wide.result * (start c.before.before.before.before).args.places + (start c.before.before.before.before).args.places ≤ length (start c.before.before.before.before).args.distances.now
+row-dists : (c : tie.After-wide invariant-loop-j decreases-loop-j) → c.wide.result * (start c.before.before.before.before).args.places + (start c.before.before.before.before).args.places ≤ length (start c.before.before.before.before).args.distances.now
 row-dists c = (row_inside (start c.before.before.before.before).pre.sized (row_low c)).1
 
-neighbours-of-requires : tie.Need-neighbours-of-requires invariant-loop decreases-loop
-neighbours-of-requires c κs = let s = c.before.before.before.before.before.before in (accepted_searchable s.requires.accepted).neighbours.part _ (omega (arith, s.requires.inside))
+neighbours_of-ahead-requires : tie.Need-neighbours_of-ahead-requires invariant-loop-j decreases-loop-j
+neighbours_of-ahead-requires c κs = let s = c.before.before.before.before.before.before in (accepted_searchable s.requires.accepted).neighbours.part _ (omega (arith, s.requires.inside))
 
-weights-of-requires : tie.Need-weights-of-requires invariant-loop decreases-loop
-weights-of-requires c κs = let s = c.before.before.before.before.before.before.before in (accepted_searchable s.requires.accepted).weights.part _ (omega (arith, s.requires.inside))
+weights_of-weighed-requires : tie.Need-weights_of-weighed-requires invariant-loop-j decreases-loop-j
+weights_of-weighed-requires c κs = let s = c.before.before.before.before.before.before.before in (accepted_searchable s.requires.accepted).weights.part _ (omega (arith, s.requires.inside))
 
-mul-from : tie.Need-overflow-mul-from invariant-loop decreases-loop
-mul-from c = omega (arith, own-fits (start (c)))
+overflow_mul-from : tie.Need-overflow_mul-from invariant-loop-j decreases-loop-j
+overflow_mul-from c = omega (arith, own-fits (start (c)))
 
-add-end : tie.Need-overflow-add-end invariant-loop decreases-loop
-add-end c = omega (arith, own-fits (start (c)))
+overflow_add-end : tie.Need-overflow_add-end invariant-loop-j decreases-loop-j
+overflow_add-end c = omega (arith, own-fits (start (c)))
 
-loop-holds : tie.Need-loop-init invariant-loop decreases-loop
+loop-holds : tie.Need-loop-j-init invariant-loop-j decreases-loop-j
 loop-holds c = let s = start c in (omega arith, chosen_none (G s) s.args.points.now s.args.ids.now s.args.distances.now s.args.places s.args.i)
 
-mul_wide : tie.Need-overflow-mul-wide invariant-loop decreases-loop
-mul_wide c = search rules
+offset_bounds-ahead-j : tie.Need-offset_bounds-ahead-j invariant-loop-j decreases-loop-j
+offset_bounds-ahead-j c = search rules
 
-shared-slice-read-wide : tie.Need-shared-slice-read-wide invariant-loop decreases-loop
-shared-slice-read-wide c = search rules
+bounds-ahead-j : tie.Need-bounds-ahead-j invariant-loop-j decreases-loop-j
+bounds-ahead-j c = search rules
 
-wide-requires : tie.Need-wide-requires invariant-loop decreases-loop
+wide-requires : tie.Need-wide-requires invariant-loop-j decreases-loop-j
 wide-requires c κs = search rules
 
-mul-a : tie.Need-overflow-mul-a invariant-loop decreases-loop
-mul-a c = omega (arith, row-ids c)
+overflow_mul-a : tie.Need-overflow_mul-a invariant-loop-j decreases-loop-j
+overflow_mul-a c = omega (arith, row-ids c)
 
-add-e : tie.Need-overflow-add-e invariant-loop decreases-loop
-add-e c = omega (arith, row-ids c)
+overflow_add-e : tie.Need-overflow_add-e invariant-loop-j decreases-loop-j
+overflow_add-e c = omega (arith, row-ids c)
 
-mul-w : tie.Need-overflow-mul-w invariant-loop decreases-loop
-mul-w c = search rules
+offset_bounds-weighed-j : tie.Need-offset_bounds-weighed-j invariant-loop-j decreases-loop-j
+offset_bounds-weighed-j c = search rules
 
-shared-slice-read-w : tie.Need-shared-slice-read-w invariant-loop decreases-loop
-shared-slice-read-w c = (place c.before.before.before).weighed
+bounds-weighed-j : tie.Need-bounds-weighed-j invariant-loop-j decreases-loop-j
+bounds-weighed-j c = (place c.before.before.before).weighed
 
-mul-best-of-row : tie.Need-overflow-mul-best-of-row invariant-loop decreases-loop
-mul-best-of-row c = omega (arith, own-fits (start c.before.before.before.before.before))
+offset_bounds-ids-from : tie.Need-offset_bounds-ids-from invariant-loop-j decreases-loop-j
+offset_bounds-ids-from c = omega (arith, own-fits (start c.before.before.before.before.before))
 
-sub-best-of-row : tie.Need-overflow-sub-best-of-row invariant-loop decreases-loop
-sub-best-of-row c = omega (arith, own-fits (start c.before.before.before.before.before))
+slice_bounds-best_of_row-count : tie.Need-slice_bounds-best_of_row-count invariant-loop-j decreases-loop-j
+slice_bounds-best_of_row-count c = omega (arith, own-fits (start c.before.before.before.before.before))
 
-part-best-of-row-start : tie.Need-slice-bounds-best-of-row-start invariant-loop decreases-loop
+part-best-of-row-start : tie.Need-slice_bounds-best_of_row-start invariant-loop-j decreases-loop-j
 part-best-of-row-start c = omega (arith, own-fits (start c.before.before.before.before.before))
 
-part-best-of-row-end : tie.Need-slice-bounds-best-of-row-end invariant-loop decreases-loop
+part-best-of-row-end : tie.Need-slice_bounds-best_of_row-end invariant-loop-j decreases-loop-j
 part-best-of-row-end c = omega (arith, own-fits (start c.before.before.before.before.before))
 
-mul-best-of-row-2 : tie.Need-overflow-mul-best-of-row-2 invariant-loop decreases-loop
-mul-best-of-row-2 c = omega (arith, row-ids c.before.before)
+offset_bounds-ids-a : tie.Need-offset_bounds-ids-a invariant-loop-j decreases-loop-j
+offset_bounds-ids-a c = omega (arith, row-ids c.before.before)
 
-sub-best-of-row-2 : tie.Need-overflow-sub-best-of-row-2 invariant-loop decreases-loop
-sub-best-of-row-2 c = omega (arith, row-ids c.before.before)
+slice_bounds-best_of_row-count-in-loop-j : tie.Need-slice_bounds-best_of_row-count-in-loop-j invariant-loop-j decreases-loop-j
+slice_bounds-best_of_row-count-in-loop-j c = omega (arith, row-ids c.before.before)
 
-part-best-of-row-start-2 : tie.Need-slice-bounds-best-of-row-start-2 invariant-loop decreases-loop
+part-best-of-row-start-2 : tie.Need-slice-bounds-best-of-row-start-2 invariant-loop-j decreases-loop-j
 part-best-of-row-start-2 c = omega (arith, row-ids c.before.before)
 
-part-best-of-row-end-2 : tie.Need-slice-bounds-best-of-row-end-2 invariant-loop decreases-loop
+part-best-of-row-end-2 : tie.Need-slice-bounds-best-of-row-end-2 invariant-loop-j decreases-loop-j
 part-best-of-row-end-2 c = omega (arith, row-ids c.before.before)
 
-mul-best-of-row-3 : tie.Need-overflow-mul-best-of-row-3 invariant-loop decreases-loop
-mul-best-of-row-3 c = omega (arith, row-dists c.before.before.before)
+offset_bounds-distances-a : tie.Need-offset_bounds-distances-a invariant-loop-j decreases-loop-j
+offset_bounds-distances-a c = omega (arith, row-dists c.before.before.before)
 
-sub-best-of-row-3 : tie.Need-overflow-sub-best-of-row-3 invariant-loop decreases-loop
-sub-best-of-row-3 c = omega (arith, row-dists c.before.before.before)
+slice_bounds-best_of_row-count-in-loop-j-2 : tie.Need-slice_bounds-best_of_row-count-in-loop-j-2 invariant-loop-j decreases-loop-j
+slice_bounds-best_of_row-count-in-loop-j-2 c = omega (arith, row-dists c.before.before.before)
 
-part-best-of-row-start-3 : tie.Need-slice-bounds-best-of-row-start-3 invariant-loop decreases-loop
+part-best-of-row-start-3 : tie.Need-slice-bounds-best-of-row-start-3 invariant-loop-j decreases-loop-j
 part-best-of-row-start-3 c = omega (arith, row-dists c.before.before.before)
 
-part-best-of-row-end-3 : tie.Need-slice-bounds-best-of-row-end-3 invariant-loop decreases-loop
+part-best-of-row-end-3 : tie.Need-slice-bounds-best-of-row-end-3 invariant-loop-j decreases-loop-j
 part-best-of-row-end-3 c = omega (arith, row-dists c.before.before.before)
 
-best-of-row-requires : tie.Need-best-of-row-requires invariant-loop decreases-loop
-best-of-row-requires c κs =
+best_of_row-best-requires : tie.Need-best_of_row-best-requires invariant-loop-j decreases-loop-j
+best_of_row-best-requires c κs =
     let w = c.before.before.before.before in
     let i = w.before.before in
     let s = start i.before.before in
     (omega (arith, (place i).weight, s.pre.accepted.weight_high (place i).arc), lent_even s.pre.sized (row_low w))
 
-add-j : tie.Need-overflow-add-j invariant-loop decreases-loop
-add-j c = search rules
+overflow_add-j : tie.Need-overflow_add-j invariant-loop-j decreases-loop-j
+overflow_add-j c = search rules
 
-loop-less : tie.Need-loop-smaller invariant-loop decreases-loop
+loop-less : tie.Need-loop-j-smaller invariant-loop-j decreases-loop-j
 loop-less c = search rules
 
-loop-again : tie.Need-loop-preserved invariant-loop decreases-loop
+loop-again : tie.Need-loop-j-preserved invariant-loop-j decreases-loop-j
 loop-again c =
     let w = c.before.before.before.before.before in
     let i = w.before.before in
     let s = start i.before.before in (
-      omega (arith, i.loop-test.true),
-      chosen_lent s.pre.sized s.pre.inside w.wide.result (get_or i.before.before.weights-of.result.now i.before.loop.j 0) (w.wide.ensures ∙ (place i).to) (place i).weight
-          (row_low w) i.before.loop.invariant.1 c.best-of-row.ensures,
+      omega (arith, i.loop-j-test.true),
+      chosen_lent s.pre.sized s.pre.inside w.wide.result (get_or i.before.before.weights_of-weighed.result.now i.before.loop-j.j 0) (w.wide.ensures ∙ (place i).to) (place i).weight
+          (row_low w) i.before.loop-j.invariant.1 c.best_of_row-best.ensures,
     )
 
-returns : tie.Need-returns invariant-loop decreases-loop
+returns : tie.Need-returns invariant-loop-j decreases-loop-j
 returns c =
-    let l = c.before.loop in
+    let l = c.before.loop-j in
     let w = c.before.before in
     let s = start w in
-    let e : l.j ≡ length (neighbours_of (G s) s.args.i) = omega (arith, ap length (ahead w), l.invariant.0, c.loop-test.false) in
+    let e : l.j ≡ length (neighbours_of (G s) s.args.i) = omega (arith, ap length (ahead w), l.invariant.0, c.loop-j-test.false) in
     rw e at l.invariant.1
 
-pub best-candidate-spec : {M : Type 1} → statement M
-best-candidate-spec =
+pub best_candidate_spec : {M : Type 1} → statement M
+best_candidate_spec =
     tie.close
     (tie.spec
-    invariant-loop
-    decreases-loop
-    neighbours-of-requires
-    weights-of-requires
-    mul-from
-    add-end
+    invariant-loop-j
+    decreases-loop-j
+    neighbours_of-ahead-requires
+    weights_of-weighed-requires
+    overflow_mul-from
+    overflow_add-end
     loop-holds
-    mul_wide
-    shared-slice-read-wide
+    offset_bounds-ahead-j
+    bounds-ahead-j
     wide-requires
-    mul-a
-    add-e
-    mul-w
-    shared-slice-read-w
-    mul-best-of-row
-    sub-best-of-row
+    overflow_mul-a
+    overflow_add-e
+    offset_bounds-weighed-j
+    bounds-weighed-j
+    offset_bounds-ids-from
+    slice_bounds-best_of_row-count
     part-best-of-row-start
     part-best-of-row-end
-    mul-best-of-row-2
-    sub-best-of-row-2
+    offset_bounds-ids-a
+    slice_bounds-best_of_row-count-in-loop-j
     part-best-of-row-start-2
     part-best-of-row-end-2
-    mul-best-of-row-3
-    sub-best-of-row-3
+    offset_bounds-distances-a
+    slice_bounds-best_of_row-count-in-loop-j-2
     part-best-of-row-start-3
     part-best-of-row-end-3
-    best-of-row-requires
-    add-j
+    best_of_row-best-requires
+    overflow_add-j
     loop-less
     loop-again
     returns)

@@ -7,39 +7,39 @@ use borrow.Author.Rules.{rules}
 use Rattle.table.proofs.remove.better.Statement.{statement}
 use Rattle.table.proofs.remove.better.Tie as tie
 
-returns : tie.Need-returns
-returns c = let a = c.before.before.before.args in better_far (a.best.point, a.best.distance) c.if1.true
+returns-then-e-gt-LONGEST : tie.Need-returns-then-e-gt-LONGEST
+returns-then-e-gt-LONGEST c = let a = c.before.before.before.args in better_far (a.best.point, a.best.distance) c.if-e-gt-LONGEST.true
 
-add-d : tie.Need-overflow-add-d
-add-d c = omega (arith, c.if1.false, c.before.before.before.requires)
+overflow_add-d : tie.Need-overflow_add-d
+overflow_add-d c = omega (arith, c.if-e-gt-LONGEST.false, c.before.before.before.requires)
 
-key-of-requires : tie.Need-key-of-requires
-key-of-requires c κs = search rules
+key_of-key-requires : tie.Need-key_of-key-requires
+key_of-key-requires c κs = search rules
 
-key-of-requires-2 : tie.Need-key-of-requires-2
-key-of-requires-2 c κs = search rules
+key_of-least-requires : tie.Need-key_of-least-requires
+key_of-least-requires c κs = search rules
 
-returns-2 : tie.Need-returns-2
-returns-2 c = let a = c.before.before.before.before.before.before.args in better_worse (a.best.point, a.best.distance) (omega (arith, c.before.key-of2.ensures, c.before.before.key_of.ensures, c.if2.true))
+returns-then-least-key : tie.Need-returns-then-least-key
+returns-then-least-key c = let a = c.before.before.before.before.before.before.args in better_worse (a.best.point, a.best.distance) (omega (arith, c.before.key_of-least.ensures, c.before.before.key_of-key.ensures, c.if-least-key.true))
 
 lacks-requires : tie.Need-lacks-requires
 lacks-requires c κs = search rules
 
-returns-3 : tie.Need-returns-3
-returns-3 c = let a = c.before.before.before.before.before.before.before.before.args in better_new (a.best.point, a.best.distance) (omega (arith, c.before.before.before.before.before.if1.false)) (omega (arith, c.before.before.before.key-of2.ensures, c.before.before.before.before.key_of.ensures, c.before.before.if2.false)) (sym c.before.lacks.ensures ∙ c.if3.true)
+returns-then-lacks : tie.Need-returns-then-lacks
+returns-then-lacks c = let a = c.before.before.before.before.before.before.before.before.args in better_new (a.best.point, a.best.distance) (omega (arith, c.before.before.before.before.before.if-e-gt-LONGEST.false)) (omega (arith, c.before.before.before.key_of-least.ensures, c.before.before.before.before.key_of-key.ensures, c.before.before.if-least-key.false)) (sym c.before.lacks.ensures ∙ c.if-lacks.true)
 
-returns-4 : tie.Need-returns-4
-returns-4 c = let a = c.before.before.before.before.before.before.before.before.args in better_has (a.best.point, a.best.distance) (sym c.before.lacks.ensures ∙ c.if3.false)
+returns : tie.Need-returns
+returns c = let a = c.before.before.before.before.before.before.before.before.args in better_has (a.best.point, a.best.distance) (sym c.before.lacks.ensures ∙ c.if-lacks.false)
 
-pub better-spec : {M : Type 1} → statement M
-better-spec =
+pub better_spec : {M : Type 1} → statement M
+better_spec =
     tie.close
     (tie.spec
-    returns
-    add-d
-    key-of-requires
-    key-of-requires-2
-    returns-2
+    returns-then-e-gt-LONGEST
+    overflow_add-d
+    key_of-key-requires
+    key_of-least-requires
+    returns-then-least-key
     lacks-requires
-    returns-3
-    returns-4)
+    returns-then-lacks
+    returns)

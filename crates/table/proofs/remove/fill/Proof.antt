@@ -12,127 +12,127 @@ use borrow.Author.Rules.{rules}
 use Rattle.table.proofs.remove.fill.Statement.{statement}
 use Rattle.table.proofs.remove.fill.Tie as tie
 
-abbrev invariant-loop : tie.invariant-loop
-invariant-loop starts neighbours weights points s₀ len ids₀ distances₀ places n left₀ s ids distances left = Filling (network starts neighbours weights) points places s₀ ids₀ distances₀ len s ids distances left
+abbrev invariant-loop-left : tie.invariant-loop-left
+invariant-loop-left starts neighbours weights points s₀ len ids₀ distances₀ places n left₀ s ids distances left = Filling (network starts neighbours weights) points places s₀ ids₀ distances₀ len s ids distances left
 
-abbrev decreases-loop : tie.decreases-loop
-decreases-loop starts neighbours weights points s₀ len ids₀ distances₀ places n left₀ s ids distances left = fill_work (network starts neighbours weights) s left
+abbrev decreases-loop-left : tie.decreases-loop-left
+decreases-loop-left starts neighbours weights points s₀ len ids₀ distances₀ places n left₀ s ids distances left = fill_work (network starts neighbours weights) s left
 
-abbrev start : tie.After-wide invariant-loop decreases-loop → tie.Start invariant-loop decreases-loop
+abbrev start : tie.After-wide-i invariant-loop-left decreases-loop-left → tie.Start invariant-loop-left decreases-loop-left
 start c = c.before.before.before.before.before.before.before.before.before.before.before.before.before.before.before.before
 
-abbrev in-loop : tie.After-wide invariant-loop decreases-loop → tie.In-loop invariant-loop decreases-loop
+abbrev in-loop : tie.After-wide-i invariant-loop-left decreases-loop-left → tie.In-loop-left invariant-loop-left decreases-loop-left
 in-loop c = c.before.before.before.before.before.before.before
 
 -- the entry that left the queue: its node and its point are its tag's
-key-is : (c : tie.After-wide invariant-loop decreases-loop)
-    → key_of c.before.before.before.before.before.pop-at.result.distance c.before.before.before.before.before.pop-at.result.tag ≡ offer_of c.wide.result c.before.before.tag-node.result c.before.before.before.before.before.pop-at.result.distance
-key-is c = omega (arith, c.wide.ensures, c.before.tag-parent.ensures, c.before.before.tag-node.ensures)
+key-is : (c : tie.After-wide-i invariant-loop-left decreases-loop-left)
+    → key_of c.before.before.before.before.before.pop_at-entry.result.distance c.before.before.before.before.before.pop_at-entry.result.tag ≡ offer_of c.wide-i.result c.before.before.tag_node-p.result c.before.before.before.before.before.pop_at-entry.result.distance
+key-is c = omega (arith, c.wide-i.ensures, c.before.tag_parent.ensures, c.before.before.tag_node-p.ensures)
 
-low-node : (c : tie.After-wide invariant-loop decreases-loop) → c.wide.result < 65536
-low-node c = omega (arith, c.wide.ensures, c.before.tag-parent.ensures)
+low-node : (c : tie.After-wide-i invariant-loop-left decreases-loop-left) → c.wide-i.result < 65536
+low-node c = omega (arith, c.wide-i.ensures, c.before.tag_parent.ensures)
 
-fits : (c : tie.After-pop-at invariant-loop decreases-loop) → c.pop-at.result.tag < 4294967296
+fits : (c : tie.After-pop_at-entry invariant-loop-left decreases-loop-left) → c.pop_at-entry.result.tag < 4294967296
 fits c = omega arith
 
-low-point : (c : tie.After-wide invariant-loop decreases-loop) → c.before.before.tag-node.result < 65536
-low-point c = omega (arith, c.before.before.tag-node.ensures, fits c.before.before.before.before.before)
+low-point : (c : tie.After-wide-i invariant-loop-left decreases-loop-left) → c.before.before.tag_node-p.result < 65536
+low-point c = omega (arith, c.before.before.tag_node-p.ensures, fits c.before.before.before.before.before)
 
-sub-n : tie.Need-overflow-sub-n invariant-loop decreases-loop
-sub-n c = search rules
+overflow_sub-n : tie.Need-overflow_sub-n invariant-loop-left decreases-loop-left
+overflow_sub-n c = search rules
 
-loop-holds : tie.Need-loop-init invariant-loop decreases-loop
+loop-holds : tie.Need-loop-left-init invariant-loop-left decreases-loop-left
 loop-holds c = let s = c.before.before.before.before.before.before.before in filling_start s.args.points.now s.requires
 
-pop-at-requires : tie.Need-pop-at-requires invariant-loop decreases-loop
-pop-at-requires c κs = (c.before.before.loop.invariant.waiting.queue, c.before.loop-test.true)
+pop_at-entry-requires : tie.Need-pop_at-entry-requires invariant-loop-left decreases-loop-left
+pop_at-entry-requires c κs = (c.before.before.loop-left.invariant.waiting.queue, c.before.loop-left-test.true)
 
-sub-left : tie.Need-overflow-sub-left invariant-loop decreases-loop
-sub-left c = search rules
+overflow_sub-left : tie.Need-overflow_sub-left invariant-loop-left decreases-loop-left
+overflow_sub-left c = search rules
 
-tag-node-requires : tie.Need-tag-node-requires invariant-loop decreases-loop
-tag-node-requires c κs = search rules
+tag_node-p-requires : tie.Need-tag_node-p-requires invariant-loop-left decreases-loop-left
+tag_node-p-requires c κs = search rules
 
-tag-parent-requires : tie.Need-tag-parent-requires invariant-loop decreases-loop
-tag-parent-requires c κs = search rules
+tag_parent-requires : tie.Need-tag_parent-requires invariant-loop-left decreases-loop-left
+tag_parent-requires c κs = search rules
 
-wide-requires : tie.Need-wide-requires invariant-loop decreases-loop
-wide-requires c κs = search rules
+wide-i-requires : tie.Need-wide-i-requires invariant-loop-left decreases-loop-left
+wide-i-requires c κs = search rules
 
-take-in-requires : tie.Need-take-in-requires invariant-loop decreases-loop
-take-in-requires c κs =
+take_in-took-requires : tie.Need-take_in-took-requires invariant-loop-left decreases-loop-left
+take_in-took-requires c κs =
     let w = c.before.before.before in
     let p = w.before.before.before.before.before in
-    filling_can (start w).requires (in-loop w).before.loop.invariant w.wide.result w.before.before.tag-node.result p.pop-at.result.distance (key-is w) p.pop-at.ensures
-    (in-loop w).loop-test.true (low-node w) (low-point w)
+    filling_can (start w).requires (in-loop w).before.loop-left.invariant w.wide-i.result w.before.before.tag_node-p.result p.pop_at-entry.result.distance (key-is w) p.pop_at-entry.ensures
+    (in-loop w).loop-left-test.true (low-node w) (low-point w)
 
-offer-requires : tie.Need-offer-requires invariant-loop decreases-loop
-offer-requires c κs =
+offer-left-requires : tie.Need-offer-left-requires invariant-loop-left decreases-loop-left
+offer-left-requires c κs =
     let w = c.before.before.before.before.before.before.before.before.before.before.before.before in
     let p = w.before.before.before.before.before in
-    filling_offer (start w).requires (in-loop w).before.loop.invariant w.wide.result w.before.before.tag-node.result p.pop-at.result.distance (key-is w) p.pop-at.ensures
-    (in-loop w).loop-test.true (low-node w) (low-point w) c.before.before.before.before.before.before.before.before.take_in.ensures c.before.if1.true
+    filling_offer (start w).requires (in-loop w).before.loop-left.invariant w.wide-i.result w.before.before.tag_node-p.result p.pop_at-entry.result.distance (key-is w) p.pop_at-entry.ensures
+    (in-loop w).loop-left-test.true (low-node w) (low-point w) c.before.before.before.before.before.before.before.before.take_in-took.ensures c.before.if-took.true
 
-loop-less : tie.Need-loop-smaller invariant-loop decreases-loop
+loop-less : tie.Need-loop-left-smaller-then-took invariant-loop-left decreases-loop-left
 loop-less c =
     let w = c.before.before.before.before.before.before.before.before.before.before.before.before.before.before.before in
     let p = w.before.before.before.before.before in
-    taken_work (start w).requires (in-loop w).before.loop.invariant w.wide.result w.before.before.tag-node.result p.pop-at.result.distance (key-is w) p.pop-at.ensures
-    (in-loop w).loop-test.true (low-node w) (low-point w) c.before.before.before.before.before.before.before.before.before.before.before.take_in.ensures c.before.before.before.before.if1.true c.before.before.offer.ensures
+    taken_work (start w).requires (in-loop w).before.loop-left.invariant w.wide-i.result w.before.before.tag_node-p.result p.pop_at-entry.result.distance (key-is w) p.pop_at-entry.ensures
+    (in-loop w).loop-left-test.true (low-node w) (low-point w) c.before.before.before.before.before.before.before.before.before.before.before.take_in-took.ensures c.before.before.before.before.if-took.true c.before.before.offer-left.ensures
 
-loop-again : tie.Need-loop-preserved invariant-loop decreases-loop
+loop-again : tie.Need-loop-left-preserved-then-took invariant-loop-left decreases-loop-left
 loop-again c =
     let w = c.before.before.before.before.before.before.before.before.before.before.before.before.before.before.before in
     let p = w.before.before.before.before.before in
-    filling_taken (start w).requires (in-loop w).before.loop.invariant w.wide.result w.before.before.tag-node.result p.pop-at.result.distance (key-is w) p.pop-at.ensures
-    (in-loop w).loop-test.true (low-node w) (low-point w) c.before.before.before.before.before.before.before.before.before.before.before.take_in.ensures c.before.before.before.before.if1.true c.before.before.offer.ensures
+    filling_taken (start w).requires (in-loop w).before.loop-left.invariant w.wide-i.result w.before.before.tag_node-p.result p.pop_at-entry.result.distance (key-is w) p.pop_at-entry.ensures
+    (in-loop w).loop-left-test.true (low-node w) (low-point w) c.before.before.before.before.before.before.before.before.before.before.before.take_in-took.ensures c.before.before.before.before.if-took.true c.before.before.offer-left.ensures
 
-loop-less-2 : tie.Need-loop-smaller-2 invariant-loop decreases-loop
+loop-less-2 : tie.Need-loop-left-smaller invariant-loop-left decreases-loop-left
 loop-less-2 c =
     let w = c.before.before.before.before.before.before.before.before.before.before.before in
     let p = w.before.before.before.before.before in
-    skipped_falls (start w).requires (in-loop w).before.loop.invariant w.wide.result w.before.before.tag-node.result p.pop-at.result.distance (key-is w) p.pop-at.ensures
-    (in-loop w).loop-test.true (low-node w) (low-point w) c.before.before.before.before.before.before.before.take_in.ensures c.if1.false
+    skipped_falls (start w).requires (in-loop w).before.loop-left.invariant w.wide-i.result w.before.before.tag_node-p.result p.pop_at-entry.result.distance (key-is w) p.pop_at-entry.ensures
+    (in-loop w).loop-left-test.true (low-node w) (low-point w) c.before.before.before.before.before.before.before.take_in-took.ensures c.if-took.false
 
-loop-again-2 : tie.Need-loop-preserved-2 invariant-loop decreases-loop
+loop-again-2 : tie.Need-loop-left-preserved invariant-loop-left decreases-loop-left
 loop-again-2 c =
     let w = c.before.before.before.before.before.before.before.before.before.before.before in
     let p = w.before.before.before.before.before in
-    filling_skipped (start w).requires (in-loop w).before.loop.invariant w.wide.result w.before.before.tag-node.result p.pop-at.result.distance (key-is w) p.pop-at.ensures
-    (in-loop w).loop-test.true (low-node w) (low-point w) c.before.before.before.before.before.before.before.take_in.ensures c.if1.false
+    filling_skipped (start w).requires (in-loop w).before.loop-left.invariant w.wide-i.result w.before.before.tag_node-p.result p.pop_at-entry.result.distance (key-is w) p.pop_at-entry.ensures
+    (in-loop w).loop-left-test.true (low-node w) (low-point w) c.before.before.before.before.before.before.before.take_in-took.ensures c.if-took.false
 
-same_length : tie.Need-same-length invariant-loop decreases-loop
-same_length c = c.before.loop.invariant.size
+shape_of-s : tie.Need-shape_of-s invariant-loop-left decreases-loop-left
+shape_of-s c = c.before.loop-left.invariant.size
 
-same-length-2 : tie.Need-same-length-2 invariant-loop decreases-loop
-same-length-2 c = c.before.loop.invariant.sized.all_ids ∙ sym c.before.before.before.before.before.before.before.before.before.requires.sized.all_ids
+shape_of-ids : tie.Need-shape_of-ids invariant-loop-left decreases-loop-left
+shape_of-ids c = c.before.loop-left.invariant.sized.all_ids ∙ sym c.before.before.before.before.before.before.before.before.before.requires.sized.all_ids
 
-same-length-3 : tie.Need-same-length-3 invariant-loop decreases-loop
-same-length-3 c = c.before.loop.invariant.sized.all_dists ∙ sym c.before.before.before.before.before.before.before.before.before.requires.sized.all_dists
+shape_of-distances : tie.Need-shape_of-distances invariant-loop-left decreases-loop-left
+shape_of-distances c = c.before.loop-left.invariant.sized.all_dists ∙ sym c.before.before.before.before.before.before.before.before.before.requires.sized.all_dists
 
-returns : tie.Need-returns invariant-loop decreases-loop
-returns c = filling_end c.before.before.before.before.before.before.before.before.before.requires c.before.loop.invariant (omega (arith, c.loop-test.false))
+returns : tie.Need-returns invariant-loop-left decreases-loop-left
+returns c = filling_end c.before.before.before.before.before.before.before.before.before.requires c.before.loop-left.invariant (omega (arith, c.loop-left-test.false))
 
 pub fill_spec : {M : Type 1} → statement M
 fill_spec =
     tie.close
     (tie.spec
-    invariant-loop
-    decreases-loop
-    sub-n
+    invariant-loop-left
+    decreases-loop-left
+    overflow_sub-n
     loop-holds
-    pop-at-requires
-    sub-left
-    tag-node-requires
-    tag-parent-requires
-    wide-requires
-    take-in-requires
-    offer-requires
+    pop_at-entry-requires
+    overflow_sub-left
+    tag_node-p-requires
+    tag_parent-requires
+    wide-i-requires
+    take_in-took-requires
+    offer-left-requires
     loop-less
     loop-again
     loop-less-2
     loop-again-2
-    same_length
-    same-length-2
-    same-length-3
+    shape_of-s
+    shape_of-ids
+    shape_of-distances
     returns)

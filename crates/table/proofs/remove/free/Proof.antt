@@ -11,80 +11,80 @@ use borrow.Author.Rules.{rules}
 use Rattle.table.proofs.remove.free.Statement.{statement}
 use Rattle.table.proofs.remove.free.Tie as tie
 
-abbrev invariant-loop : tie.invariant-loop
-invariant-loop s₀ ids₀ distances₀ n places x all changed₀ i₀ s ids distances changed i = (i ≤ n) × Freed s₀ s ids₀ distances₀ ids distances places x all i changed
+abbrev invariant-loop-i : tie.invariant-loop-i
+invariant-loop-i s₀ ids₀ distances₀ n places x all changed₀ i₀ s ids distances changed i = (i ≤ n) × Freed s₀ s ids₀ distances₀ ids distances places x all i changed
 
-abbrev decreases-loop : tie.decreases-loop
-decreases-loop s₀ ids₀ distances₀ n places x all changed₀ i₀ s ids distances changed i = n - i
+abbrev decreases-loop-i : tie.decreases-loop-i
+decreases-loop-i s₀ ids₀ distances₀ n places x all changed₀ i₀ s ids distances changed i = n - i
 
-loop-holds : tie.Need-loop-init invariant-loop decreases-loop
-loop-holds c = let a = c.before.before.before.args in (omega arith, freed_none a.s.now a.ids.now a.distances.now a.places a.x a.all)
+loop-holds : tie.Need-loop-i-init invariant-loop-i decreases-loop-i
+loop-holds c = let a = c.before.before.before.args in (omega arith, freed_none a.s.now a.ids-1.now a.distances-1.now a.places a.x a.all)
 
-take-out-of-row-requires : tie.Need-take-out-of-row-requires invariant-loop decreases-loop
-take-out-of-row-requires c κs =
-    let l = c.before.before.before.loop in
+take_out_of_row-was-requires : tie.Need-take_out_of_row-was-requires invariant-loop-i decreases-loop-i
+take_out_of_row-was-requires c κs =
+    let l = c.before.before.before.loop-i in
     let s = c.before.before.before.before.before.before.before in
     let f = l.invariant.1 in
-    let h = row_fits l.i s.args.n s.args.places (omega (arith, c.before.before.loop-test.true)) in
+    let h = row_fits l.i s.args.n s.args.places (omega (arith, c.before.before.loop-i-test.true)) in
     record { fits = omega (arith, h, s.requires.fits, f.ids_size); same = f.dists_size ∙ s.requires.same ∙ sym f.ids_size }
 
-mul-s : tie.Need-overflow-mul-s invariant-loop decreases-loop
-mul-s c = omega (arith, c.before.before.before.before.before.before.before.before.before.loop.invariant.1.size, c.before.before.before.before.before.before.before.before.before.before.before.before.before.requires.flags, c.before.before.before.before.before.before.before.before.loop-test.true)
+offset_bounds-s-i : tie.Need-offset_bounds-s-i invariant-loop-i decreases-loop-i
+offset_bounds-s-i c = omega (arith, c.before.before.before.before.before.before.before.before.before.loop-i.invariant.1.size, c.before.before.before.before.before.before.before.before.before.before.before.before.before.requires.flags, c.before.before.before.before.before.before.before.before.loop-i-test.true)
 
-slice-write-s : tie.Need-slice-write-s invariant-loop decreases-loop
-slice-write-s c = omega (arith, c.before.before.before.before.before.before.before.before.before.loop.invariant.1.size, c.before.before.before.before.before.before.before.before.before.before.before.before.before.requires.flags, c.before.before.before.before.before.before.before.before.loop-test.true)
+bounds-s-i : tie.Need-bounds-s-i invariant-loop-i decreases-loop-i
+bounds-s-i c = omega (arith, c.before.before.before.before.before.before.before.before.before.loop-i.invariant.1.size, c.before.before.before.before.before.before.before.before.before.before.before.before.before.requires.flags, c.before.before.before.before.before.before.before.before.loop-i-test.true)
 
-add-changed : tie.Need-overflow-add-changed invariant-loop decreases-loop
-add-changed c = omega (arith, freed_few c.before.before.before.before.before.before.before.before.before.loop.invariant.1, c.before.before.before.before.before.before.before.before.before.before.before.before.before.requires.few, c.before.before.before.before.before.before.before.before.loop-test.true)
+overflow_add-changed : tie.Need-overflow_add-changed invariant-loop-i decreases-loop-i
+overflow_add-changed c = omega (arith, freed_few c.before.before.before.before.before.before.before.before.before.loop-i.invariant.1, c.before.before.before.before.before.before.before.before.before.before.before.before.before.requires.few, c.before.before.before.before.before.before.before.before.loop-i-test.true)
 
-add-i : tie.Need-overflow-add-i invariant-loop decreases-loop
-add-i c = search rules
+overflow_add-i : tie.Need-overflow_add-i invariant-loop-i decreases-loop-i
+overflow_add-i c = search rules
 
-loop-less : tie.Need-loop-smaller invariant-loop decreases-loop
+loop-less : tie.Need-loop-i-smaller invariant-loop-i decreases-loop-i
 loop-less c = search rules
 
-loop-again : tie.Need-loop-preserved invariant-loop decreases-loop
+loop-again : tie.Need-loop-i-preserved invariant-loop-i decreases-loop-i
 loop-again c =
     let l = c.before.before.before.before.before.before.before.before.before in
-    let f = l.loop.invariant.1 in
-    let t = c.before.before.before.before.before.take-out-of-row.ensures in (
-      omega (arith, c.before.before.before.before.before.before.before.before.loop-test.true),
+    let f = l.loop-i.invariant.1 in
+    let t = c.before.before.before.before.before.take_out_of_row-was.ensures in (
+      omega (arith, c.before.before.before.before.before.before.before.before.loop-i-test.true),
       ⊎_elim
-          (λ a. rw (a.1, a.2) (freed_had f t a.0.taken (omega (arith, f.size, c.before.before.before.before.before.before.before.before.before.before.before.before.before.requires.flags, c.before.before.before.before.before.before.before.before.loop-test.true))))
+          (λ a. rw (a.1, a.2) (freed_had f t a.0.taken (omega (arith, f.size, c.before.before.before.before.before.before.before.before.before.before.before.before.before.requires.flags, c.before.before.before.before.before.before.before.before.loop-i-test.true))))
           (λ a. rw (a.1, a.2) (freed_not f t a.0.left))
-          c.if1.branch,
+          c.if-was.branch,
     )
 
-same_length : tie.Need-same-length invariant-loop decreases-loop
-same_length c = c.before.loop.invariant.1.size
+shape_of-s : tie.Need-shape_of-s invariant-loop-i decreases-loop-i
+shape_of-s c = c.before.loop-i.invariant.1.size
 
-same-length-2 : tie.Need-same-length-2 invariant-loop decreases-loop
-same-length-2 c = c.before.loop.invariant.1.ids_size
+shape_of-ids : tie.Need-shape_of-ids invariant-loop-i decreases-loop-i
+shape_of-ids c = c.before.loop-i.invariant.1.ids_size
 
-same-length-3 : tie.Need-same-length-3 invariant-loop decreases-loop
-same-length-3 c = c.before.loop.invariant.1.dists_size
+shape_of-distances : tie.Need-shape_of-distances invariant-loop-i decreases-loop-i
+shape_of-distances c = c.before.loop-i.invariant.1.dists_size
 
-returns : tie.Need-returns invariant-loop decreases-loop
+returns : tie.Need-returns invariant-loop-i decreases-loop-i
 returns c =
-    let l = c.before.loop in
-    let e : l.i ≡ c.before.before.before.before.before.args.n = omega (arith, l.invariant.0, c.loop-test.false) in
+    let l = c.before.loop-i in
+    let e : l.i ≡ c.before.before.before.before.before.args.n = omega (arith, l.invariant.0, c.loop-i-test.false) in
     rw e at l.invariant.1
 
 pub free_spec : {M : Type 1} → statement M
 free_spec =
     tie.close
     (tie.spec
-    invariant-loop
-    decreases-loop
+    invariant-loop-i
+    decreases-loop-i
     loop-holds
-    take-out-of-row-requires
-    mul-s
-    slice-write-s
-    add-changed
-    add-i
+    take_out_of_row-was-requires
+    offset_bounds-s-i
+    bounds-s-i
+    overflow_add-changed
+    overflow_add-i
     loop-less
     loop-again
-    same_length
-    same-length-2
-    same-length-3
+    shape_of-s
+    shape_of-ids
+    shape_of-distances
     returns)

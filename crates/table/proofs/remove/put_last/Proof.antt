@@ -11,52 +11,52 @@ use Rattle.table.proofs.remove.put_last.Tie as tie
 lacks-requires : tie.Need-lacks-requires
 lacks-requires c κs = search rules
 
-sub-ids : tie.Need-overflow-sub-ids
-sub-ids c = omega (arith, c.before.before.before.before.before.before.requires.1)
+overflow_sub-ids : tie.Need-overflow_sub-ids
+overflow_sub-ids c = omega (arith, c.before.before.before.before.before.before.requires.1)
 
-mul-ids : tie.Need-overflow-mul-ids
-mul-ids c = omega (arith, c.before.before.before.before.before.before.requires.1)
+offset_bounds-ids-size : tie.Need-offset_bounds-ids-size
+offset_bounds-ids-size c = omega (arith, c.before.before.before.before.before.before.requires.1)
 
-slice-write-ids : tie.Need-slice-write-ids
-slice-write-ids c = omega (arith, c.before.before.before.before.before.before.requires.1)
+bounds-ids-size : tie.Need-bounds-ids-size
+bounds-ids-size c = omega (arith, c.before.before.before.before.before.before.requires.1)
 
-sub-distances : tie.Need-overflow-sub-distances
-sub-distances c = omega (arith, c.before.before.before.before.before.before.requires.1)
+overflow_sub-distances : tie.Need-overflow_sub-distances
+overflow_sub-distances c = omega (arith, c.before.before.before.before.before.before.requires.1)
 
-mul-distances : tie.Need-overflow-mul-distances
-mul-distances c = omega (arith, c.before.before.before.before.before.before.requires.0, c.before.before.before.before.before.before.requires.1)
+offset_bounds-distances-size : tie.Need-offset_bounds-distances-size
+offset_bounds-distances-size c = omega (arith, c.before.before.before.before.before.before.requires.0, c.before.before.before.before.before.before.requires.1)
 
-slice-write-distances : tie.Need-slice-write-distances
-slice-write-distances c = omega (arith, c.before.before.before.before.before.before.requires.0, c.before.before.before.before.before.before.requires.1)
+bounds-distances-size : tie.Need-bounds-distances-size
+bounds-distances-size c = omega (arith, c.before.before.before.before.before.before.requires.0, c.before.before.before.before.before.before.requires.1)
 
-same_length : tie.Need-same-length
-same_length c = search rules
+shape_of-ids-then-lacks : tie.Need-shape_of-ids-then-lacks
+shape_of-ids-then-lacks c = search rules
 
-same-length-2 : tie.Need-same-length-2
-same-length-2 c = search rules
+shape_of-distances-then-lacks : tie.Need-shape_of-distances-then-lacks
+shape_of-distances-then-lacks c = search rules
+
+returns-then-lacks : tie.Need-returns-then-lacks
+returns-then-lacks c = record { taken = λ e. (ltb-true _ _ (sym c.before.lacks.ensures ∙ c.if-lacks.true), refl, refl); refused = λ e. absurd (true≢false e) }
+
+shape_of-ids : tie.Need-shape_of-ids
+shape_of-ids c = search rules
 
 returns : tie.Need-returns
-returns c = record { taken = λ e. (ltb-true _ _ (sym c.before.lacks.ensures ∙ c.if1.true), refl, refl); refused = λ e. absurd (true≢false e) }
+returns c = record { taken = λ e. absurd (false≢true e); refused = λ e. (ltb-false _ _ (sym c.before.lacks.ensures ∙ c.if-lacks.false), refl, refl) }
 
-same-length-3 : tie.Need-same-length-3
-same-length-3 c = search rules
-
-returns-2 : tie.Need-returns-2
-returns-2 c = record { taken = λ e. absurd (false≢true e); refused = λ e. (ltb-false _ _ (sym c.before.lacks.ensures ∙ c.if1.false), refl, refl) }
-
-pub put-last-spec : {M : Type 1} → statement M
-put-last-spec =
+pub put_last_spec : {M : Type 1} → statement M
+put_last_spec =
     tie.close
     (tie.spec
     lacks-requires
-    sub-ids
-    mul-ids
-    slice-write-ids
-    sub-distances
-    mul-distances
-    slice-write-distances
-    same_length
-    same-length-2
-    returns
-    same-length-3
-    returns-2)
+    overflow_sub-ids
+    offset_bounds-ids-size
+    bounds-ids-size
+    overflow_sub-distances
+    offset_bounds-distances-size
+    bounds-distances-size
+    shape_of-ids-then-lacks
+    shape_of-distances-then-lacks
+    returns-then-lacks
+    shape_of-ids
+    returns)

@@ -13,107 +13,107 @@ use borrow.Author.Rules.{rules}
 use Rattle.table.proofs.remove.seed.Statement.{statement}
 use Rattle.table.proofs.remove.seed.Tie as tie
 
-abbrev invariant-loop : tie.invariant-loop
-invariant-loop starts neighbours weights points s₀ ids distances places n len₀ next₀ s len next = (next ≤ n) × ShortSeeded (network starts neighbours weights) points s₀ s ids distances places next len
+abbrev invariant-loop-next : tie.invariant-loop-next
+invariant-loop-next starts neighbours weights points s₀ ids distances places n len₀ next₀ s len next = (next ≤ n) × ShortSeeded (network starts neighbours weights) points s₀ s ids distances places next len
 
-abbrev decreases-loop : tie.decreases-loop
-decreases-loop starts neighbours weights points s₀ ids distances places n len₀ next₀ s len next = n - next
+abbrev decreases-loop-next : tie.decreases-loop-next
+decreases-loop-next starts neighbours weights points s₀ ids distances places n len₀ next₀ s len next = n - next
 
-sub-n : tie.Need-overflow-sub-n invariant-loop decreases-loop
-sub-n c = search rules
+overflow_sub-n : tie.Need-overflow_sub-n invariant-loop-next decreases-loop-next
+overflow_sub-n c = search rules
 
-loop-holds : tie.Need-loop-init invariant-loop decreases-loop
+loop-holds : tie.Need-loop-next-init invariant-loop-next decreases-loop-next
 loop-holds c = (omega arith, seeded_none c.before.before.before.before.before.before.before.requires.queue)
 
-cast-node : tie.Need-overflow-cast-node invariant-loop decreases-loop
-cast-node c = omega (arith, c.loop-test.true, c.before.before.before.before.before.before.before.before.before.requires.accepted.few)
+overflow_cast-node : tie.Need-overflow_cast-node invariant-loop-next decreases-loop-next
+overflow_cast-node c = omega (arith, c.loop-next-test.true, c.before.before.before.before.before.before.before.before.before.requires.accepted.few)
 
-mul-flag : tie.Need-overflow-mul-flag invariant-loop decreases-loop
-mul-flag c = omega (arith, c.loop-test.true, c.before.loop.invariant.1.frame.size, c.before.before.before.before.before.before.before.before.before.requires.room)
+offset_bounds-s-at : tie.Need-offset_bounds-s-at invariant-loop-next decreases-loop-next
+offset_bounds-s-at c = omega (arith, c.loop-next-test.true, c.before.loop-next.invariant.1.frame.size, c.before.before.before.before.before.before.before.before.before.requires.room)
 
-slice-read-flag : tie.Need-slice-read-flag invariant-loop decreases-loop
-slice-read-flag c = omega (arith, c.before.loop-test.true, c.before.before.loop.invariant.1.frame.size, c.before.before.before.before.before.before.before.before.before.before.requires.room)
+bounds-s-at : tie.Need-bounds-s-at invariant-loop-next decreases-loop-next
+bounds-s-at c = omega (arith, c.before.loop-next-test.true, c.before.before.loop-next.invariant.1.frame.size, c.before.before.before.before.before.before.before.before.before.before.requires.room)
 
-add-next : tie.Need-overflow-add-next invariant-loop decreases-loop
-add-next c = search rules
+overflow_add-next : tie.Need-overflow_add-next invariant-loop-next decreases-loop-next
+overflow_add-next c = search rules
 
-loop-less : tie.Need-loop-smaller invariant-loop decreases-loop
+loop-less : tie.Need-loop-next-smaller-then-flag-ne1 invariant-loop-next decreases-loop-next
 loop-less c = search rules
 
-loop-again : tie.Need-loop-preserved invariant-loop decreases-loop
+loop-again : tie.Need-loop-next-preserved-then-flag-ne1 invariant-loop-next decreases-loop-next
 loop-again c =
-    let l = c.before.before.before.loop in
-    let h = c.before.before.loop-test.true in
+    let l = c.before.before.before.loop-next in
+    let h = c.before.before.loop-next-test.true in
     let s = c.before.before.before.before.before.before.before.before.before.before.before in
-    (omega (arith, h), seeded_whole l.invariant.1 (ne_eqb (get_or s.args.s.now l.next 0) 1 (λ e. c.if1.true (l.invariant.1.frame.words l.next h ∙ e))))
+    (omega (arith, h), seeded_whole l.invariant.1 (ne_eqb (get_or s.args.s.now l.next 0) 1 (λ e. c.if-flag-ne1.true (l.invariant.1.frame.words l.next h ∙ e))))
 
-best-candidate-requires : tie.Need-best-candidate-requires invariant-loop decreases-loop
-best-candidate-requires c κs = let s = c.before.before.before.before.before.before.before.before.before.before.before in record { accepted = s.requires.accepted; inside = c.before.before.loop-test.true; sized = s.requires.sized }
+best_candidate-best-requires : tie.Need-best_candidate-best-requires invariant-loop-next decreases-loop-next
+best_candidate-best-requires c κs = let s = c.before.before.before.before.before.before.before.before.before.before.before in record { accepted = s.requires.accepted; inside = c.before.before.loop-next-test.true; sized = s.requires.sized }
 
-loop-less-2 : tie.Need-loop-smaller-2 invariant-loop decreases-loop
+loop-less-2 : tie.Need-loop-next-smaller-then-distance invariant-loop-next decreases-loop-next
 loop-less-2 c = search rules
 
-loop-again-2 : tie.Need-loop-preserved-2 invariant-loop decreases-loop
-loop-again-2 c = (omega (arith, c.before.before.before.before.loop-test.true), seeded_nothing c.before.before.before.before.before.loop.invariant.1 c.before.best-candidate.ensures c.if2.true)
+loop-again-2 : tie.Need-loop-next-preserved-then-distance invariant-loop-next decreases-loop-next
+loop-again-2 c = (omega (arith, c.before.before.before.before.loop-next-test.true), seeded_nothing c.before.before.before.before.before.loop-next.invariant.1 c.before.best_candidate-best.ensures c.if-distance.true)
 
-tag-of-requires : tie.Need-tag-of-requires invariant-loop decreases-loop
-tag-of-requires c κs =
+tag_of-tag-requires : tie.Need-tag_of-tag-requires invariant-loop-next decreases-loop-next
+tag_of-tag-requires c κs =
     let s = c.before.before.before.before.before.before.before.before.before.before.before.before.before in
     let f = s.requires.accepted.few in
-    (omega (arith, best_point s.requires.points c.before.best-candidate.ensures c.if2.false), omega (arith, c.before.before.before.before.loop-test.true))
+    (omega (arith, best_point s.requires.points c.before.best_candidate-best.ensures c.if-distance.false), omega (arith, c.before.before.before.before.loop-next-test.true))
 
-push-at-requires : tie.Need-push-at-requires invariant-loop decreases-loop
-push-at-requires c κs =
-    let f = c.before.before.before.before.before.before.before.loop.invariant.1 in
-    (f.queue, omega (arith, f.frame.size, f.few, c.before.before.before.before.before.before.loop-test.true, c.before.before.before.before.before.before.before.before.before.before.before.before.before.before.before.requires.room))
+push_at-requires : tie.Need-push_at-requires invariant-loop-next decreases-loop-next
+push_at-requires c κs =
+    let f = c.before.before.before.before.before.before.before.loop-next.invariant.1 in
+    (f.queue, omega (arith, f.frame.size, f.few, c.before.before.before.before.before.before.loop-next-test.true, c.before.before.before.before.before.before.before.before.before.before.before.before.before.before.before.requires.room))
 
-add-len : tie.Need-overflow-add-len invariant-loop decreases-loop
-add-len c = omega (arith, c.before.before.before.before.before.before.before.before.before.before.loop.invariant.1.few, c.before.before.before.before.before.before.before.before.before.loop-test.true, c.before.before.before.before.before.before.before.before.before.before.before.before.before.before.before.before.before.before.requires.accepted.few)
+overflow_add-len : tie.Need-overflow_add-len invariant-loop-next decreases-loop-next
+overflow_add-len c = omega (arith, c.before.before.before.before.before.before.before.before.before.before.loop-next.invariant.1.few, c.before.before.before.before.before.before.before.before.before.loop-next-test.true, c.before.before.before.before.before.before.before.before.before.before.before.before.before.before.before.before.before.before.requires.accepted.few)
 
-loop-less-3 : tie.Need-loop-smaller-3 invariant-loop decreases-loop
+loop-less-3 : tie.Need-loop-next-smaller invariant-loop-next decreases-loop-next
 loop-less-3 c = search rules
 
-loop-again-3 : tie.Need-loop-preserved-3 invariant-loop decreases-loop
+loop-again-3 : tie.Need-loop-next-preserved invariant-loop-next decreases-loop-next
 loop-again-3 c =
-    let l = c.before.before.before.before.before.before.before.before.before.before.loop in
-    let h = c.before.before.before.before.before.before.before.before.before.loop-test.true in
+    let l = c.before.before.before.before.before.before.before.before.before.before.loop-next in
+    let h = c.before.before.before.before.before.before.before.before.before.loop-next-test.true in
     let s = c.before.before.before.before.before.before.before.before.before.before.before.before.before.before.before.before.before.before in (
       omega (arith, h),
-      seeded_push l.invariant.1 (eq-eqb (get_or s.args.s.now l.next 0) 1 (sym (l.invariant.1.frame.words l.next h) ∙ c.before.before.before.before.before.before.before.if1.false)) c.before.before.before.before.before.before.best-candidate.ensures
-          c.before.before.before.before.before.if2.false (rw c.before.before.before.before.tag_of.ensures at c.before.before.push_at.ensures),
+      seeded_push l.invariant.1 (eq-eqb (get_or s.args.s.now l.next 0) 1 (sym (l.invariant.1.frame.words l.next h) ∙ c.before.before.before.before.before.before.before.if-flag-ne1.false)) c.before.before.before.before.before.before.best_candidate-best.ensures
+          c.before.before.before.before.before.if-distance.false (rw c.before.before.before.before.tag_of-tag.ensures at c.before.before.push_at.ensures),
     )
 
-same_length : tie.Need-same-length invariant-loop decreases-loop
-same_length c = c.before.loop.invariant.1.frame.size
+shape_of-s : tie.Need-shape_of-s invariant-loop-next decreases-loop-next
+shape_of-s c = c.before.loop-next.invariant.1.frame.size
 
-returns : tie.Need-returns invariant-loop decreases-loop
+returns : tie.Need-returns invariant-loop-next decreases-loop-next
 returns c =
-    let l = c.before.loop in
+    let l = c.before.loop-next in
     let s = c.before.before.before.before.before.before.before.before.before in
-    let e : l.next ≡ length s.args.starts.now - 1 = omega (arith, l.invariant.0, c.loop-test.false) in
+    let e : l.next ≡ length s.args.starts.now - 1 = omega (arith, l.invariant.0, c.loop-next-test.false) in
     rw e at l.invariant.1
 
-pub seed-spec : {M : Type 1} → statement M
-seed-spec =
+pub seed_spec : {M : Type 1} → statement M
+seed_spec =
     tie.close
     (tie.spec
-    invariant-loop
-    decreases-loop
-    sub-n
+    invariant-loop-next
+    decreases-loop-next
+    overflow_sub-n
     loop-holds
-    cast-node
-    mul-flag
-    slice-read-flag
-    add-next
+    overflow_cast-node
+    offset_bounds-s-at
+    bounds-s-at
+    overflow_add-next
     loop-less
     loop-again
-    best-candidate-requires
+    best_candidate-best-requires
     loop-less-2
     loop-again-2
-    tag-of-requires
-    push-at-requires
-    add-len
+    tag_of-tag-requires
+    push_at-requires
+    overflow_add-len
     loop-less-3
     loop-again-3
-    same_length
+    shape_of-s
     returns)

@@ -10,103 +10,103 @@ use borrow.Author.Rules.{rules}
 use Rattle.table.proofs.remove.take_in.Statement.{statement}
 use Rattle.table.proofs.remove.take_in.Tie as tie
 
-mul-flag : tie.Need-overflow-mul-flag
-mul-flag c = omega (arith, c.before.before.before.before.requires.flag)
+offset_bounds-s-i : tie.Need-offset_bounds-s-i
+offset_bounds-s-i c = omega (arith, c.before.before.before.before.requires.flag)
 
-slice-read-flag : tie.Need-slice-read-flag
-slice-read-flag c = omega (arith, c.before.before.before.before.before.requires.flag)
+bounds-s-i : tie.Need-bounds-s-i
+bounds-s-i c = omega (arith, c.before.before.before.before.before.requires.flag)
 
-returns : tie.Need-returns
-returns c = let s = c.before.before.before.before.before.before in not_taken s.args.points.now s.requires (inl (ne_eqb (get_or s.args.s.now s.args.i 0) 1 c.if1.true))
+returns-then-flag-ne1 : tie.Need-returns-then-flag-ne1
+returns-then-flag-ne1 c = let s = c.before.before.before.before.before.before in not_taken s.args.points.now s.requires (inl (ne_eqb (get_or s.args.s.now s.args.i 0) 1 c.if-flag-ne1.true))
 
-returns-2 : tie.Need-returns-2
-returns-2 c = let s = c.before.before.before.before.before.before.before in not_taken s.args.points.now s.requires (inr (inl c.if2.true))
+returns-then-d-gt-LONGEST : tie.Need-returns-then-d-gt-LONGEST
+returns-then-d-gt-LONGEST c = let s = c.before.before.before.before.before.before.before in not_taken s.args.points.now s.requires (inr (inl c.if-d-gt-LONGEST.true))
 
-mul-a : tie.Need-overflow-mul-a
-mul-a c = omega (arith, c.before.before.before.before.before.before.before.requires.fits)
+overflow_mul-a : tie.Need-overflow_mul-a
+overflow_mul-a c = omega (arith, c.before.before.before.before.before.before.before.requires.fits)
 
-add-e : tie.Need-overflow-add-e
-add-e c = omega (arith, c.before.before.before.before.before.before.before.requires.fits)
+overflow_add-e : tie.Need-overflow_add-e
+overflow_add-e c = omega (arith, c.before.before.before.before.before.before.before.requires.fits)
 
-mul-put-last : tie.Need-overflow-mul-put-last
-mul-put-last c = omega (arith, c.before.before.before.before.before.before.before.requires.fits)
+offset_bounds-ids-a : tie.Need-offset_bounds-ids-a
+offset_bounds-ids-a c = omega (arith, c.before.before.before.before.before.before.before.requires.fits)
 
-sub-put-last : tie.Need-overflow-sub-put-last
-sub-put-last c = omega (arith, c.before.before.before.before.before.before.before.requires.fits)
+slice_bounds-put_last-count : tie.Need-slice_bounds-put_last-count
+slice_bounds-put_last-count c = omega (arith, c.before.before.before.before.before.before.before.requires.fits)
 
-part-put-last-start : tie.Need-slice-bounds-put-last-start
+part-put-last-start : tie.Need-slice_bounds-put_last-start
 part-put-last-start c = omega (arith, c.before.before.before.before.before.before.before.requires.fits)
 
-part-put-last-end : tie.Need-slice-bounds-put-last-end
+part-put-last-end : tie.Need-slice_bounds-put_last-end
 part-put-last-end c = omega (arith, c.before.before.before.before.before.before.before.requires.fits)
 
-mul-put-last-2 : tie.Need-overflow-mul-put-last-2
-mul-put-last-2 c = omega (arith, c.before.before.before.before.before.before.before.before.requires.fits, c.before.before.before.before.before.before.before.before.requires.same)
+offset_bounds-distances-a : tie.Need-offset_bounds-distances-a
+offset_bounds-distances-a c = omega (arith, c.before.before.before.before.before.before.before.before.requires.fits, c.before.before.before.before.before.before.before.before.requires.same)
 
-sub-put-last-2 : tie.Need-overflow-sub-put-last-2
-sub-put-last-2 c = omega (arith, c.before.before.before.before.before.before.before.before.requires.fits, c.before.before.before.before.before.before.before.before.requires.same)
+slice_bounds-put_last-count-2 : tie.Need-slice_bounds-put_last-count-2
+slice_bounds-put_last-count-2 c = omega (arith, c.before.before.before.before.before.before.before.before.requires.fits, c.before.before.before.before.before.before.before.before.requires.same)
 
-part-put-last-start-2 : tie.Need-slice-bounds-put-last-start-2
+part-put-last-start-2 : tie.Need-slice_bounds-put_last-start-2
 part-put-last-start-2 c = omega (arith, c.before.before.before.before.before.before.before.before.requires.fits, c.before.before.before.before.before.before.before.before.requires.same)
 
-part-put-last-end-2 : tie.Need-slice-bounds-put-last-end-2
+part-put-last-end-2 : tie.Need-slice_bounds-put_last-end-2
 part-put-last-end-2 c = omega (arith, c.before.before.before.before.before.before.before.before.requires.fits, c.before.before.before.before.before.before.before.before.requires.same)
 
-put-last-requires : tie.Need-put-last-requires
-put-last-requires c κs = put_last_can [] c.before.before.before.before.before.before.before.before.before.requires
+put_last-took-requires : tie.Need-put_last-took-requires
+put_last-took-requires c κs = put_last_can [] c.before.before.before.before.before.before.before.before.before.requires
 
-mul-s : tie.Need-overflow-mul-s
-mul-s c = omega (arith, c.before.before.before.before.before.before.before.before.before.before.before.before.before.before.before.requires.flag)
+offset_bounds-s-i-then-took : tie.Need-offset_bounds-s-i-then-took
+offset_bounds-s-i-then-took c = omega (arith, c.before.before.before.before.before.before.before.before.before.before.before.before.before.before.before.requires.flag)
 
-slice-write-s : tie.Need-slice-write-s
-slice-write-s c = omega (arith, c.before.before.before.before.before.before.before.before.before.before.before.before.before.before.before.requires.flag)
+bounds-s-i-then-took : tie.Need-bounds-s-i-then-took
+bounds-s-i-then-took c = omega (arith, c.before.before.before.before.before.before.before.before.before.before.before.before.before.before.before.requires.flag)
 
-same_length : tie.Need-same-length
-same_length c = search rules
+shape_of-s-then-took : tie.Need-shape_of-s-then-took
+shape_of-s-then-took c = search rules
 
-same-length-2 : tie.Need-same-length-2
-same-length-2 c = search rules
+shape_of-ids-then-took : tie.Need-shape_of-ids-then-took
+shape_of-ids-then-took c = search rules
 
-same-length-3 : tie.Need-same-length-3
-same-length-3 c = search rules
+shape_of-distances-then-took : tie.Need-shape_of-distances-then-took
+shape_of-distances-then-took c = search rules
 
-returns-3 : tie.Need-returns-3
-returns-3 c = took_in c.before.before.before.before.before.before.before.before.before.before.before.before.before.before.before.args.points.now c.before.before.before.before.before.before.before.before.before.before.before.before.before.before.before.requires c.before.before.before.before.before.put_last.ensures c.if3.true c.before.before.before.before.before.before.before.before.before.if1.false (omega (arith, c.before.before.before.before.before.before.before.before.if2.false))
+returns-then-took : tie.Need-returns-then-took
+returns-then-took c = took_in c.before.before.before.before.before.before.before.before.before.before.before.before.before.before.before.args.points.now c.before.before.before.before.before.before.before.before.before.before.before.before.before.before.before.requires c.before.before.before.before.before.put_last-took.ensures c.if-took.true c.before.before.before.before.before.before.before.before.before.if-flag-ne1.false (omega (arith, c.before.before.before.before.before.before.before.before.if-d-gt-LONGEST.false))
 
-same-length-4 : tie.Need-same-length-4
-same-length-4 c = search rules
+shape_of-ids : tie.Need-shape_of-ids
+shape_of-ids c = search rules
 
-same-length-5 : tie.Need-same-length-5
-same-length-5 c = search rules
+shape_of-distances : tie.Need-shape_of-distances
+shape_of-distances c = search rules
 
-returns-4 : tie.Need-returns-4
-returns-4 c = left_out c.before.before.before.before.before.before.before.before.before.before.before.before.before.before.before.args.points.now c.before.before.before.before.before.before.before.before.before.before.before.before.before.before.before.requires c.before.before.before.before.before.put_last.ensures c.if3.false
+returns : tie.Need-returns
+returns c = left_out c.before.before.before.before.before.before.before.before.before.before.before.before.before.before.before.args.points.now c.before.before.before.before.before.before.before.before.before.before.before.before.before.before.before.requires c.before.before.before.before.before.put_last-took.ensures c.if-took.false
 
-pub take-in-spec : {M : Type 1} → statement M
-take-in-spec =
+pub take_in_spec : {M : Type 1} → statement M
+take_in_spec =
     tie.close
     (tie.spec
-    mul-flag
-    slice-read-flag
-    returns
-    returns-2
-    mul-a
-    add-e
-    mul-put-last
-    sub-put-last
+    offset_bounds-s-i
+    bounds-s-i
+    returns-then-flag-ne1
+    returns-then-d-gt-LONGEST
+    overflow_mul-a
+    overflow_add-e
+    offset_bounds-ids-a
+    slice_bounds-put_last-count
     part-put-last-start
     part-put-last-end
-    mul-put-last-2
-    sub-put-last-2
+    offset_bounds-distances-a
+    slice_bounds-put_last-count-2
     part-put-last-start-2
     part-put-last-end-2
-    put-last-requires
-    mul-s
-    slice-write-s
-    same_length
-    same-length-2
-    same-length-3
-    returns-3
-    same-length-4
-    same-length-5
-    returns-4)
+    put_last-took-requires
+    offset_bounds-s-i-then-took
+    bounds-s-i-then-took
+    shape_of-s-then-took
+    shape_of-ids-then-took
+    shape_of-distances-then-took
+    returns-then-took
+    shape_of-ids
+    shape_of-distances
+    returns)

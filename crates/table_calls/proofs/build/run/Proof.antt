@@ -16,24 +16,24 @@ use Rattle.table_calls.proofs.build.run.Tie as tie
 abbrev G : tie.Start → Network
 G s = network s.args.starts.now s.args.neighbours.now s.args.weights.now
 
-abbrev start : tie.After-wide → tie.Start
+abbrev start : tie.After-wide-row → tie.Start
 start c = c.before.before.before.before.before.before.before.before
 
 -- the words that are used: the product is small, and they are there
-abbrev used : tie.After-wide → ℕ
+abbrev used : tie.After-wide-row → ℕ
 used w =
     let s = start w in
-    length s.args.starts.now - 1 + 2 * (length s.args.starts.now - 1 + w.wide.result * length s.args.neighbours.now)
+    length s.args.starts.now - 1 + 2 * (length s.args.starts.now - 1 + w.wide-row.result * length s.args.neighbours.now)
 
-small : (w : tie.After-wide) → w.wide.result * length (start w).args.neighbours.now ≤ 17 * length (start w).args.neighbours.now
-small w = mul-le-mul_right (length (start w).args.neighbours.now) (omega (arith, w.wide.ensures, (start w).requires.ready.most))
+small : (w : tie.After-wide-row) → w.wide-row.result * length (start w).args.neighbours.now ≤ 17 * length (start w).args.neighbours.now
+small w = mul-le-mul_right (length (start w).args.neighbours.now) (omega (arith, w.wide-row.ensures, (start w).requires.ready.most))
 
-fits : (w : tie.After-wide) → used w ≤ length (start w).args.scratch.now
+fits : (w : tie.After-wide-row) → used w ≤ length (start w).args.scratch.now
 fits w =
     let s = start w in
     omega (
       arith,
-      ap (λ (k : ℕ). k * length s.args.neighbours.now) w.wide.ensures,
+      ap (λ (k : ℕ). k * length s.args.neighbours.now) w.wide-row.ensures,
       words_for_build (G s) s.args.places,
       s.pre.room,
     )
@@ -42,39 +42,39 @@ fits w =
 long : (z : tie.After-zero) → length z.zero.new.0 ≡ length (start z.before.before).args.scratch.now
 long z = zero_length (length (start z.before.before).args.scratch.now) z.zero.ensures
 
-sub-n : tie.Need-overflow-sub-n
-sub-n c = omega (arith, c.before.before.before.before.before.before.before.requires.ready.accepted.some)
+overflow_sub-n : tie.Need-overflow_sub-n
+overflow_sub-n c = omega (arith, c.before.before.before.before.before.before.before.requires.ready.accepted.some)
 
-wide-requires : tie.Need-wide-requires
-wide-requires c κs = search rules
+wide-row-requires : tie.Need-wide-row-requires
+wide-row-requires c κs = search rules
 
-mul-used : tie.Need-overflow-mul-used
-mul-used c = let p = (start c).requires.ready.accepted in record { fits = omega (arith, small c, p.few_arcs) }
+overflow_mul-used : tie.Need-overflow_mul-used
+overflow_mul-used c = let p = (start c).requires.ready.accepted in record { fits = omega (arith, small c, p.few_arcs) }
 
-add-used : tie.Need-overflow-add-used
-add-used c = let p = (start c).requires.ready.accepted in record { fits = omega (arith, small c, p.few_arcs, p.few) }
+overflow_add-used : tie.Need-overflow_add-used
+overflow_add-used c = let p = (start c).requires.ready.accepted in record { fits = omega (arith, small c, p.few_arcs, p.few) }
 
-mul-used-2 : tie.Need-overflow-mul-used-2
-mul-used-2 c = let p = (start c).requires.ready.accepted in record { fits = omega (arith, small c, p.few_arcs, p.few) }
+overflow_mul-used-2 : tie.Need-overflow_mul-used-2
+overflow_mul-used-2 c = let p = (start c).requires.ready.accepted in record { fits = omega (arith, small c, p.few_arcs, p.few) }
 
-add-used-2 : tie.Need-overflow-add-used-2
-add-used-2 c = let p = (start c).requires.ready.accepted in record { fits = omega (arith, small c, p.few_arcs, p.few) }
+overflow_add-used-2 : tie.Need-overflow_add-used-2
+overflow_add-used-2 c = let p = (start c).requires.ready.accepted in record { fits = omega (arith, small c, p.few_arcs, p.few) }
 
 zero-requires : tie.Need-zero-requires
 zero-requires c κs = search rules
 
-slice-relend-prefix-build : tie.Need-slice-relend-prefix-build
-slice-relend-prefix-build c = let z = c.before.before in omega (arith, fits z.before.before, long z)
+slice_bounds-build-end : tie.Need-slice_bounds-build-end
+slice_bounds-build-end c = let z = c.before.before in omega (arith, fits z.before.before, long z)
 
-slice-aggregate-build : tie.Need-slice-aggregate-build
-slice-aggregate-build c = let z = c.before.before.before in simp length-take (omega (arith, fits z.before.before, long z))
+slice_bounds-build-end-2 : tie.Need-slice_bounds-build-end-2
+slice_bounds-build-end-2 c = let z = c.before.before.before in simp length-take (omega (arith, fits z.before.before, long z))
 
 build-requires : tie.Need-build-requires
 build-requires c κs =
     let z = c.before.before.before.before.before in
     let w = z.before.before in
     let s = start w in
-    let p = ready_same w.wide.ensures s.pre.ready in
+    let p = ready_same w.wide-row.ensures s.pre.ready in
     record {
       accepted = p.accepted;
       points = p.points;
@@ -85,14 +85,14 @@ build-requires c κs =
       room = simp length-take (omega (arith, fits w, long z));
     }
 
-same_length : tie.Need-same-length
-same_length c = search rules
+shape_of-scratch : tie.Need-shape_of-scratch
+shape_of-scratch c = search rules
 
-same-length-2 : tie.Need-same-length-2
-same-length-2 c = search rules
+shape_of-ids : tie.Need-shape_of-ids
+shape_of-ids c = search rules
 
-same-length-3 : tie.Need-same-length-3
-same-length-3 c = search rules
+shape_of-distances : tie.Need-shape_of-distances
+shape_of-distances c = search rules
 
 returns : tie.Need-returns
 returns c =
@@ -100,7 +100,7 @@ returns c =
     let z = r.before.before.before.before.before.before in
     let w = z.before.before in
     record {
-      table = rw w.wide.ensures at r.build.ensures.table;
+      table = rw w.wide-row.ensures at r.build.ensures.table;
       area = part_wiped (start w).args.scratch.now (used w) z.zero.ensures (fits w) r.build.ensures.area;
     }
 
@@ -108,17 +108,17 @@ pub run_spec : {M : Type 1} → statement M
 run_spec =
     tie.close
     (tie.spec
-    sub-n
-    wide-requires
-    mul-used
-    add-used
-    mul-used-2
-    add-used-2
+    overflow_sub-n
+    wide-row-requires
+    overflow_mul-used
+    overflow_add-used
+    overflow_mul-used-2
+    overflow_add-used-2
     zero-requires
-    slice-relend-prefix-build
-    slice-aggregate-build
+    slice_bounds-build-end
+    slice_bounds-build-end-2
     build-requires
-    same_length
-    same-length-2
-    same-length-3
+    shape_of-scratch
+    shape_of-ids
+    shape_of-distances
     returns)

@@ -12,43 +12,43 @@ use Rattle.table_calls.proofs.table_check.answer.Tie as tie
 abbrev G : tie.Start → Network
 G s = network s.args.starts.now s.args.neighbours.now s.args.weights.now
 
-abbrev start : tie.After-table-check-number → tie.Start
+abbrev start : tie.After-table_check_number-refusal → tie.Start
 start n = n.before.before.before.before.before.before.before
 
-table-check-number-requires : tie.Need-table-check-number-requires
-table-check-number-requires c κs = search rules
+table_check_number-refusal-requires : tie.Need-table_check_number-refusal-requires
+table_check_number-refusal-requires c κs = search rules
 
-returns : tie.Need-returns
-returns c =
+returns-then-refusal-ne0 : tie.Need-returns-then-refusal-ne0
+returns-then-refusal-ne0 c =
     let n = c.before in
     let s = start n in
-    check_refused (G s) s.args.points.now s.args.places s.args.ids.now s.args.distances.now n.table-check-number.result n.table-check-number.ensures c.if1.true
+    check_refused (G s) s.args.points.now s.args.places s.args.ids.now s.args.distances.now n.table_check_number-refusal.result n.table_check_number-refusal.ensures c.if-refusal-ne0.true
 
 wide-requires : tie.Need-wide-requires
 wide-requires c κs = search rules
 
-check-requires : tie.Need-check-requires
-check-requires c κs =
+check-yes-requires : tie.Need-check-yes-requires
+check-yes-requires c κs =
     let e = c.before in
     let n = e.before in
     let s = start n in
-    let r = ready_same c.wide.ensures (table_check_ready (G s) s.args.points.now s.args.places s.args.ids.now s.args.distances.now (sym n.table-check-number.ensures ∙ e.if1.false)) in
+    let r = ready_same c.wide.ensures (table_check_ready (G s) s.args.points.now s.args.places s.args.ids.now s.args.distances.now (sym n.table_check_number-refusal.ensures ∙ e.if-refusal-ne0.false)) in
     record { readable = record { accepted = r.accepted; some = omega (arith, r.least); sized = r.sized }; points = r.points }
 
-returns-2 : tie.Need-returns-2
-returns-2 c =
+returns : tie.Need-returns
+returns c =
     let w = c.before in
     let e = w.before in
     let n = e.before in
     let s = start n in
-    check_done (G s) s.args.points.now s.args.places s.args.ids.now s.args.distances.now w.wide.ensures (sym n.table-check-number.ensures ∙ e.if1.false) c.check.ensures
+    check_done (G s) s.args.points.now s.args.places s.args.ids.now s.args.distances.now w.wide.ensures (sym n.table_check_number-refusal.ensures ∙ e.if-refusal-ne0.false) c.check-yes.ensures
 
-pub answer-spec : {M : Type 1} → statement M
-answer-spec =
+pub answer_spec : {M : Type 1} → statement M
+answer_spec =
     tie.close
     (tie.spec
-    table-check-number-requires
-    returns
+    table_check_number-refusal-requires
+    returns-then-refusal-ne0
     wide-requires
-    check-requires
-    returns-2)
+    check-yes-requires
+    returns)

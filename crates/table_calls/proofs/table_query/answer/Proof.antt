@@ -3,7 +3,7 @@
 use mathlib.Core.Path.{refl, sym, ap, ◌∙◌}
 use lib.ListN.{length}
 use Rattle.network.specs.Network.{Network, network}
-use Rattle.conditions.specs.declared.answers.Listed.TheVariants as is
+use Rattle.conditions.specs.declared.answers-1.Listed.TheVariants as is
 use Rattle.numbers.proofs.Ready.{table_query_ready}
 use Rattle.numbers.proofs.Cleared.{all_zero}
 use borrow.Author.Rules.{rules}
@@ -13,65 +13,65 @@ use Rattle.table_calls.proofs.table_query.answer.Tie as tie
 abbrev G : tie.Start → Network
 G s = network s.args.starts.now s.args.neighbours.now s.args.weights.now
 
-abbrev start : tie.After-table-query-number → tie.Start
+abbrev start : tie.After-table_query_number-refusal → tie.Start
 start n = n.before.before.before.before.before.before.before.before.before.before.before
 
-table-query-number-requires : tie.Need-table-query-number-requires
-table-query-number-requires c κs = search rules
+table_query_number-refusal-requires : tie.Need-table_query_number-refusal-requires
+table_query_number-refusal-requires c κs = search rules
 
-same_length : tie.Need-same-length
-same_length c = search rules
+shape_of-scratch-then-refusal-ne0 : tie.Need-shape_of-scratch-then-refusal-ne0
+shape_of-scratch-then-refusal-ne0 c = search rules
 
-same-length-2 : tie.Need-same-length-2
-same-length-2 c = search rules
+shape_of-answers-then-refusal-ne0 : tie.Need-shape_of-answers-then-refusal-ne0
+shape_of-answers-then-refusal-ne0 c = search rules
 
-returns : tie.Need-returns
-returns c =
+returns-then-refusal-ne0 : tie.Need-returns-then-refusal-ne0
+returns-then-refusal-ne0 c =
     let n = c.before in
     record {
-      refused = λ _. (ap is.Refused n.table-query-number.ensures, refl, refl);
-      accepted = λ z. absurd (c.if1.true (n.table-query-number.ensures ∙ z));
+      refused = λ _. (ap is.Refused n.table_query_number-refusal.ensures, refl, refl);
+      accepted = λ z. absurd (c.if-refusal-ne0.true (n.table_query_number-refusal.ensures ∙ z));
     }
 
-run-requires : tie.Need-run-requires
-run-requires c κs =
+run-length-requires : tie.Need-run-length-requires
+run-length-requires c κs =
     let e = c.before.before in
     let n = e.before in
     let s = start n in
-    table_query_ready (G s) s.args.points.now s.args.q s.args.k s.args.places s.args.ids.now s.args.distances.now s.args.scratch.now s.args.answers.now (sym n.table-query-number.ensures ∙ e.if1.false)
+    table_query_ready (G s) s.args.points.now s.args.q s.args.k s.args.places s.args.ids.now s.args.distances.now s.args.scratch.now s.args.answers.now (sym n.table_query_number-refusal.ensures ∙ e.if-refusal-ne0.false)
 
-same-length-3 : tie.Need-same-length-3
-same-length-3 c = search rules
+shape_of-scratch : tie.Need-shape_of-scratch
+shape_of-scratch c = search rules
 
-same-length-4 : tie.Need-same-length-4
-same-length-4 c = search rules
+shape_of-answers : tie.Need-shape_of-answers
+shape_of-answers c = search rules
 
-returns-2 : tie.Need-returns-2
-returns-2 c =
+returns : tie.Need-returns
+returns c =
     let r = c.before.before.before.before in
     let e = r.before.before.before in
     let n = e.before in
-    let d = r.run.ensures in
+    let d = r.run-length.ensures in
     record {
-      refused = λ z. absurd (z (sym n.table-query-number.ensures ∙ e.if1.false));
+      refused = λ z. absurd (z (sym n.table_query_number-refusal.ensures ∙ e.if-refusal-ne0.false));
       accepted =
           λ _.
           record {
-            found = r.run.result;
+            found = r.run-length.result;
             answered_so = refl;
-            done = record { zero = all_zero (length (start n).args.scratch.now) refl d.area; any = d.some; sized = d.sized; list = d.answers };
+            done = record { zero = all_zero (length (start n).args.scratch.now) refl d.area; any = d.some; sized = d.sized; list = d.answers-1 };
           };
     }
 
-pub answer-spec : {M : Type 1} → statement M
-answer-spec =
+pub answer_spec : {M : Type 1} → statement M
+answer_spec =
     tie.close
     (tie.spec
-    table-query-number-requires
-    same_length
-    same-length-2
-    returns
-    run-requires
-    same-length-3
-    same-length-4
-    returns-2)
+    table_query_number-refusal-requires
+    shape_of-scratch-then-refusal-ne0
+    shape_of-answers-then-refusal-ne0
+    returns-then-refusal-ne0
+    run-length-requires
+    shape_of-scratch
+    shape_of-answers
+    returns)

@@ -29,20 +29,20 @@ fits s = let p = s.requires in omega (arith, words_enough (G s) s.args.k p.some,
 long : (z : tie.After-zero) → length z.zero.new.0 ≡ length (start z).args.scratch.now
 long z = zero_length (length (start z).args.scratch.now) z.zero.ensures
 
-sub_used : tie.Need-overflow-sub-used
-sub_used c = omega (arith, c.before.before.before.before.before.before.before.before.requires.ready.accepted.some)
+overflow_sub-used : tie.Need-overflow_sub-used
+overflow_sub-used c = omega (arith, c.before.before.before.before.before.before.before.before.requires.ready.accepted.some)
 
-mul-used : tie.Need-overflow-mul-used
-mul-used c = search rules
+overflow_mul-used : tie.Need-overflow_mul-used
+overflow_mul-used c = search rules
 
 zero-requires : tie.Need-zero-requires
 zero-requires c κs = search rules
 
-slice-relend-prefix-query : tie.Need-slice-relend-prefix-query
-slice-relend-prefix-query c = let z = c.before.before in omega (arith, fits (start z), long z)
+slice_bounds-query-end : tie.Need-slice_bounds-query-end
+slice_bounds-query-end c = let z = c.before.before in omega (arith, fits (start z), long z)
 
-slice-aggregate-query : tie.Need-slice-aggregate-query
-slice-aggregate-query c = let z = c.before.before.before in simp length-take (omega (arith, fits (start z), long z))
+slice_bounds-query-end-2 : tie.Need-slice_bounds-query-end-2
+slice_bounds-query-end-2 c = let z = c.before.before.before in simp length-take (omega (arith, fits (start z), long z))
 
 wide-requires : tie.Need-wide-requires
 wide-requires c κs = search rules
@@ -56,7 +56,7 @@ query-requires c κs =
     let z = w.before.before.before.before.before in
     let s = start z in
     let p = s.pre in
-    let t = ready_same c.wide2.ensures p.ready in
+    let t = ready_same c.wide-2.ensures p.ready in
     record {
       asked =
           record {
@@ -64,7 +64,7 @@ query-requires c κs =
             points = t.points;
             site = p.site;
             some = omega (arith, w.wide.ensures, p.some);
-            few = omega (arith, w.wide.ensures, c.wide2.ensures, p.few);
+            few = omega (arith, w.wide.ensures, c.wide-2.ensures, p.few);
             sized = t.sized.all_dists;
           };
       all_ids = t.sized.all_ids;
@@ -73,11 +73,11 @@ query-requires c κs =
       answers = p.places;
     }
 
-same_length : tie.Need-same-length
-same_length c = search rules
+shape_of-scratch : tie.Need-shape_of-scratch
+shape_of-scratch c = search rules
 
-same-length-2 : tie.Need-same-length-2
-same-length-2 c = search rules
+shape_of-answers : tie.Need-shape_of-answers
+shape_of-answers c = search rules
 
 returns : tie.Need-returns
 returns c =
@@ -86,10 +86,10 @@ returns c =
     let w = v.before in
     let z = w.before.before.before.before.before in
     let s = start z in
-    let d = rw (w.wide.ensures, v.wide2.ensures) at r.query.ensures in
+    let d = rw (w.wide.ensures, v.wide-2.ensures) at r.query.ensures in
     record {
       some = d.some;
-      answers = d.answers;
+      answers = d.answers-1;
       sized = d.sized;
       area = part_wiped s.args.scratch.now (used s) z.zero.ensures (fits s) d.area;
     }
@@ -98,14 +98,14 @@ pub run_spec : {M : Type 1} → statement M
 run_spec =
     tie.close
     (tie.spec
-    sub_used
-    mul-used
+    overflow_sub-used
+    overflow_mul-used
     zero-requires
-    slice-relend-prefix-query
-    slice-aggregate-query
+    slice_bounds-query-end
+    slice_bounds-query-end-2
     wide-requires
     wide-requires-2
     query-requires
-    same_length
-    same-length-2
+    shape_of-scratch
+    shape_of-answers
     returns)

@@ -16,62 +16,62 @@ use Rattle.table_calls.proofs.updated.answer.Tie as tie
 abbrev G : tie.Start → Network
 G s = network s.args.starts.now s.args.neighbours.now s.args.weights.now
 
-abbrev start : tie.After-change-number → tie.Start
+abbrev start : tie.After-change_number-refusal → tie.Start
 start n = n.before.before.before.before.before.before.before.before.before.before.before.before
 
 -- refused with equal numbers
 same_number : {m n : ℕ} → m ≡ n → ◌≡◌ {A = Updated} (is.Refused m) (is.Refused n)
 same_number e = ap is.Refused e
 
-change-number-requires : tie.Need-change-number-requires
-change-number-requires c κs = search rules
+change_number-refusal-requires : tie.Need-change_number-refusal-requires
+change_number-refusal-requires c κs = search rules
 
-same_length : tie.Need-same-length
-same_length c = search rules
+shape_of-points-then-refusal-ne0 : tie.Need-shape_of-points-then-refusal-ne0
+shape_of-points-then-refusal-ne0 c = search rules
 
-same-length-2 : tie.Need-same-length-2
-same-length-2 c = search rules
+shape_of-scratch-then-refusal-ne0 : tie.Need-shape_of-scratch-then-refusal-ne0
+shape_of-scratch-then-refusal-ne0 c = search rules
 
-same-length-3 : tie.Need-same-length-3
-same-length-3 c = search rules
+shape_of-ids-then-refusal-ne0 : tie.Need-shape_of-ids-then-refusal-ne0
+shape_of-ids-then-refusal-ne0 c = search rules
 
-same-length-4 : tie.Need-same-length-4
-same-length-4 c = search rules
+shape_of-distances-then-refusal-ne0 : tie.Need-shape_of-distances-then-refusal-ne0
+shape_of-distances-then-refusal-ne0 c = search rules
 
-returns : tie.Need-returns
-returns c = record { refused = λ _. (same_number (omega arith), refl); accepted = λ z. absurd (omega (arith, z)) }
+returns-then-refusal-ne0 : tie.Need-returns-then-refusal-ne0
+returns-then-refusal-ne0 c = record { refused = λ _. (same_number (omega arith), refl); accepted = λ z. absurd (omega (arith, z)) }
 
-run-requires : tie.Need-run-requires
-run-requires c κs =
+run-changed-requires : tie.Need-run-changed-requires
+run-changed-requires c κs =
     let e = c.before.before.before.before in
     let n = e.before in
     let s = start n in
-    change_ready s.args.kind (G s) s.args.points.now s.args.node s.args.places s.args.scratch.now s.args.ids.now s.args.distances.now (sym n.change-number.ensures ∙ e.if1.false)
+    change_ready s.args.kind (G s) s.args.points.now s.args.node s.args.places s.args.scratch.now s.args.ids.now s.args.distances.now (sym n.change_number-refusal.ensures ∙ e.if-refusal-ne0.false)
 
-same-length-5 : tie.Need-same-length-5
-same-length-5 c = search rules
+shape_of-points : tie.Need-shape_of-points
+shape_of-points c = search rules
 
-same-length-6 : tie.Need-same-length-6
-same-length-6 c = search rules
+shape_of-scratch : tie.Need-shape_of-scratch
+shape_of-scratch c = search rules
 
-same-length-7 : tie.Need-same-length-7
-same-length-7 c = search rules
+shape_of-ids : tie.Need-shape_of-ids
+shape_of-ids c = search rules
 
-same-length-8 : tie.Need-same-length-8
-same-length-8 c = search rules
+shape_of-distances : tie.Need-shape_of-distances
+shape_of-distances c = search rules
 
-returns-2 : tie.Need-returns-2
-returns-2 c =
+returns : tie.Need-returns
+returns c =
     let r = c.before.before.before.before.before.before.before.before in
     let e = r.before.before.before.before.before in
     let n = e.before in
-    let d = r.run.ensures in
+    let d = r.run-changed.ensures in
     record {
-      refused = λ z. absurd (z (sym n.change-number.ensures ∙ e.if1.false));
+      refused = λ z. absurd (z (sym n.change_number-refusal.ensures ∙ e.if-refusal-ne0.false));
       accepted =
           λ _.
           record {
-            changed = r.run.result;
+            changed = r.run-changed.result;
             answered_so = refl;
             done =
                 record {
@@ -85,19 +85,19 @@ returns-2 c =
           };
     }
 
-pub answer-spec : {M : Type 1} → statement M
-answer-spec =
+pub answer_spec : {M : Type 1} → statement M
+answer_spec =
     tie.close
     (tie.spec
-    change-number-requires
-    same_length
-    same-length-2
-    same-length-3
-    same-length-4
-    returns
-    run-requires
-    same-length-5
-    same-length-6
-    same-length-7
-    same-length-8
-    returns-2)
+    change_number-refusal-requires
+    shape_of-points-then-refusal-ne0
+    shape_of-scratch-then-refusal-ne0
+    shape_of-ids-then-refusal-ne0
+    shape_of-distances-then-refusal-ne0
+    returns-then-refusal-ne0
+    run-changed-requires
+    shape_of-points
+    shape_of-scratch
+    shape_of-ids
+    shape_of-distances
+    returns)

@@ -4,63 +4,63 @@ use borrow.Author.Rules.{rules}
 use Rattle.table_calls.proofs.updated.change.Statement.{statement}
 use Rattle.table_calls.proofs.updated.change.Tie as tie
 
-enum_told : tie.Need-enum-told
-enum_told c = search rules
+enum_told-1 : tie.Need-enum_told-1
+enum_told-1 c = search rules
 
 insert-requires : tie.Need-insert-requires
-insert-requires c κs = rw c.before.before.before.before.enum_told.given.1 at c.before.before.before.before.before.before.before.before.before.before.before.before.before.requires
+insert-requires c κs = rw c.before.before.before.before.enum_told-1.given.1 at c.before.before.before.before.before.before.before.before.before.before.before.before.before.requires
 
-enum-told-2 : tie.Need-enum-told-2
-enum-told-2 c = search rules
+enum_told-in-Remove : tie.Need-enum_told-in-Remove
+enum_told-in-Remove c = search rules
 
 remove-requires : tie.Need-remove-requires
-remove-requires c κs = rw c.before.before.before.before.enum-told2.given.1 at c.before.before.before.before.before.before.before.before.before.before.before.before.before.requires
+remove-requires c κs = rw c.before.before.before.before.enum_told-in-Remove-1.given.1 at c.before.before.before.before.before.before.before.before.before.before.before.before.before.requires
 
-same_length : tie.Need-same-length
-same_length c = search rules
+shape_of-points-in-Insert : tie.Need-shape_of-points-in-Insert
+shape_of-points-in-Insert c = search rules
 
-same-length-2 : tie.Need-same-length-2
-same-length-2 c = search rules
+shape_of-area-in-Insert : tie.Need-shape_of-area-in-Insert
+shape_of-area-in-Insert c = search rules
 
-same-length-3 : tie.Need-same-length-3
-same-length-3 c = search rules
+shape_of-ids-in-Insert : tie.Need-shape_of-ids-in-Insert
+shape_of-ids-in-Insert c = search rules
 
-same-length-4 : tie.Need-same-length-4
-same-length-4 c = search rules
+shape_of-distances-in-Insert : tie.Need-shape_of-distances-in-Insert
+shape_of-distances-in-Insert c = search rules
 
-returns : tie.Need-returns
-returns c = let r = c.before.before.before.before.before.before.before.before in rw r.before.before.before.before.before.enum_told.given.1 r.insert.ensures
+returns-in-Insert : tie.Need-returns-in-Insert
+returns-in-Insert c = let r = c.before.before.before.before.before.before.before.before in rw r.before.before.before.before.before.enum_told-1.given.1 r.insert.ensures
 
-same-length-5 : tie.Need-same-length-5
-same-length-5 c = search rules
+shape_of-points-in-Remove : tie.Need-shape_of-points-in-Remove
+shape_of-points-in-Remove c = search rules
 
-same-length-6 : tie.Need-same-length-6
-same-length-6 c = search rules
+shape_of-area-in-Remove : tie.Need-shape_of-area-in-Remove
+shape_of-area-in-Remove c = search rules
 
-same-length-7 : tie.Need-same-length-7
-same-length-7 c = search rules
+shape_of-ids-in-Remove : tie.Need-shape_of-ids-in-Remove
+shape_of-ids-in-Remove c = search rules
 
-same-length-8 : tie.Need-same-length-8
-same-length-8 c = search rules
+shape_of-distances-in-Remove : tie.Need-shape_of-distances-in-Remove
+shape_of-distances-in-Remove c = search rules
 
-returns-2 : tie.Need-returns-2
-returns-2 c = let r = c.before.before.before.before.before.before.before.before in rw r.before.before.before.before.before.enum-told2.given.1 r.remove.ensures
+returns-in-Remove : tie.Need-returns-in-Remove
+returns-in-Remove c = let r = c.before.before.before.before.before.before.before.before in rw r.before.before.before.before.before.enum_told-in-Remove-1.given.1 r.remove.ensures
 
-pub change-spec : {M : Type 1} → statement M
-change-spec =
+pub change_spec : {M : Type 1} → statement M
+change_spec =
     tie.close
     (tie.spec
-    enum_told
+    enum_told-1
     insert-requires
-    enum-told-2
+    enum_told-in-Remove
     remove-requires
-    same_length
-    same-length-2
-    same-length-3
-    same-length-4
-    returns
-    same-length-5
-    same-length-6
-    same-length-7
-    same-length-8
-    returns-2)
+    shape_of-points-in-Insert
+    shape_of-area-in-Insert
+    shape_of-ids-in-Insert
+    shape_of-distances-in-Insert
+    returns-in-Insert
+    shape_of-points-in-Remove
+    shape_of-area-in-Remove
+    shape_of-ids-in-Remove
+    shape_of-distances-in-Remove
+    returns-in-Remove)

@@ -24,14 +24,14 @@ can-change : (kind : Kind) (g : Network) (P xs ids distances : List ℕ) (node K
 can-change Insert g P xs ids distances node K inside r byte blank room =
     record {
       expand = record { accepted = r.accepted; inside = inside; blank = blank; size = omega arith };
-      points = r.points;
+      points = r.points-1;
       room = byte;
       sized = r.sized;
     }
 can-change Remove g P xs ids distances node K inside r byte blank room =
     record {
       accepted = r.accepted;
-      points = r.points;
+      points = r.points-1;
       inside = inside;
       is_point = byte;
       least = r.least;
@@ -60,26 +60,26 @@ fits s =
 long : (z : tie.After-zero) → length z.zero.new.0 ≡ length (start z).args.scratch.now
 long z = zero_length (length (start z).args.scratch.now) z.zero.ensures
 
-sub_used : tie.Need-overflow-sub-used
-sub_used c = omega (arith, c.before.before.before.before.before.before.before.requires.ready.accepted.some)
+overflow_sub-used : tie.Need-overflow_sub-used
+overflow_sub-used c = omega (arith, c.before.before.before.before.before.before.before.requires.ready.accepted.some)
 
-mul-used : tie.Need-overflow-mul-used
-mul-used c = search rules
+overflow_mul-used : tie.Need-overflow_mul-used
+overflow_mul-used c = search rules
 
-mul-used-2 : tie.Need-overflow-mul-used-2
-mul-used-2 c = search rules
+overflow_mul-used-2 : tie.Need-overflow_mul-used-2
+overflow_mul-used-2 c = search rules
 
-add-used : tie.Need-overflow-add-used
-add-used c = search rules
+overflow_add-used : tie.Need-overflow_add-used
+overflow_add-used c = search rules
 
 zero-requires : tie.Need-zero-requires
 zero-requires c κs = search rules
 
-slice-relend-prefix-change : tie.Need-slice-relend-prefix-change
-slice-relend-prefix-change c = let z = c.before.before.before in omega (arith, fits (start z), long z)
+slice_bounds-change-end : tie.Need-slice_bounds-change-end
+slice_bounds-change-end c = let z = c.before.before.before in omega (arith, fits (start z), long z)
 
-slice-aggregate-change : tie.Need-slice-aggregate-change
-slice-aggregate-change c = let z = c.before.before.before.before in simp length-take (omega (arith, fits (start z), long z))
+slice_bounds-change-end-2 : tie.Need-slice_bounds-change-end-2
+slice_bounds-change-end-2 c = let z = c.before.before.before.before in simp length-take (omega (arith, fits (start z), long z))
 
 wide-requires : tie.Need-wide-requires
 wide-requires c κs = search rules
@@ -96,17 +96,17 @@ change-requires c κs =
     (part_blank (length s.args.scratch.now) (used s) z.zero.ensures)
     (simp length-take (omega (arith, fits s, long z)))
 
-same_length : tie.Need-same-length
-same_length c = search rules
+shape_of-points : tie.Need-shape_of-points
+shape_of-points c = search rules
 
-same-length-2 : tie.Need-same-length-2
-same-length-2 c = search rules
+shape_of-scratch : tie.Need-shape_of-scratch
+shape_of-scratch c = search rules
 
-same-length-3 : tie.Need-same-length-3
-same-length-3 c = search rules
+shape_of-ids : tie.Need-shape_of-ids
+shape_of-ids c = search rules
 
-same-length-4 : tie.Need-same-length-4
-same-length-4 c = search rules
+shape_of-distances : tie.Need-shape_of-distances
+shape_of-distances c = search rules
 
 returns : tie.Need-returns
 returns c =
@@ -128,17 +128,17 @@ pub run_spec : {M : Type 1} → statement M
 run_spec =
     tie.close
     (tie.spec
-    sub_used
-    mul-used
-    mul-used-2
-    add-used
+    overflow_sub-used
+    overflow_mul-used
+    overflow_mul-used-2
+    overflow_add-used
     zero-requires
-    slice-relend-prefix-change
-    slice-aggregate-change
+    slice_bounds-change-end
+    slice_bounds-change-end-2
     wide-requires
     change-requires
-    same_length
-    same-length-2
-    same-length-3
-    same-length-4
+    shape_of-points
+    shape_of-scratch
+    shape_of-ids
+    shape_of-distances
     returns)
