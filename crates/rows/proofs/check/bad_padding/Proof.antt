@@ -21,7 +21,7 @@ whole_before-requires : tie.Need-whole_before-requires
 whole_before-requires c κs = search rules
 
 returns : tie.Need-returns
-returns c = padding_later _ _ _ _ _ c.before.before.if-d.false c.before.if-j-eq0.false c.Whole-before.ensures
+returns c = padding_later _ _ _ _ _ c.before.before.if-d.false c.before.if-j-eq0.false c.whole_before.ensures
 
 pub bad_padding_spec : {M : Type 1} → statement M
 bad_padding_spec =

@@ -13,10 +13,10 @@ rises-requires : tie.Need-rises-requires
 rises-requires c κs = search rules
 
 returns-then-whole_before : tie.Need-returns-then-whole_before
-returns-then-whole_before c = begins_whole _ _ _ _ _ (sym c.before.before.Whole-before.ensures ∙ c.before.if-whole_before.true) c.rises.ensures
+returns-then-whole_before c = begins_whole _ _ _ _ _ (sym c.before.before.whole_before.ensures ∙ c.before.if-whole_before.true) c.rises.ensures
 
 returns : tie.Need-returns
-returns c = begins_short _ _ _ _ (sym c.before.Whole-before.ensures ∙ c.if-whole_before.false)
+returns c = begins_short _ _ _ _ (sym c.before.whole_before.ensures ∙ c.if-whole_before.false)
 
 pub begins_spec : {M : Type 1} → statement M
 begins_spec = tie.close (tie.spec whole_before-requires rises-requires returns-then-whole_before returns)

@@ -10,13 +10,13 @@ has_within-requires : tie.Need-has_within-requires
 has_within-requires c κs = search rules
 
 returns-then-has_within : tie.Need-returns-then-has_within
-returns-then-has_within c = placed_stands _ _ _ _ (sym c.before.has-Within.ensures ∙ c.if-has_within.true)
+returns-then-has_within c = placed_stands _ _ _ _ (sym c.before.has_within.ensures ∙ c.if-has_within.true)
 
 ends_by-requires : tie.Need-ends_by-requires
 ends_by-requires c κs = search rules
 
 returns : tie.Need-returns
-returns c = placed_ends _ _ _ _ _ (sym c.before.before.has-Within.ensures ∙ c.before.if-has_within.false) c.ends_by.ensures
+returns c = placed_ends _ _ _ _ _ (sym c.before.before.has_within.ensures ∙ c.before.if-has_within.false) c.ends_by.ensures
 
 pub is_placed_spec : {M : Type 1} → statement M
 is_placed_spec = tie.close (tie.spec has_within-requires returns-then-has_within ends_by-requires returns)

@@ -82,7 +82,7 @@ returns c =
     let long = length a.scratch-1.now in
     let h = rw w.wide.ensures at r.eager.ensures in
     eager_is (G e.before) a.points.now a.q a.k a.limit a.scratch-1.now a.answers-1.now a.visits-1.now
-    (rw c.Listed-of.ensures
+    (rw c.listed_of.ensures
     (limited_outcome_lem (G e.before) a.points.now a.q a.k a.limit a.scratch-1.now a.answers-1.now r.eager.result (none e) h.0
     (λ s. all_zero long (zero_length long z.zero.ensures) s)))
     (visits_outcome_lem (G e.before) a.points.now a.q a.k a.limit a.visits-1.now _ _ _ _ _ r.eager.result (none e) h.0 h.1)

@@ -74,7 +74,7 @@ returns c =
     let a = (start e.before).args in
     let long = length a.scratch-1.now in
     short_is (G e.before) a.points.now a.q a.scratch-1.now a.answers-1.now
-    (rw c.Listed-of.ensures
+    (rw c.listed_of.ensures
     (limited_outcome_lem (G e.before) a.points.now a.q short_k 65535 a.scratch-1.now a.answers-1.now r.without_visits.result (none e) r.without_visits.ensures
     (λ s. all_zero long (zero_length long z.zero.ensures) s)))
 
