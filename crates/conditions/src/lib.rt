@@ -1,6 +1,7 @@
 // The conditions 6 to 11 and 14, each with its own number, 0 where it is not met; and the answers of the calls. Document 01, 'Numbers of refusal', and
 // document 02, Ask 7. S is computed behind the tests of n, A and m, so that no product wraps.
 #![tactic(auto)]
+
 ghost use Rattle.std.specs.Prelude.{◌≡◌, List, ℕ, ◌+◌, ◌*◌, ◌≤◌, length};
 ghost use Rattle.network.specs.Count.{any};
 ghost use Rattle.network.specs.Network.{network};

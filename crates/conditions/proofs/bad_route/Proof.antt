@@ -6,7 +6,6 @@ use mathlib.Core.Path.{◌≡◌, sym, ◌∙◌}
 use mathlib.Core.List.{List}
 use native.Mathlib.Omega.{arith}
 use lib.ListN.{length, get_or}
-use borrow.Author.Tests.{not-true, not-false}
 use Rattle.network.specs.Network.{Network, network}
 use Rattle.network.specs.Routes.{has_road, bad_route}
 use Rattle.network.proofs.Routes.{on_place}
@@ -37,8 +36,8 @@ abbrev Entry : tie.In-loop-next invariant-loop-next decreases-loop-next → tie.
 Entry t = t.before.before.before.before.before.before
 
 tested : (c : tie.After-has_road invariant-loop-next decreases-loop-next) (w : List ℕ)
-    → has_road (G (Entry (At c)) w) (get_or (R (Entry (At c))) ((At c).before.loop-next.next - 1) 0) (get_or (R (Entry (At c))) (At c).before.loop-next.next 0) ≡ c.has_road_lem.result
-tested c w = rw (← c.before.before.wide-from.ensures) (sym (c.has_road_lem.ensures w))
+    → has_road (G (Entry (At c)) w) (get_or (R (Entry (At c))) ((At c).before.loop-next.next - 1) 0) (get_or (R (Entry (At c))) (At c).before.loop-next.next 0) ≡ c.has_road.result
+tested c w = rw (← c.before.before.wide-from.ensures) (sym (c.has_road.ensures w))
 
 returns-then-route-eq0 : tie.Need-returns-then-route-eq0 invariant-loop-next decreases-loop-next
 returns-then-route-eq0 c = λ w. no_node _ _ c.if-route-eq0.true
@@ -73,8 +72,8 @@ returns-then-not-has_road : tie.Need-returns-then-not-has_road invariant-loop-ne
 returns-then-not-has_road c =
     λ w.
     let t = At c.before in
-    sym (breaks_here (G (Entry t) w) (R (Entry t)) t.before.loop-next.next t.loop-next-test.taken (tested c.before w ∙ not-true _ c.if-not-has_road.true))
-    ∙ t.before.loop-next.inv.1 w
+    sym (breaks_here (G (Entry t) w) (R (Entry t)) t.before.loop-next.next t.loop-next-test.true (tested c.before w ∙ c.if-not-has_road.true))
+    ∙ t.before.loop-next.invariant.1 w
 
 overflow_add-next : tie.Need-overflow_add-next invariant-loop-next decreases-loop-next
 overflow_add-next c = search rules
@@ -87,8 +86,8 @@ loop-again c = (
   search rules,
   λ w.
       let t = At c.before in
-      breaks_next (G (Entry t) w) (R (Entry t)) t.before.loop-next.next t.loop-next-test.taken (tested c.before w ∙ not-false _ c.if-not-has_road.false)
-      ∙ t.before.loop-next.inv.1 w,
+      breaks_next (G (Entry t) w) (R (Entry t)) t.before.loop-next.next t.loop-next-test.true (tested c.before w ∙ c.if-not-has_road.false)
+      ∙ t.before.loop-next.invariant.1 w,
 )
 
 returns : tie.Need-returns invariant-loop-next decreases-loop-next

@@ -43,8 +43,8 @@ returns-then-id_count-entries c =
     let s = e.before.before in
     let a = s.args in
     let range = ltb a.places 2 || ltb 17 a.places in
-    let other = ne_eqb a.id-count (a.n * a.places) (λ q. c.if-id_count-entries.true (q ∙ ap (λ (k : ℕ). a.n * k) (sym w.wide.ensures))) in
-    rw (or_left (range || not (eqb a.id-count (a.n * a.places))) _ (or_right range _ (ap not other))) refl
+    let other = ne_eqb a.id_count (a.n * a.places) (λ q. c.if-id_count-entries.true (q ∙ ap (λ (k : ℕ). a.n * k) (sym w.wide.ensures))) in
+    rw (or_left (range || not (eqb a.id_count (a.n * a.places))) _ (or_right range _ (ap not other))) refl
 
 returns-then-distance_count-entries : tie.Need-returns-then-distance_count-entries
 unfolding table_number
@@ -55,8 +55,8 @@ returns-then-distance_count-entries c =
     let s = e.before.before in
     let a = s.args in
     let range = ltb a.places 2 || ltb 17 a.places in
-    let other = ne_eqb a.distance-count (a.n * a.places) (λ q. omega (arith, c.if-distance_count-entries.true, q, ap (λ (k : ℕ). a.n * k) w.wide.ensures)) in
-    rw (or_right (range || not (eqb a.id-count (a.n * a.places))) _ (ap not other)) refl
+    let other = ne_eqb a.distance_count (a.n * a.places) (λ q. omega (arith, c.if-distance_count-entries.true, q, ap (λ (k : ℕ). a.n * k) w.wide.ensures)) in
+    rw (or_right (range || not (eqb a.id_count (a.n * a.places))) _ (ap not other)) refl
 
 returns : tie.Need-returns
 unfolding table_number
@@ -69,8 +69,8 @@ returns c =
     rw (
       le-ltb a.places 2 (omega (arith, e.before.if-places-lt2.false)),
       le-ltb 17 a.places (omega (arith, e.if-places-gt17.false)),
-      eq-eqb a.id-count (a.n * a.places) (f.if-id_count-entries.false ∙ ap (λ (k : ℕ). a.n * k) w.wide.ensures),
-      eq-eqb a.distance-count (a.n * a.places) (omega (arith, c.if-distance_count-entries.false, ap (λ (k : ℕ). a.n * k) w.wide.ensures)),
+      eq-eqb a.id_count (a.n * a.places) (f.if-id_count-entries.false ∙ ap (λ (k : ℕ). a.n * k) w.wide.ensures),
+      eq-eqb a.distance_count (a.n * a.places) (omega (arith, c.if-distance_count-entries.false, ap (λ (k : ℕ). a.n * k) w.wide.ensures)),
     )
 
 pub table_number_spec : {M : Type 1} → statement M
