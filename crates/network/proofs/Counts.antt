@@ -144,10 +144,10 @@ member_at z (x ∷ xs) zero h = Memᴰ.head refl
 member_at z (x ∷ xs) (suc j) h = Memᴰ.tail (member_at z xs j (omega arith))
 
 -- and it is the same, whatever stands for a place behind the last
-pub getD_either : {A : Type 0} (y z : A) (xs : List A) (j : ℕ) → j < length xs → get_or xs j y ≡ get_or xs j z
-getD_either y z [] j h = absurd (omega arith)
-getD_either y z (x ∷ xs) zero h = refl
-getD_either y z (x ∷ xs) (suc j) h = getD_either y z xs j (omega arith)
+pub get_or_either : {A : Type 0} (y z : A) (xs : List A) (j : ℕ) → j < length xs → get_or xs j y ≡ get_or xs j z
+get_or_either y z [] j h = absurd (omega arith)
+get_or_either y z (x ∷ xs) zero h = refl
+get_or_either y z (x ∷ xs) (suc j) h = get_or_either y z xs j (omega arith)
 
 -- a rising list with one more behind all, and where a test says so
 one_more : (xs : List ℕ) (n : ℕ) → Ascending xs → ((x : ℕ) → Memᴰ x xs → x < n) → Ascending (xs ++ n ∷ [])

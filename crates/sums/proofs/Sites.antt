@@ -19,7 +19,7 @@ use Rattle.network.specs.Points.{lockers, marked, is_nearer, count_nearer, is_ex
 use Rattle.network.specs.Nearest.{key, nearest}
 use Rattle.network.specs.Households.{is_won}
 use Rattle.network.proofs.Tests.{alike, and_intro, and_parts}
-use Rattle.network.proofs.Counts.{member_at, getD_either}
+use Rattle.network.proofs.Counts.{member_at, get_or_either}
 use Rattle.network.proofs.Totals.{total_same, weighed_bit}
 use Rattle.network.proofs.Distances.{reached_less}
 use Rattle.network.proofs.Ordered.{below, at_above, at_below}
@@ -119,7 +119,7 @@ module _ {g : Network} (ok : Accepted g) (T : List ℕ) (h : ℕ) where
 
     last_distance : site_distance g T h j ≡ last.1
     unfolding site_distance
-    last_distance = ap (λ (x : ℕ × ℕ). x.1) (getD_either (NONE, NONE) (0, 0) near (j - 1) there)
+    last_distance = ap (λ (x : ℕ × ℕ). x.1) (get_or_either (NONE, NONE) (0, 0) near (j - 1) there)
 
     pub place : Place g T h j (site_distance g T h j)
     place = rw last_distance (record { less = less; few = few; many = many })
