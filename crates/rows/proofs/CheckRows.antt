@@ -107,7 +107,7 @@ module _ {xs ys : List ℕ} (s : Shape xs ys) where
       let r = in_shape (p, d) m in
       one_any (is_entry xs ys p d) (length xs) r.index (omega (arith, s.low, r.low))
       (entry_yes xs ys p d r.index (sym (ap (λ (z : ℕ × ℕ). z.0) r.is))
-      (eq-eqb (get_or ys r.index 0) d (sym (ap (λ (z : ℕ × ℕ). z.1) r.is))))
+      (sym (ap (λ (z : ℕ × ℕ). z.1) r.is)))
 
 -- how often an id stands among the places
 count_front : (t : ℕ → Bool) (n : ℕ) → count t (suc n) ≡ bit (t 0) + count (λ j. t (suc j)) n
@@ -238,7 +238,7 @@ module _ {P xs ys : List ℕ} (r : Good P xs ys) where
         or_left (any (is_within xs ys p d) (length xs)) _
         (one_any (is_within xs ys p d) (length xs) s.index (omega (arith, s.low, r.shape.low))
         (within_yes xs ys p d s.index (sym (ap (λ (z : ℕ × ℕ). z.0) s.is))
-        (le-leb (get_or ys s.index 0) d (omega (arith, ap (λ (z : ℕ × ℕ). z.1) s.is)))))
+        (omega (arith, ap (λ (z : ℕ × ℕ). z.1) s.is))))
     in_placed p d (full h) =
         let last : length xs - 1 < r.shape.size = omega (arith, shape_length r.shape, h.filled) in
         or_right (any (is_within xs ys p d) (length xs)) _

@@ -25,29 +25,29 @@ use Rattle.network.proofs.Lends.{mid_length, row_fits}
 
 -- one place
 module _ (xs ys : List ℕ) (p d j : ℕ) where
-  pub entry_yes : get_or xs j 0 ≡ p → eqb (get_or ys j 0) d ≡ true → is_entry xs ys p d j ≡ true
+  pub entry_yes : get_or xs j 0 ≡ p → get_or ys j 0 ≡ d → is_entry xs ys p d j ≡ true
   unfolding is_entry
-  entry_yes e f = and_intro (eqb (get_or xs j 0) p) _ (eq-eqb (get_or xs j 0) p e) f
+  entry_yes e f = and_intro (eqb (get_or xs j 0) p) _ (eq-eqb (get_or xs j 0) p e) (eq-eqb (get_or ys j 0) d f)
 
   pub entry_other : get_or xs j 0 ≢ p → is_entry xs ys p d j ≡ false
   unfolding is_entry
   entry_other n = and_left (eqb (get_or xs j 0) p) _ (ne_eqb (get_or xs j 0) p n)
 
-  pub entry_far : eqb (get_or ys j 0) d ≡ false → is_entry xs ys p d j ≡ false
+  pub entry_far : get_or ys j 0 ≢ d → is_entry xs ys p d j ≡ false
   unfolding is_entry
-  entry_far f = and_right (eqb (get_or xs j 0) p) _ f
+  entry_far n = and_right (eqb (get_or xs j 0) p) _ (ne_eqb (get_or ys j 0) d n)
 
-  pub within_yes : get_or xs j 0 ≡ p → leb (get_or ys j 0) d ≡ true → is_within xs ys p d j ≡ true
+  pub within_yes : get_or xs j 0 ≡ p → get_or ys j 0 ≤ d → is_within xs ys p d j ≡ true
   unfolding is_within
-  within_yes e f = and_intro (eqb (get_or xs j 0) p) _ (eq-eqb (get_or xs j 0) p e) f
+  within_yes e h = and_intro (eqb (get_or xs j 0) p) _ (eq-eqb (get_or xs j 0) p e) (le-leb (get_or ys j 0) d h)
 
   pub within_other : get_or xs j 0 ≢ p → is_within xs ys p d j ≡ false
   unfolding is_within
   within_other n = and_left (eqb (get_or xs j 0) p) _ (ne_eqb (get_or xs j 0) p n)
 
-  pub within_far : leb (get_or ys j 0) d ≡ false → is_within xs ys p d j ≡ false
+  pub within_far : d < get_or ys j 0 → is_within xs ys p d j ≡ false
   unfolding is_within
-  within_far f = and_right (eqb (get_or xs j 0) p) _ f
+  within_far h = and_right (eqb (get_or xs j 0) p) _ (lt-leb (get_or ys j 0) d h)
 
 -- the last place
 module _ (xs ys : List ℕ) (p d : ℕ) where

@@ -6,10 +6,10 @@ use mathlib.Core.Bool.{false}
 use lib.ListN.{length}
 use Rattle.network.specs.Count.{any}
 use Rattle.network.proofs.Tests.{any_start, any_more, found, not_found}
-use mathlib.Core.Logic.{⊎_elim}
 use Rattle.rows.specs.Check.{is_within, has_within}
 use Rattle.rows.proofs.CheckTests.{within_yes, within_other, within_far}
 use borrow.Author.Rules.{rules}
+use Rattle.rows.proofs.check.has_within.Lts.{else-q-p-via-then-q-p+else-e-d, else-q-p-via-else-q-p}
 use Rattle.rows.proofs.check.has_within.Statement.{statement}
 use Rattle.rows.proofs.check.has_within.Tie as tie
 
@@ -39,7 +39,7 @@ long-e-requires c κs = search rules
 
 returns-then-e-d : tie.Need-returns-then-e-d invariant-loop-j decreases-loop-j
 unfolding has_within
-returns-then-e-d c = found _ _ _ c.before.before.before.before.before.loop-j-test.true (within_yes _ _ _ _ _ c.before.else-q-p.true (rw c.before.before.long-e.ensures at c.if-e-d.true))
+returns-then-e-d c = found _ _ _ c.before.before.before.before.before.loop-j-test.true (within_yes _ _ _ _ _ c.if-q-p.true (rw c.long-e.ensures at c.if-e-d.true))
 
 overflow_add-j : tie.Need-overflow_add-j invariant-loop-j decreases-loop-j
 overflow_add-j c = search rules
@@ -48,7 +48,7 @@ loop-less : tie.Need-loop-j-smaller invariant-loop-j decreases-loop-j
 loop-less c = search rules
 
 loop-again : tie.Need-loop-j-preserved invariant-loop-j decreases-loop-j
-loop-again c = (search rules, any_more _ _ c.before.before.before.before.before.loop-j.invariant.1 (⊎_elim (λ a. within_far _ _ _ _ _ (rw c.before.long-e.ensures at a.1.left)) (λ a. within_other _ _ _ _ _ a.left) c.else-q-p.branch))
+loop-again c = (search rules, any_more _ _ c.before.before.before.before.before.loop-j.invariant.1 (elim c.else-q-p.branch [ else-q-p-via-then-q-p+else-e-d w ↦ within_far _ _ _ _ _ (rw c.long-e.ensures at w.if-e-d.false) | else-q-p-via-else-q-p w ↦ within_other _ _ _ _ _ w.if-q-p.false ]))
 
 returns : tie.Need-returns invariant-loop-j decreases-loop-j
 unfolding has_within

@@ -6,10 +6,10 @@ use mathlib.Core.Bool.{false}
 use lib.ListN.{length}
 use Rattle.network.specs.Count.{any}
 use Rattle.network.proofs.Tests.{any_start, any_more, found, not_found}
-use mathlib.Core.Logic.{⊎_elim}
 use Rattle.rows.specs.Check.{is_entry, row_holds}
 use Rattle.rows.proofs.CheckTests.{entry_yes, entry_other, entry_far}
 use borrow.Author.Rules.{rules}
+use Rattle.rows.proofs.check.holds.Lts.{else-q-p-via-then-q-p+else-e-d, else-q-p-via-else-q-p}
 use Rattle.rows.proofs.check.holds.Statement.{statement}
 use Rattle.rows.proofs.check.holds.Tie as tie
 
@@ -36,7 +36,7 @@ bounds-distances-j c = search rules
 
 returns-then-e-d : tie.Need-returns-then-e-d invariant-loop-j decreases-loop-j
 unfolding row_holds
-returns-then-e-d c = found _ _ _ c.before.before.before.before.loop-j-test.true (entry_yes _ _ _ _ _ c.before.else-q-p.true c.if-e-d.true)
+returns-then-e-d c = found _ _ _ c.before.before.before.before.loop-j-test.true (entry_yes _ _ _ _ _ c.if-q-p.true c.if-e-d.true)
 
 overflow_add-j : tie.Need-overflow_add-j invariant-loop-j decreases-loop-j
 overflow_add-j c = search rules
@@ -45,7 +45,7 @@ loop-less : tie.Need-loop-j-smaller invariant-loop-j decreases-loop-j
 loop-less c = search rules
 
 loop-again : tie.Need-loop-j-preserved invariant-loop-j decreases-loop-j
-loop-again c = (search rules, any_more _ _ c.before.before.before.before.loop-j.invariant.1 (⊎_elim (λ a. entry_far _ _ _ _ _ a.1.left) (λ a. entry_other _ _ _ _ _ a.left) c.else-q-p.branch))
+loop-again c = (search rules, any_more _ _ c.before.before.before.before.loop-j.invariant.1 (elim c.else-q-p.branch [ else-q-p-via-then-q-p+else-e-d w ↦ entry_far _ _ _ _ _ w.if-e-d.false | else-q-p-via-else-q-p w ↦ entry_other _ _ _ _ _ w.if-q-p.false ]))
 
 returns : tie.Need-returns invariant-loop-j decreases-loop-j
 unfolding row_holds

@@ -64,7 +64,7 @@ is_supported-requires c κs = let s = c.before.before.before.before.before.befor
 
 returns-then-not-is_supported : tie.Need-returns-then-not-is_supported invariant-loop-j decreases-loop-j
 unfolding unsupported
-returns-then-not-is_supported c = found _ _ _ (rw c.before.before.before.before.before.before.before.row_of-near.ensures at c.before.before.before.before.loop-j-test.true) (tested c.before ∙ c.if-not-is_supported.true)
+returns-then-not-is_supported c = found _ _ _ (rw c.before.before.before.before.before.before.before.row_of-near.ensures at c.before.before.before.before.loop-j-test.true) (tested c.before ∙ ap not c.if-not-is_supported.true)
 
 overflow_add-j : tie.Need-overflow_add-j invariant-loop-j decreases-loop-j
 overflow_add-j c = search rules
@@ -73,7 +73,7 @@ loop-less : tie.Need-loop-j-smaller invariant-loop-j decreases-loop-j
 loop-less c = search rules
 
 loop-again : tie.Need-loop-j-preserved invariant-loop-j decreases-loop-j
-loop-again c = (search rules, any_more _ _ c.before.before.before.before.before.loop-j.invariant.1 (tested c.before ∙ c.if-not-is_supported.false))
+loop-again c = (search rules, any_more _ _ c.before.before.before.before.before.loop-j.invariant.1 (tested c.before ∙ ap not c.if-not-is_supported.false))
 
 returns : tie.Need-returns invariant-loop-j decreases-loop-j
 unfolding unsupported

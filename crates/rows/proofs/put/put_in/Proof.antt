@@ -24,21 +24,16 @@ shape_of-distances c = search rules
 
 returns : tie.Need-returns
 returns c =
-    let e = c.before.before in
-    let i = e.before.before.before.before in
-    let o = i.before.before in
-    let s = o.before.before.before.before.before in
-    let a = s.args in
-    let same = insert_size o.place_of-at.result a.p a.ids-1.now in
+    let same = insert_size c.place_of-at.result c.args.p c.args.ids.now in
     record {
-      ids_size = rw i.insert_at.ensures same;
-      dists_size = rw e.insert_at-2.ensures (insert_size o.place_of-at.result a.d a.distances-1.now);
+      ids_size = rw c.insert_at.ensures same;
+      dists_size = rw c.insert_at-2.ensures (insert_size c.place_of-at.result c.args.d c.args.distances.now);
       row =
-          rw (i.insert_at.ensures, e.insert_at-2.ensures)
-          (put_row a.p a.d o.place_of-at.result a.ids-1.now a.distances-1.now s.requires o.place_of-at.ensures);
+          rw (c.insert_at.ensures, c.insert_at-2.ensures)
+          (put_row c.args.p c.args.d c.place_of-at.result c.args.ids.now c.args.distances.now c.requires c.place_of-at.ensures);
       taken =
-          ap (ltb o.place_of-at.result) (rw i.insert_at.ensures same)
-          ∙ put_taken a.p a.d o.place_of-at.result a.ids-1.now a.distances-1.now s.requires o.place_of-at.ensures;
+          ap (ltb c.place_of-at.result) (rw c.insert_at.ensures same)
+          ∙ put_taken c.args.p c.args.d c.place_of-at.result c.args.ids.now c.args.distances.now c.requires c.place_of-at.ensures;
     }
 
 pub put_in_spec : {M : Type 1} → statement M

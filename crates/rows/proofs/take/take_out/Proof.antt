@@ -13,7 +13,7 @@ shape_of-ids-then-c-all : tie.Need-shape_of-ids-then-c-all
 shape_of-ids-then-c-all c = search rules
 
 returns-then-c-all : tie.Need-returns-then-c-all
-returns-then-c-all c = record { ids_size = refl; dists_size = refl; row = refl; was = has_not_all _ _ _ _ _ c.before.among-c.ensures c.if-c-all.true }
+returns-then-c-all c = record { ids_size = refl; dists_size = refl; row = refl; was = has_not_all _ _ _ _ _ c.among-c.ensures c.if-c-all.true }
 
 place_of_point-at-requires : tie.Need-place_of_point-at-requires
 place_of_point-at-requires c κs = search rules
@@ -32,16 +32,13 @@ shape_of-distances c = search rules
 
 returns : tie.Need-returns
 returns c =
-    let e = c.before.before in
-    let i = e.before.before.before.before in
-    let o = i.before.before in
-    let f = i.take_at.ensures in
-    let g = e.take_at-2.ensures in
+    let f = c.take_at.ensures in
+    let g = c.take_at-2.ensures in
     record {
       ids_size = f.size;
       dists_size = g.size;
-      row = taken_row (search rules) o.place_of_point-at.ensures f g;
-      was = has_all_lem _ _ _ _ _ o.before.before.before.among-c.ensures o.before.before.if-c-all.false;
+      row = taken_row (search rules) c.place_of_point-at.ensures f g;
+      was = has_all_lem _ _ _ _ _ c.among-c.ensures c.if-c-all.false;
     }
 
 pub take_out_spec : {M : Type 1} → statement M
