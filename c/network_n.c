@@ -1,6 +1,6 @@
 /* Network N of document 01 through every call of overlap.h.
  *
- * From the repository root, with the library that `rt staticlib overlap` builds:
+ * From the repository root, with the library that `tools/staticlib` builds:
  *
  *     cc -std=c11 -Wall -Wextra -Wpedantic -Werror -Iinclude c/network_n.c target/staticlib/liboverlap.a -o target/network_n
  *     target/network_n

@@ -1,4 +1,4 @@
-//! Links the engine's static library, which `rt staticlib overlap` builds from the repository root.
+//! Links the engine's static library, which `tools/staticlib` builds from the repository root.
 
 use std::env;
 use std::path::Path;
@@ -8,7 +8,7 @@ fn main() {
     let directory = format!("{root}/../target/staticlib");
     let library = format!("{directory}/liboverlap.a");
     if !Path::new(&library).exists() {
-        println!("cargo:warning=liboverlap.a is missing: `rt staticlib overlap` builds it");
+        println!("cargo:warning=liboverlap.a is missing: `tools/staticlib` builds it");
     }
     println!("cargo:rustc-link-search=native={directory}");
     println!("cargo:rustc-link-lib=static=overlap");

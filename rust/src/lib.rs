@@ -65,7 +65,7 @@
 //! ```
 //!
 //! Your crate depends on this one by its path, as in `overlap = { path = "../overlap/rust" }`. It
-//! links `target/staticlib/liboverlap.a`, which `rt staticlib overlap` writes, run in the
+//! links `target/staticlib/liboverlap.a`, which `tools/staticlib` writes, run in the
 //! repository's root.
 //!
 //! The proof covers the engine. It does not cover this crate: the tests compare its C declarations

@@ -187,15 +187,15 @@ fn edit(path: &Path) -> String {
 }
 
 /// A type and the function of its values, and an answer of `src/` with what it answers: pairs that may
-/// differ in case only.
+/// differ in case and underscores only.
 const PAIRS: [[&str; 2]; 7] = [
-    ["BuildOutcome", "buildOutcome"],
-    ["EntriesOutcome", "entriesOutcome"],
-    ["EagerOutcome", "eagerOutcome"],
+    ["BuildOutcome", "build_outcome"],
+    ["EntriesOutcome", "entries_outcome"],
+    ["EagerOutcome", "eager_outcome"],
     ["Listed", "listed"],
-    ["NearestOutcome", "nearestOutcome"],
+    ["NearestOutcome", "nearest_outcome"],
     ["Network", "network"],
-    ["VerifyOutcome", "verifyOutcome"],
+    ["VerifyOutcome", "verify_outcome"],
 ];
 
 #[test]
@@ -203,7 +203,8 @@ fn a_name_of_specs_means_one_thing() {
     let mut names: BTreeMap<String, Vec<String>> = BTreeMap::new();
     let types = public("src", &["struct", "enum"]);
     for name in public("specs", &[]).into_iter().chain(types) {
-        names.entry(name.to_lowercase()).or_default().push(name);
+        let letters = name.to_lowercase().replace('_', "");
+        names.entry(letters).or_default().push(name);
     }
     assert!(names.len() > 500, "only {} names were found", names.len());
     for same in names.values_mut().filter(|same| same.len() > 1) {

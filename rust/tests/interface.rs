@@ -1,10 +1,11 @@
-//! The three texts that state the C interface: `include/overlap.h`, the wrapper's declarations and
-//! the engine's exported functions. Nothing else compares them, as a linker knows names alone.
+//! The texts that state the C interface: `include/overlap.h`, the wrapper's declarations, the exported
+//! functions and the engine's, which they call. Nothing else compares them, as a linker knows names alone.
 
 use std::collections::BTreeMap;
 
 const HEADER: &str = include_str!("../../include/overlap.h");
 const WRAPPER: &str = include_str!("../src/calls/ffi.rs");
+const EXPORTS: &str = include_str!("../../crates/overlap_c/src/lib.rt");
 const ENGINE: &str = include_str!("../../crates/overlap/src/lib.rt");
 const ANSWERS: &str = include_str!("../../crates/conditions/src/answers.rt");
 
@@ -175,10 +176,11 @@ impl EngineCalls {
 }
 
 #[test]
-fn the_calls_are_the_same_in_all_three() {
+fn the_calls_are_the_same_in_all_texts() {
     let header = header::calls();
     assert_eq!(header.len(), 18);
     assert_eq!(rust::calls(WRAPPER), header);
+    assert_eq!(rust::calls(EXPORTS), header);
     assert_eq!(EngineCalls::read().exported, header);
 }
 
