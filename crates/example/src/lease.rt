@@ -4,23 +4,24 @@ use network_n::same::same;
 use network_n::text::{put, put_entry, put_list, put_number};
 use network_n::{POINTS, WEIGHTS};
 use overlap::Listing;
+use std::io;
 
 // A list as a person says it: "locker 2", "lockers 2 and 4". No list is longer than 6.
-fn put_lockers(answers: &[u32; 6], count: usize) {
+fn put_lockers(rt: &impl Print, answers: &[u32; 6], count: usize) -> io::Result<()> {
     if count == 0 {
-        put(b"no locker");
-        return;
+        return put(rt, b"no locker");
     }
     if count == 1 {
-        put(b"locker ");
+        put(rt, b"locker ")?;
     } else {
-        put(b"lockers ");
-        put_list(answers, count - 1);
-        put(b" and ");
+        put(rt, b"lockers ")?;
+        put_list(rt, answers, count - 1)?;
+        put(rt, b" and ")?;
     }
     if count <= 6 {
-        put_entry(answers[count - 1]);
+        put_entry(rt, answers[count - 1])?;
     }
+    Ok(())
 }
 
 // Whether a search gave the list that eager gave. Behind their lists both arrays are zero, as they were lent.
@@ -48,35 +49,45 @@ fn agree(
         && is_list(list, count, &by_table, table)
 }
 
-fn show_lease(q: u32, k: u32, ids: &[u32; 18], distances: &[u32; 18]) {
+fn show_lease(
+    rt: &impl Print,
+    q: u32,
+    k: u32,
+    ids: &[u32; 18],
+    distances: &[u32; 18],
+) -> io::Result<()> {
     let mut answers = [0; 6];
     let mut visits = [0; 6];
     let listing = network_n::eager(&WEIGHTS, &POINTS, q, k, 65535, &mut answers, &mut visits);
-    put_number(b"  a site at junction ", q);
-    put_number(b", k ", k);
-    put(b": overflow rent to ");
-    put_lockers(&answers, listing.length);
+    put_number(rt, b"  a site at junction ", q)?;
+    put_number(rt, b", k ", k)?;
+    put(rt, b": overflow rent to ")?;
+    put_lockers(rt, &answers, listing.length)?;
     if listing.number == 0 && agree(q, k, &answers, listing.length, ids, distances) {
-        put(b" (all four agree)\n");
+        put(rt, b" (all four agree)\n")
     } else {
-        put(b" (the four differ)\n");
+        put(rt, b" (the four differ)\n")
     }
 }
 
-fn show_leases(k: u32, ids: &[u32; 18], distances: &[u32; 18]) {
+fn show_leases(rt: &impl Print, k: u32, ids: &[u32; 18], distances: &[u32; 18]) -> io::Result<()> {
     let mut q = 0;
     while q < 6 {
-        show_lease(q, k, ids, distances);
+        show_lease(rt, q, k, ids, distances)?;
         q += 1;
     }
+    Ok(())
 }
 
-pub fn show() {
+pub fn show(rt: &impl Print) -> io::Result<()> {
     let mut ids = [0; 18];
     let mut distances = [0; 18];
     network_n::build(3, &mut ids, &mut distances);
-    put(b"Lease list, searched by eager, lazy, lazy-EP and the table query\n");
-    show_leases(1, &ids, &distances);
-    show_leases(2, &ids, &distances);
-    put(b"\n");
+    put(
+        rt,
+        b"Lease list, searched by eager, lazy, lazy-EP and the table query\n",
+    )?;
+    show_leases(rt, 1, &ids, &distances)?;
+    show_leases(rt, 2, &ids, &distances)?;
+    put(rt, b"\n")
 }

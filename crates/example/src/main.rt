@@ -1,8 +1,10 @@
 // Network N of document 01 through every public call, with its cases P1 to P10, the lease list, sites against a rival's, routes and
 // the twelve refusals.
 #![tactic(auto)]
+
 use network_n::refusals;
 use network_n::text::put;
+use std::io;
 
 mod cases;
 mod lease;
@@ -11,8 +13,9 @@ mod rivals;
 mod streets;
 mod updates;
 
-fn show_network() {
+fn show_network(rt: &impl Print) -> io::Result<()> {
     put(
+        rt,
         b"Network N of document 01: 6 junctions, 5 roads. A star marks a locker.
 
          4         3
@@ -24,26 +27,26 @@ fn show_network() {
               3
 
 ",
-    );
+    )
 }
 
-fn main() {
-    show_network();
-    queries::show_check();
-    queries::show_distances();
-    queries::show_nearest();
-    queries::show_verify();
-    cases::show_searches();
-    cases::show_rows();
-    updates::show_build();
-    updates::show_updates();
-    updates::show_second();
-    lease::show();
-    rivals::show_households();
-    rivals::show_nearer_rows();
-    streets::show_routes();
-    refusals::show_networks();
-    refusals::show_arguments();
-    refusals::show_short_answers();
-    refusals::show_last();
+fn main(rt: HostRuntime) -> io::Result<()> {
+    show_network(&rt)?;
+    queries::show_check(&rt)?;
+    queries::show_distances(&rt)?;
+    queries::show_nearest(&rt)?;
+    queries::show_verify(&rt)?;
+    cases::show_searches(&rt)?;
+    cases::show_rows(&rt)?;
+    updates::show_build(&rt)?;
+    updates::show_updates(&rt)?;
+    updates::show_second(&rt)?;
+    lease::show(&rt)?;
+    rivals::show_households(&rt)?;
+    rivals::show_nearer_rows(&rt)?;
+    streets::show_routes(&rt)?;
+    refusals::show_networks(&rt)?;
+    refusals::show_arguments(&rt)?;
+    refusals::show_short_answers(&rt)?;
+    refusals::show_last(&rt)
 }

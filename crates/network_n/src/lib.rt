@@ -2,6 +2,7 @@
 // Insert, remove and the table check are lent a table with K = 2. And what the programs on N share: how they write, its rows, whether two arrays are the
 // same, and the refusals.
 #![tactic(auto)]
+
 use overlap::{Listing, RowPart, Update, Verdict};
 
 pub mod refusals;

@@ -1,40 +1,46 @@
 // The twelve numbers of refusal, each with the example that document 01 gives, 6 and 11 with those of Ask 8.
 use crate::text::{put, put_refusal};
 use crate::{NEIGHBOURS, POINTS, SCRATCH, STARTS, WEIGHTS};
+use std::io;
 
-fn show(example: &[u8], number: u32) {
-    put(example);
-    put_refusal(number);
-    put(b"\n");
+fn show(rt: &impl Print, example: &[u8], number: u32) -> io::Result<()> {
+    put(rt, example)?;
+    put_refusal(rt, number)?;
+    put(rt, b"\n")
 }
 
 // 1 to 5, by the network check.
-pub fn show_networks() {
-    put(b"Refusals: the examples of document 01\n");
+pub fn show_networks(rt: &impl Print) -> io::Result<()> {
+    put(rt, b"Refusals: the examples of document 01\n")?;
     show(
+        rt,
         b"  starts of 1 entry",
         overlap::overlap_network_check(&[0], &[], &[]),
-    );
+    )?;
     show(
+        rt,
         b"  starts 0, 2, 1",
         overlap::overlap_network_check(&[0, 2, 1], &[1], &[4]),
-    );
+    )?;
     show(
+        rt,
         b"  n = 2, node 0 to 0",
         overlap::overlap_network_check(&[0, 1, 2], &[0, 0], &[4, 4]),
-    );
+    )?;
     show(
+        rt,
         b"  weight 65,536",
         overlap::overlap_network_check(&[0, 1, 2], &[1, 0], &[65536, 65536]),
-    );
+    )?;
     show(
+        rt,
         b"  0 to 1 of 4, 1 to 0 of 5",
         overlap::overlap_network_check(&[0, 1, 2], &[1, 0], &[4, 5]),
-    );
+    )
 }
 
 // 6, 7 and 9: N with a byte 16, node 6, and K = 2 with k = 2.
-pub fn show_arguments() {
+pub fn show_arguments(rt: &impl Print) -> io::Result<()> {
     let mut answers = [0; 6];
     let mut visits = [0; 6];
     let byte = crate::eager(
@@ -46,15 +52,15 @@ pub fn show_arguments() {
         &mut answers,
         &mut visits,
     );
-    show(b"  N, byte 16", byte.number);
-    show(b"  N, node 6", crate::distances(6, &mut answers));
-    show_short_ids();
+    show(rt, b"  N, byte 16", byte.number)?;
+    show(rt, b"  N, node 6", crate::distances(6, &mut answers))?;
+    show_short_ids(rt)?;
     let query = crate::table_query(0, 2, 2, &[0; 12], &[0; 12], &mut answers);
-    show(b"  K = 2, k = 2", query.number);
+    show(rt, b"  K = 2, k = 2", query.number)
 }
 
 // 8: a table array that is not n × K long.
-fn show_short_ids() {
+fn show_short_ids(rt: &impl Print) -> io::Result<()> {
     let mut scratch = [0; SCRATCH];
     let mut ids = [0; 11];
     let mut distances = [0; 12];
@@ -68,11 +74,11 @@ fn show_short_ids() {
         &mut ids,
         &mut distances,
     );
-    show(b"  N, K = 2, 11 ids", number);
+    show(rt, b"  N, K = 2, 11 ids", number)
 }
 
 // 10: an array for answers that is shorter than n.
-pub fn show_short_answers() {
+pub fn show_short_answers(rt: &impl Print) -> io::Result<()> {
     let mut scratch = [0; SCRATCH];
     let mut answers = [0; 5];
     let listing = overlap::overlap_lazy(
@@ -85,19 +91,19 @@ pub fn show_short_answers() {
         &mut scratch,
         &mut answers,
     );
-    show(b"  N, 5 answer places", listing.number);
+    show(rt, b"  N, 5 answer places", listing.number)
 }
 
 // 11 and 12: removal where no locker stands, and a limit below eager's count.
-pub fn show_last() {
+pub fn show_last(rt: &impl Print) -> io::Result<()> {
     let mut points = POINTS;
     let mut ids = [0; 12];
     let mut distances = [0; 12];
     crate::build(2, &mut ids, &mut distances);
     let update = crate::remove(&mut points, 0, &mut ids, &mut distances);
-    show(b"  N, remove 0", update.number);
+    show(rt, b"  N, remove 0", update.number)?;
     let mut answers = [0; 6];
     let mut visits = [0; 6];
     let listing = crate::eager(&WEIGHTS, &POINTS, 0, 2, 3, &mut answers, &mut visits);
-    show(b"  N, q = 0, k = 2, limit 3", listing.number);
+    show(rt, b"  N, q = 0, k = 2, limit 3", listing.number)
 }

@@ -3,40 +3,42 @@ ghost use Rattle.std.specs.Prelude.{◌<◌};
 
 use crate::text::{put, put_entry, put_number};
 use network::arcs::wide;
+use std::io;
 
 // One place of a row, as "(2, 7)".
-fn put_place(id: u32, distance: u32) {
-    put(b"(");
-    put_entry(id);
-    put(b", ");
-    put_entry(distance);
-    put(b")");
+fn put_place(rt: &impl Print, id: u32, distance: u32) -> io::Result<()> {
+    put(rt, b"(")?;
+    put_entry(rt, id)?;
+    put(rt, b", ")?;
+    put_entry(rt, distance)?;
+    put(rt, b")")
 }
 
 // The row of a node, as "(2, 7), (4, 8)".
-pub fn put_row(ids: &[u32; 12], distances: &[u32; 12], node: u32)
+pub fn put_row(rt: &impl Print, ids: &[u32; 12], distances: &[u32; 12], node: u32) -> io::Result<()>
     requires { node < 6 }
 {
     let first = 2 * wide(node);
     let second = first + 1;
-    put_place(ids[first], distances[first]);
-    put(b", ");
-    put_place(ids[second], distances[second]);
+    put_place(rt, ids[first], distances[first])?;
+    put(rt, b", ")?;
+    put_place(rt, ids[second], distances[second])
 }
 
-fn show_row(ids: &[u32; 12], distances: &[u32; 12], node: u32)
+fn show_row(rt: &impl Print, ids: &[u32; 12], distances: &[u32; 12], node: u32) -> io::Result<()>
     requires { node < 6 }
 {
-    put_number(b"    row ", node);
-    put(b": ");
-    put_row(ids, distances, node);
-    put(b"\n");
+    put_number(rt, b"    row ", node)?;
+    put(rt, b": ")?;
+    put_row(rt, ids, distances, node)?;
+    put(rt, b"\n")
 }
 
-pub fn show_rows(ids: &[u32; 12], distances: &[u32; 12]) {
+pub fn show_rows(rt: &impl Print, ids: &[u32; 12], distances: &[u32; 12]) -> io::Result<()> {
     let mut node = 0;
     while node < 6 {
-        show_row(ids, distances, node);
+        show_row(rt, ids, distances, node)?;
         node += 1;
     }
+    Ok(())
 }
