@@ -1,5 +1,6 @@
 // Ask 1's row: of an own table and a rival's, the row whose first entry is nearer, as the part of the lent array that it is. Document 02, Ask 1.
 #![tactic(auto)]
+
 ghost use Rattle.std.specs.Prelude.{◌≡◌};
 ghost use Rattle.network.specs.Network.{network};
 ghost use Rattle.nearer_row.specs.Nearer.{own_nearer, nearer_row, row_number, row_outcome};

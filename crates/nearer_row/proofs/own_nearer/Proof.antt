@@ -18,13 +18,13 @@ own-some : (c : tie.After-row_of-rival_row) → 0 < length c.before.row_of-own_r
 own-some c =
     let s = start c in
     let a = s.args in
-    omega (arith, ap length c.before.row_of-own_row.ensures, row_part_length a.places a.i a.own.now s.pre.in_own, s.pre.some)
+    omega (arith, ap length c.before.row_of-own_row.ensures, row_part_length a.places a.i a.own.now s.requires.in_own, s.requires.some)
 
 rival-some : (c : tie.After-row_of-rival_row) → 0 < length c.row_of-rival_row.result.now
 rival-some c =
     let s = start c in
     let a = s.args in
-    omega (arith, ap length c.row_of-rival_row.ensures, row_part_length a.places a.i a.rival.now s.pre.in_rival, s.pre.some)
+    omega (arith, ap length c.row_of-rival_row.ensures, row_part_length a.places a.i a.rival.now s.requires.in_rival, s.requires.some)
 
 row_of-own_row-requires : tie.Need-row_of-own_row-requires
 row_of-own_row-requires c κs = search rules

@@ -20,7 +20,7 @@ returns-then-refusal-ne0 c =
     let n = c.before in
     let s = start n in
     let a = s.args in
-    part_refused (G s) a.junction a.places a.own-ids.now a.own-distances.now a.rival-ids.now a.rival-distances.now n.number-refusal.result n.number-refusal.ensures c.if-refusal-ne0.true
+    part_refused (G s) a.junction a.places a.own_ids.now a.own_distances.now a.rival_ids.now a.rival_distances.now n.number-refusal.result n.number-refusal.ensures c.if-refusal-ne0.true
 
 wide-requires : tie.Need-wide-requires
 wide-requires c κs = search rules
@@ -33,14 +33,14 @@ nearer_part-requires c κs =
     let n = c.before.before.before in
     let s = start n in
     let a = s.args in
-    rw (c.before.wide.ensures, c.wide-2.ensures) (row_fit (G s) a.junction a.places a.own-ids.now a.own-distances.now a.rival-ids.now a.rival-distances.now n.number-refusal.result n.number-refusal.ensures c.before.before.if-refusal-ne0.false)
+    rw (c.before.wide.ensures, c.wide-2.ensures) (row_fit (G s) a.junction a.places a.own_ids.now a.own_distances.now a.rival_ids.now a.rival_distances.now n.number-refusal.result n.number-refusal.ensures c.before.before.if-refusal-ne0.false)
 
 returns : tie.Need-returns
 returns c =
     let n = c.before.before.before.before in
     let s = start n in
     let a = s.args in
-    part_accepted (G s) a.junction a.places a.own-ids.now a.own-distances.now a.rival-ids.now a.rival-distances.now n.number-refusal.result n.number-refusal.ensures c.before.before.before.if-refusal-ne0.false
+    part_accepted (G s) a.junction a.places a.own_ids.now a.own_distances.now a.rival_ids.now a.rival_distances.now n.number-refusal.result n.number-refusal.ensures c.before.before.before.if-refusal-ne0.false
     (rw (c.before.before.wide.ensures, c.before.wide-2.ensures) at c.nearer_part.ensures)
 
 pub part_spec : {M : Type 1} → statement M

@@ -21,10 +21,10 @@ slice_bounds-result-end c = search rules
 
 returns-then-refusal-ne0 : tie.Need-returns-then-refusal-ne0
 returns-then-refusal-ne0 c =
-    let n = c.before.before in
+    let n = c.before in
     let s = start n in
     let a = s.args in
-    row_refused (G s) a.junction a.places a.own-ids.now a.own-distances.now a.rival-ids.now a.rival-distances.now n.number-refusal.result n.number-refusal.ensures c.before.if-refusal-ne0.true
+    row_refused (G s) a.junction a.places a.own_ids.now a.own_distances.now a.rival_ids.now a.rival_distances.now n.number-refusal.result n.number-refusal.ensures c.if-refusal-ne0.true
 
 wide-requires : tie.Need-wide-requires
 wide-requires c κs = search rules
@@ -37,14 +37,14 @@ nearer_row-requires c κs =
     let n = c.before.before.before in
     let s = start n in
     let a = s.args in
-    rw (c.before.wide.ensures, c.wide-2.ensures) (row_fit (G s) a.junction a.places a.own-ids.now a.own-distances.now a.rival-ids.now a.rival-distances.now n.number-refusal.result n.number-refusal.ensures c.before.before.if-refusal-ne0.false)
+    rw (c.before.wide.ensures, c.wide-2.ensures) (row_fit (G s) a.junction a.places a.own_ids.now a.own_distances.now a.rival_ids.now a.rival_distances.now n.number-refusal.result n.number-refusal.ensures c.before.before.if-refusal-ne0.false)
 
 returns : tie.Need-returns
 returns c =
     let n = c.before.before.before.before in
     let s = start n in
     let a = s.args in
-    let h = row_accepted (G s) a.junction a.places a.own-ids.now a.own-distances.now a.rival-ids.now a.rival-distances.now n.number-refusal.result n.number-refusal.ensures c.before.before.before.if-refusal-ne0.false in
+    let h = row_accepted (G s) a.junction a.places a.own_ids.now a.own_distances.now a.rival_ids.now a.rival_distances.now n.number-refusal.result n.number-refusal.ensures c.before.before.before.if-refusal-ne0.false in
     rw (c.before.before.wide.ensures, c.before.wide-2.ensures) at c.nearer_row.ensures ∙ h
 
 pub row_spec : {M : Type 1} → statement M
