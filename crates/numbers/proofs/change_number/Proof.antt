@@ -61,24 +61,16 @@ unmarked_number-requires c κs = search rules
 returns-in-Insert : tie.Need-returns-in-Insert
 unfolding change_number
 returns-in-Insert c =
-    let t = c.before in
-    let e = t.before.before in
-    let d = e.before.before in
-    let s = start d.before in
-    first_later _ _ _ _ d.before.table_node_number-number.ensures d.if-number-ne0.false
-    (first_later _ _ _ _ e.before.scratch_number-number.ensures e.if-number-ne0-2.false
-    (first_last _ _ (c.full_number.ensures ∙ ap (λ (k : Kind). kind_number k s.args.points.now s.args.node) (sym t.enum_told-1.given.1))))
+    first_later _ _ _ _ c.table_node_number-number.ensures c.if-number-ne0.false
+    (first_later _ _ _ _ c.scratch_number-number.ensures c.if-number-ne0-2.false
+    (first_last _ _ (c.full_number.ensures ∙ ap (λ (k : Kind). kind_number k c.args.points.now c.args.node) (sym c.in-Insert.is))))
 
 returns-in-Remove : tie.Need-returns-in-Remove
 unfolding change_number
 returns-in-Remove c =
-    let t = c.before in
-    let e = t.before.before in
-    let d = e.before.before in
-    let s = start d.before in
-    first_later _ _ _ _ d.before.table_node_number-number.ensures d.if-number-ne0.false
-    (first_later _ _ _ _ e.before.scratch_number-number.ensures e.if-number-ne0-2.false
-    (first_last _ _ (c.unmarked_number.ensures ∙ ap (λ (k : Kind). kind_number k s.args.points.now s.args.node) (sym t.enum_told-in-Remove-1.given.1))))
+    first_later _ _ _ _ c.table_node_number-number.ensures c.if-number-ne0.false
+    (first_later _ _ _ _ c.scratch_number-number.ensures c.if-number-ne0-2.false
+    (first_last _ _ (c.unmarked_number.ensures ∙ ap (λ (k : Kind). kind_number k c.args.points.now c.args.node) (sym c.in-Remove.is))))
 
 pub change_number_spec : {M : Type 1} → statement M
 change_number_spec =
