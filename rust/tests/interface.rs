@@ -176,7 +176,7 @@ impl EngineCalls {
 }
 
 #[test]
-fn the_calls_are_the_same_in_all_texts() {
+fn the_calls_are_the_same_in_all_three() {
     let header = header::calls();
     assert_eq!(header.len(), 18);
     assert_eq!(rust::calls(WRAPPER), header);
