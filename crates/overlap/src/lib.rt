@@ -1,6 +1,7 @@
-// The public calls of the overlap engine, as include/overlap.h declares them, and `overlap_nearer_row`, which returns a reference and is for Rattle alone. None
-// has a requires: bad input is refused by its number.
+// The public calls of the overlap engine, as include/overlap.h declares them (the crate `overlap_c` exports them to C), and `overlap_nearer_row`, which returns a
+// reference and is for Rattle alone. None has a requires: bad input is refused by its number.
 #![tactic(auto)]
+
 ghost use Rattle.std.specs.Prelude.{◌≡◌};
 ghost use Rattle.network.specs.Network.{network};
 ghost use Rattle.network.specs.Check.{network_number};
@@ -34,8 +35,7 @@ use table_calls::{build, table_check, table_query, updated};
 // The network check. Lent: the three network arrays, of any lengths and values, and nothing is written. Returned: 0 for an accepted network, or
 // the number of the first condition met, 1 to 5. Document 01: 'Network check: the three network arrays alone; the answer is its number, 0 or 1
 // to 5.'
-#[unsafe(no_mangle)]
-pub extern "C" fn overlap_network_check(starts: &[u32], neighbours: &[u32], weights: &[u32]) -> u32
+pub fn overlap_network_check(starts: &[u32], neighbours: &[u32], weights: &[u32]) -> u32
     ensures { result ≡ network_number (network starts.now neighbours.now weights.now) }
 {
     network::check::network_number(starts, neighbours, weights)
@@ -44,8 +44,7 @@ pub extern "C" fn overlap_network_check(starts: &[u32], neighbours: &[u32], weig
 // Distances from a node. Lent: the network, scratch of S entries with m = 1, and an array for n answers. Returned: 0, or 1 to 5, 7, 10. Accepted:
 // the answers are the n distances, NONE where none, then the old entries, and the whole scratch is zero. Refused: nothing is written. Document
 // 01: 'Distances from a node: n entries, NONE where none.'
-#[unsafe(no_mangle)]
-pub extern "C" fn overlap_distances(
+pub fn overlap_distances(
     starts: &[u32],
     neighbours: &[u32],
     weights: &[u32],
@@ -64,8 +63,7 @@ pub extern "C" fn overlap_distances(
 // points were found, or 1 to 5, 6, 7, 9, 10. Accepted: the ids and the distances of the points p with d(node, p) < e, by distance then node, a node
 // for each of its lockers, cut after the first k, then the old entries, and the whole scratch is zero. Refused: nothing is written. Document 01:
 // 'Nearest: the points p with d(node, p) < e, e any 32-bit number, by distance then node, cut after the first k; ids and distances in two arrays.'
-#[unsafe(no_mangle)]
-pub extern "C" fn overlap_nearest(
+pub fn overlap_nearest(
     starts: &[u32],
     neighbours: &[u32],
     weights: &[u32],
@@ -88,8 +86,7 @@ pub extern "C" fn overlap_nearest(
 
 // Verify. Lent: the network, the points and scratch of 12 × n entries (Ask 5). Returned: number 0 and yes or no, or 1 to 5, 6, 7, 9, 10, 11.
 // Accepted: the whole scratch is zero. Refused: nothing is written. Document 01: 'Verify: for a marked p and q, yes or no by the rule above.'
-#[unsafe(no_mangle)]
-pub extern "C" fn overlap_verify(
+pub fn overlap_verify(
     starts: &[u32],
     neighbours: &[u32],
     weights: &[u32],
@@ -112,8 +109,7 @@ pub extern "C" fn overlap_verify(
 // 12 leaves the whole scratch zero. Document 01: 'Eager (000, Fig. 4): expands outward from q, stops behind a node with k points strictly nearer than
 // q. It takes a 32-bit limit and returns the list and the count of nodes expanded.' Document 02: 'Eager also lists the nodes that its count counts, by
 // distance from the site and then by node'.
-#[unsafe(no_mangle)]
-pub extern "C" fn overlap_eager(
+pub fn overlap_eager(
     starts: &[u32],
     neighbours: &[u32],
     weights: &[u32],
@@ -137,8 +133,7 @@ pub extern "C" fn overlap_eager(
 // The short query. Lent: the network, the points, scratch of 12 × n entries (Ask 5), and an array for n answers. Returned and left: as eager with k =
 // 2 and limit 65,535, which no count exceeds, but for the visits: it lists none (Ask 4). Document 01: 'The short query: no k and no limit; eager with
 // [..] limit 65,535.' Document 02 (Ask 10): 'The short query takes k = 2 from now on.'
-#[unsafe(no_mangle)]
-pub extern "C" fn overlap_short_query(
+pub fn overlap_short_query(
     starts: &[u32],
     neighbours: &[u32],
     weights: &[u32],
@@ -157,8 +152,7 @@ pub extern "C" fn overlap_short_query(
 // Lazy. Lent: the network, the points, scratch of S entries with m = k, and an array for n answers. Returned: number 0 and the length of the list,
 // or 1 to 5, 6, 7, 9, 10. Accepted: the answers are the listed points, ascending, then the old entries, and the whole scratch is zero. Refused:
 // nothing is written. Document 01: 'Lazy (000, 3.3) and lazy-EP (000, 4.2): the list.'
-#[unsafe(no_mangle)]
-pub extern "C" fn overlap_lazy(
+pub fn overlap_lazy(
     starts: &[u32],
     neighbours: &[u32],
     weights: &[u32],
@@ -186,8 +180,7 @@ pub extern "C" fn overlap_lazy(
 }
 
 // Lazy with extended pruning. Lent, returned and left: as lazy.
-#[unsafe(no_mangle)]
-pub extern "C" fn overlap_lazy_ep(
+pub fn overlap_lazy_ep(
     starts: &[u32],
     neighbours: &[u32],
     weights: &[u32],
@@ -216,8 +209,7 @@ pub extern "C" fn overlap_lazy_ep(
 
 // Build. Lent: the network, the points, scratch of S entries with m = K, and both table arrays of any contents. Returned: 0, or 1 to 5, 6, 8, 10.
 // Accepted: both arrays are the table of the points, and the whole scratch is zero. Refused: nothing is written. Document 01: 'Build fills it.'
-#[unsafe(no_mangle)]
-pub extern "C" fn overlap_build(
+pub fn overlap_build(
     starts: &[u32],
     neighbours: &[u32],
     weights: &[u32],
@@ -241,8 +233,7 @@ pub extern "C" fn overlap_build(
 // whole scratch is zero; of a table that the check would deny nothing is said but its length and that the count is at most n. Refused: nothing is
 // written. Document 01 with Ask 8: 'Insert adds one, remove takes one'; 'each brings the table up to date and returns the number of rows whose
 // contents differ before and after.'
-#[unsafe(no_mangle)]
-pub extern "C" fn overlap_insert(
+pub fn overlap_insert(
     starts: &[u32],
     neighbours: &[u32],
     weights: &[u32],
@@ -273,8 +264,7 @@ pub extern "C" fn overlap_insert(
 }
 
 // Remove. Lent, returned and left: as insert, but the node has one locker less.
-#[unsafe(no_mangle)]
-pub extern "C" fn overlap_remove(
+pub fn overlap_remove(
     starts: &[u32],
     neighbours: &[u32],
     weights: &[u32],
@@ -306,8 +296,7 @@ pub extern "C" fn overlap_remove(
 
 // The table check. Lent: the network, the points and both table arrays of any contents, and nothing is written. Returned: number 0 and yes or no, or
 // 1 to 5, 6, 8. Document 01: 'Table check: yes exactly when both arrays are the table that build would write, whoever filled them.'
-#[unsafe(no_mangle)]
-pub extern "C" fn overlap_table_check(
+pub fn overlap_table_check(
     starts: &[u32],
     neighbours: &[u32],
     weights: &[u32],
@@ -326,8 +315,7 @@ pub extern "C" fn overlap_table_check(
 // and the length of the list, or 1 to 5, 6, 7, 8, 9, 10. Accepted: the answers are the listed points, ascending, then the old entries, and the whole
 // scratch is zero; with a table that the check would deny they are some points, ascending. Refused: nothing is written. Document 01: 'Table query
 // (eager-M): the list, k from 1 to K - 1, since a point's row spends one place on itself.'
-#[unsafe(no_mangle)]
-pub extern "C" fn overlap_table_query(
+pub fn overlap_table_query(
     starts: &[u32],
     neighbours: &[u32],
     weights: &[u32],
@@ -353,8 +341,7 @@ pub extern "C" fn overlap_table_query(
 // answers. Returned: number 0 and the length of the list, or 1 to 5, 6 of the households, 6 of the sites, 7, 9, 10. Accepted: the answers are the listed
 // nodes, ascending, then the old entries, and the whole scratch is zero. Refused: nothing is written. Document 02: 'A household is listed for q exactly if it
 // can be reached and fewer than k sites are strictly nearer to it than q (document 000, 5.1).' q is any node.
-#[unsafe(no_mangle)]
-pub extern "C" fn overlap_households(
+pub fn overlap_households(
     starts: &[u32],
     neighbours: &[u32],
     weights: &[u32],
@@ -378,8 +365,7 @@ pub extern "C" fn overlap_households(
 // to 5, 6 of the households, 6 of the sites, 10. Accepted: the answers are the n entries, then the old ones, and the whole scratch is zero. Refused: nothing
 // is written. Document 02: 'A sheet call writes, for each node, the length of the list of a site there, 0 without a site' (Ask 1); 'the sheet now names 1
 // itself' (Ask 10), for the k of these lists. 'A sheet's length counts each household on a listed node' (Ask 8).
-#[unsafe(no_mangle)]
-pub extern "C" fn overlap_sheet(
+pub fn overlap_sheet(
     starts: &[u32],
     neighbours: &[u32],
     weights: &[u32],
@@ -401,8 +387,7 @@ pub extern "C" fn overlap_sheet(
 // n answers. Returned: number 0 and the length of the list, or 1 to 5, 6, 7 of each node of the route, 9, 10, 14. Accepted: the answers are the listed nodes,
 // ascending, then the old entries, and the whole scratch is zero. Refused: nothing is written. Document 02: 'Listed is the union of what the single nodes
 // receive, without the points that stand on the route itself.'
-#[unsafe(no_mangle)]
-pub extern "C" fn overlap_route(
+pub fn overlap_route(
     starts: &[u32],
     neighbours: &[u32],
     weights: &[u32],
@@ -423,8 +408,7 @@ pub extern "C" fn overlap_route(
 
 // The number of the nearer row. Lent: the network, the junction, one K, and both tables of any contents, and nothing is written. Returned: 0, or 1 to 5, 7,
 // 8 of the own table, 8 of the rival's. Document 02: 'a second call on the same inputs gives the number'; 'Checks: [..] 8 each table, in the order lent.'
-#[unsafe(no_mangle)]
-pub extern "C" fn overlap_nearer_row_number(
+pub fn overlap_nearer_row_number(
     starts: &[u32],
     neighbours: &[u32],
     weights: &[u32],
@@ -455,8 +439,7 @@ pub extern "C" fn overlap_nearer_row_number(
 // of the rival's (rival 1), from junction × K on; or 1 to 5, 7, 8 (own), 8 (rival's), and the rest 0. Accepted: those entries lie in their array, and are
 // what `overlap_nearer_row` returns. Refused: they are none, its empty part. Document 02: 'of an own table and a rival's, the call hands back the row
 // whose first entry is nearer, the own one when equal.'
-#[unsafe(no_mangle)]
-pub extern "C" fn overlap_nearer_row_part(
+pub fn overlap_nearer_row_part(
     starts: &[u32],
     neighbours: &[u32],
     weights: &[u32],
