@@ -2,7 +2,7 @@
 -- The word b + v, before the queue, is the seat of node v: i + 1 while v waits as entry i, which is below n; 0, or a word above n, while v doesn't
 -- wait (0: it is not settled either; n + 1 + l: it is settled at label l).
 -- Assumes nothing.
-use Rattle.std.specs.Prelude.{ℕ, zero, suc, ◌+◌, ◌-◌, ◌*◌, ◌≤◌, ◌<◌, ◌≡◌, ◌≢◌, ◌⊎◌, ◌↔◌, List, length, get_or, drop}
+use Rattle.std.specs.Prelude.{ℕ, suc, ◌+◌, ◌-◌, ◌*◌, ◌≤◌, ◌<◌, ◌≡◌, ◌≢◌, ◌⊎◌, ◌↔◌, List, length, get_or, drop}
 use Rattle.expansion.specs.Queue.{key_of, key_at, Holds, Queue, Popped, Put, Filled}
 use Rattle.expansion.specs.Tags.{node_of}
 

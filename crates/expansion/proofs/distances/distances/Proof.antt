@@ -27,12 +27,10 @@ shape_of-answers c = search rules
 
 returns : tie.Need-returns
 returns c =
-    let w = c.before.before.before.before.before.before in
-    let s = w.before.before.before.before.before in
-    let old = s.before.before.before.before.before.before.before.args.answers.now in
+    let old = c.args.answers.now in
     record {
-      area = wiped_after s.settle_all-settled.ensures.frame c.before.before.clear.ensures;
-      answers = w.write_distances.ensures ∙ ap (λ l. answered l old) (settled_distances s.settle_all-settled.ensures);
+      area = wiped_after c.settle_all-settled.ensures.frame c.clear.ensures;
+      answers = c.write_distances.ensures ∙ ap (λ l. answered l old) (settled_distances c.settle_all-settled.ensures);
     }
 
 pub distances_spec : {M : Type 1} → statement M

@@ -19,30 +19,26 @@ invariant-loop-i points s₀ n k found b at₀ i₀ s at i = (i ≤ found) × (a
 abbrev decreases-loop-i : tie.decreases-loop-i
 decreases-loop-i points s₀ n k found b at₀ i₀ s at i = found - i
 
-abbrev start_of : tie.At-loop-i invariant-loop-i decreases-loop-i → tie.Start invariant-loop-i decreases-loop-i
-start_of l = l.before.before.before
-
 -- what is read: the next node, and its seat
-node : (l : tie.At-loop-i invariant-loop-i decreases-loop-i) → l.loop-i.i < (start_of l).args.found → get_or l.loop-i.s-1 l.loop-i.i 0 ≡ get_or (start_of l).args.s.now l.loop-i.i 0
-node l h = out_word (start_of l).requires l.loop-i.invariant.2 h
+node : (l : tie.At-loop-i invariant-loop-i decreases-loop-i) → l.loop-i.i < l.args.found → get_or l.loop-i.s l.loop-i.i 0 ≡ get_or l.args.s.now l.loop-i.i 0
+node l h = out_word l.requires l.loop-i.invariant.2 h
 
-low : (l : tie.At-loop-i invariant-loop-i decreases-loop-i) → l.loop-i.i < (start_of l).args.found → get_or l.loop-i.s-1 l.loop-i.i 0 < length (start_of l).args.points.now
-low l h = omega (arith, node l h, (start_of l).requires.inside l.loop-i.i h, (start_of l).requires.points)
+low : (l : tie.At-loop-i invariant-loop-i decreases-loop-i) → l.loop-i.i < l.args.found → get_or l.loop-i.s l.loop-i.i 0 < length l.args.points.now
+low l h = omega (arith, node l h, l.requires.inside l.loop-i.i h, l.requires.points)
 
-seat : (l : tie.At-loop-i invariant-loop-i decreases-loop-i) → l.loop-i.i < (start_of l).args.found
-    → get_or l.loop-i.s-1 (3 * (start_of l).args.k + get_or l.loop-i.s-1 l.loop-i.i 0) 0
-    ≡ get_or (start_of l).args.s.now (3 * (start_of l).args.k + get_or (start_of l).args.s.now l.loop-i.i 0) 0
+seat : (l : tie.At-loop-i invariant-loop-i decreases-loop-i) → l.loop-i.i < l.args.found
+    → get_or l.loop-i.s (3 * l.args.k + get_or l.loop-i.s l.loop-i.i 0) 0
+    ≡ get_or l.args.s.now (3 * l.args.k + get_or l.args.s.now l.loop-i.i 0) 0
 seat l h =
-    l.loop-i.invariant.2.behind (3 * (start_of l).args.k + get_or l.loop-i.s-1 l.loop-i.i 0) (omega arith)
-    ∙ ap (λ (i : ℕ). get_or (start_of l).args.s.now (3 * (start_of l).args.k + i) 0) (node l h)
+    l.loop-i.invariant.2.behind (3 * l.args.k + get_or l.loop-i.s l.loop-i.i 0) (omega arith)
+    ∙ ap (λ (i : ℕ). get_or l.args.s.now (3 * l.args.k + i) 0) (node l h)
 
 overflow_mul-b : tie.Need-overflow_mul-b invariant-loop-i decreases-loop-i
 overflow_mul-b c = search rules
 
 loop-holds : tie.Need-loop-i-init invariant-loop-i decreases-loop-i
 loop-holds c =
-    let s = c.before.before in
-    (omega arith, omega (arith, tallied_none s.args.points.now s.args.s.now), out_none s.args.points.now s.args.s.now s.args.n s.args.k)
+    (omega arith, omega (arith, tallied_none c.args.points.now c.args.s.now), out_none c.args.points.now c.args.s.now c.args.n c.args.k)
 
 offset_bounds-s-i : tie.Need-offset_bounds-s-i invariant-loop-i decreases-loop-i
 offset_bounds-s-i c = search rules
@@ -52,16 +48,16 @@ bounds-s-i c = search rules
 
 label_of-label-requires : tie.Need-label_of-label-requires invariant-loop-i decreases-loop-i
 label_of-label-requires c κs =
-    let l = c.before.before.before in
-    let h = c.before.before.loop-i-test.true in
-    omega (arith, low l h, (start_of l).requires.points, (start_of l).requires.room, l.loop-i.invariant.2.size)
+    let l = c.before.before in
+    let h = c.loop-i-test.true in
+    omega (arith, low l h, l.requires.points, l.requires.room, l.loop-i.invariant.2.size)
 
 repeat-at-requires : tie.Need-repeat-at-requires invariant-loop-i decreases-loop-i
 repeat-at-requires c κs =
-    let l = c.before.before.before.before.before in
-    let h = c.before.before.before.before.loop-i-test.true in (
-      omega (arith, l.loop-i.invariant.1, (start_of l).requires.early l.loop-i.i h),
-      omega (arith, (start_of l).requires.room, l.loop-i.invariant.2.size),
+    let l = c.before.before.before.before in
+    let h = c.loop-i-test.true in (
+      omega (arith, l.loop-i.invariant.1, l.requires.early l.loop-i.i h),
+      omega (arith, l.requires.room, l.loop-i.invariant.2.size),
     )
 
 overflow_add-i : tie.Need-overflow_add-i invariant-loop-i decreases-loop-i
@@ -72,24 +68,22 @@ loop-less c = search rules
 
 loop-again : tie.Need-loop-i-preserved invariant-loop-i decreases-loop-i
 loop-again c =
-    let r = c.before.before in
-    let a = r.before.before in
-    let l = a.before.before.before.before in
-    let h = a.before.before.before.loop-i-test.true in
-    let p = rw (node l h) at r.repeat-at.ensures in
-    let d = a.label_of-label.ensures ∙ ap (λ (w : ℕ). word_distance (start_of l).args.n w) (seat l h) in (
+    let l = c.before.before.before.before.before.before.before in
+    let h = c.loop-i-test.true in
+    let p = rw (node l h) at c.repeat-at.ensures in
+    let d = c.label_of-label.ensures ∙ ap (λ (w : ℕ). word_distance l.args.n w) (seat l h) in (
       omega arith,
-      out_count (start_of l).requires l.loop-i.invariant.2 h l.loop-i.invariant.1 d p,
-      out_more (start_of l).requires l.loop-i.invariant.2 h l.loop-i.invariant.1 d p,
+      out_count l.requires l.loop-i.invariant.2 h l.loop-i.invariant.1 d p,
+      out_more l.requires l.loop-i.invariant.2 h l.loop-i.invariant.1 d p,
     )
 
 shape_of-s : tie.Need-shape_of-s invariant-loop-i decreases-loop-i
-shape_of-s c = c.before.loop-i.invariant.2.size
+shape_of-s c = c.loop-i.invariant.2.size
 
 returns : tie.Need-returns invariant-loop-i decreases-loop-i
 returns c =
     let l = c.before in
-    let e : l.loop-i.i ≡ (start_of l).args.found = omega (arith, l.loop-i.invariant.0, c.loop-i-test.false) in
+    let e : l.loop-i.i ≡ l.args.found = omega (arith, l.loop-i.invariant.0, c.loop-i-test.false) in
     rw e at l.loop-i.invariant.2
 
 pub write_out_spec : {M : Type 1} → statement M

@@ -12,8 +12,8 @@ use Rattle.expansion.proofs.SinkLaws.{sank_here, sank_below, sank_few}
 use Rattle.expansion.proofs.node_queue.sink.Reads as sink
 use Rattle.expansion.proofs.node_queue.sink.Kinds as sink-kinds
 use Rattle.expansion.proofs.node_queue.+sink.Lts-sink as sink-lts
-use Rattle.expansion.proofs.node_queue.key_at-k.Reads as key-at-reads
-use Rattle.expansion.proofs.node_queue.lesser_child-child.Reads as lesser-child-reads
+use Rattle.expansion.proofs.node_queue.key_at.Reads as key-at-reads
+use Rattle.expansion.proofs.node_queue.lesser_child.Reads as lesser-child-reads
 use Rattle.expansion.proofs.node_queue.put.Reads as put_reads
 use Rattle.expansion.proofs.node_queue.shift.Reads as shift-reads
 use Rattle.expansion.proofs.node_queue.+sink.{statement}
@@ -47,54 +47,41 @@ module _ (t : ℕ) where
 
   shift-requires : sink-lts.Need-shift-requires (reads t) (sink-at t) sink.Post
   shift-requires c κs =
-      let at-child = c.before.before.before.before in
-      let start = at-child.before.before.before.before in
-      let ch = at-child.lesser_child-child.ensures in
-      can_shift _ _ _ _ _ _ start.requires.1.1 start.requires.1.0.is_hole.inside _ ch.inside (omega (arith, ch.low))
+      let ch = c.lesser_child-child.ensures in
+      can_shift _ _ _ _ _ _ c.requires.1.1 c.requires.1.0.is_hole.inside _ ch.inside (omega (arith, ch.low))
 
   sink-requires : sink-lts.Need-sink-requires (reads t) (sink-at t) sink.Post
   sink-requires c κs =
-      let at-shift = c.before.before.before in
-      let at_key = at-shift.before.before.before in
-      let at-child = at_key.before.before in
-      let start = at-child.before.before.before.before in
-      let ch = at-child.lesser_child-child.ensures in
-      let p = at-shift.shift.ensures in (
-        omega (arith, ch.low, ch.inside, start.requires.0),
+      let ch = c.lesser_child-child.ensures in
+      let p = c.shift.ensures in (
+        omega (arith, ch.low, ch.inside, c.requires.0),
         (
-          hole_down _ _ _ _ _ _ _ _ start.requires.1.0 ch (omega (arith, at-shift.before.before)) p.put p.is,
-          seats_moved _ _ _ _ _ _ _ _ start.requires.1.1 start.requires.1.0.is_hole.inside ch.inside (omega (arith, ch.low)) p,
+          hole_down _ _ _ _ _ _ _ _ c.requires.1.0 ch (omega (arith, c.if-k-key.true)) p.put p.is,
+          seats_moved _ _ _ _ _ _ _ _ c.requires.1.1 c.requires.1.0.is_hole.inside ch.inside (omega (arith, ch.low)) p,
         ),
       )
 
   put-requires : sink-lts.Need-put-requires (reads t) (sink-at t) sink.Post
   put-requires c κs =
-      let start = c.before.before.before.before.before.before.before.before in
-      can_put _ _ _ _ _ _ start.requires.1.1 start.requires.1.0.is_hole.inside
+      can_put _ _ _ _ _ _ c.requires.1.1 c.requires.1.0.is_hole.inside
 
   put-requires-else-left-len : sink-lts.Need-put-requires-else-left-len (reads t) (sink-at t) sink.Post
   put-requires-else-left-len c κs =
-      let start = c.before.before.before in
-      can_put _ _ _ _ _ _ start.requires.1.1 start.requires.1.0.is_hole.inside
+      can_put _ _ _ _ _ _ c.requires.1.1 c.requires.1.0.is_hole.inside
 
   overflow_add-result : sink-lts.Need-overflow_add-result (reads t) (sink-at t) sink.Post
-  overflow_add-result c = omega (arith, sank_few _ _ _ _ _ _ c.before.before.sink.ensures.1)
+  overflow_add-result c = omega (arith, sank_few _ _ _ _ _ _ c.sink.ensures.1)
 
   shape_of-s-then-k-key : sink-lts.Need-shape_of-s-then-k-key (reads t) (sink-at t) sink.Post
   shape_of-s-then-k-key c = search rules
 
   returns-then-k-key : sink-lts.Need-returns-then-k-key (reads t) (sink-at t) sink.Post
   returns-then-k-key c =
-      let at-sink = c.before.before in
-      let at-shift = at-sink.before.before.before.before in
-      let at_key = at-shift.before.before.before in
-      let at-child = at_key.before.before in
-      let start = at-child.before.before.before.before in
-      let ch = at-child.lesser_child-child.ensures in
-      let p = at-shift.shift.ensures in
-      let r = at-sink.sink.ensures in (
-        filled_at_moved _ _ _ _ _ _ _ _ start.requires.1.1 start.requires.1.0.is_hole.inside ch.inside (omega (arith, ch.low)) p _ r.0,
-        sank_below _ _ _ _ _ _ _ _ _ _ ch.low ch.high (omega (arith, at-shift.before.before)) p.put p.is r.1,
+      let ch = c.lesser_child-child.ensures in
+      let p = c.shift.ensures in
+      let r = c.sink.ensures in (
+        filled_at_moved _ _ _ _ _ _ _ _ c.requires.1.1 c.requires.1.0.is_hole.inside ch.inside (omega (arith, ch.low)) p _ r.0,
+        sank_below _ _ _ _ _ _ _ _ _ _ ch.low ch.high (omega (arith, c.if-k-key.true)) p.put p.is r.1,
       )
 
   shape_of-s-else-k-key : sink-lts.Need-shape_of-s-else-k-key (reads t) (sink-at t) sink.Post
@@ -102,13 +89,9 @@ module _ (t : ℕ) where
 
   returns-else-k-key : sink-lts.Need-returns-else-k-key (reads t) (sink-at t) sink.Post
   returns-else-k-key c =
-      let at-put = c.before.before in
-      let at_key = at-put.before.before.before in
-      let at-child = at_key.before.before in
-      let start = at-child.before.before.before.before in
-      let p = at-put.put.ensures in (
-        filled_at_here _ _ _ _ _ _ _ start.requires.1.0.is_hole start.requires.1.1 p start.requires.1.0.at_least_lem (λ i pos lt e. omega (arith, at-child.lesser_child-child.ensures.least i pos lt e, at-put.before.before)),
-        rw p.is at (sank_here _ _ _ _ _ _ start.requires.1.0.is_hole.inside p.put),
+      let p = c.put.ensures in (
+        filled_at_here _ _ _ _ _ _ _ c.requires.1.0.is_hole c.requires.1.1 p c.requires.1.0.at_least (λ i pos lt e. omega (arith, c.lesser_child-child.ensures.least i pos lt e, c.if-k-key.false)),
+        rw p.is at (sank_here _ _ _ _ _ _ c.requires.1.0.is_hole.inside p.put),
       )
 
   shape_of-s-else-left-len : sink-lts.Need-shape_of-s-else-left-len (reads t) (sink-at t) sink.Post
@@ -116,11 +99,9 @@ module _ (t : ℕ) where
 
   returns-else-left-len : sink-lts.Need-returns-else-left-len (reads t) (sink-at t) sink.Post
   returns-else-left-len c =
-      let at-put = c.before.before in
-      let start = at-put.before.before.before.before in
-      let p = at-put.put-else-left-len.ensures in (
-        filled_at_here _ _ _ _ _ _ _ start.requires.1.0.is_hole start.requires.1.1 p start.requires.1.0.at_least_lem (λ i pos lt e. omega (arith, at-put.before.before.if-left-len)),
-        rw p.is at (sank_here _ _ _ _ _ _ start.requires.1.0.is_hole.inside p.put),
+      let p = c.put-else-left-len.ensures in (
+        filled_at_here _ _ _ _ _ _ _ c.requires.1.0.is_hole c.requires.1.1 p c.requires.1.0.at_least (λ i pos lt e. omega (arith, c.if-left-len)),
+        rw p.is at (sank_here _ _ _ _ _ _ c.requires.1.0.is_hole.inside p.put),
       )
 
 pub +sink_spec : {M : Type 1} → statement M

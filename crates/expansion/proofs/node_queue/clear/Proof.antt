@@ -20,11 +20,9 @@ abbrev decreases-loop-i : tie.decreases-loop-i
 decreases-loop-i s₀ b n len at i₀ s i = len - i
 
 -- the node of the next entry
-node : (c : tie.After-node_of invariant-loop-i decreases-loop-i) → let l = c.before.before.before.before in let start = l.before.before in c.node_of_lem.result ≡ node_at (drop (queue_base start.args.n start.args.b) start.args.s.now) l.loop-i.i
+node : (c : tie.After-node_of invariant-loop-i decreases-loop-i) → c.node_of.result ≡ node_at (drop (queue_base c.args.n c.args.b) c.args.s.now) c.loop-i.i
 node c =
-    let l = c.before.before.before.before in
-    let start = l.before.before in
-    entry_node l.loop-i.s-1 (queue_base start.args.n start.args.b) l.loop-i.i _ c.node_of_lem.ensures ∙ clearing_node start.requires l.loop-i.invariant.1 (omega arith)
+    entry_node c.loop-i.s (queue_base c.args.n c.args.b) c.loop-i.i _ c.node_of.ensures ∙ clearing_node c.requires c.loop-i.invariant.1 (omega arith)
 
 overflow_mul-at : tie.Need-overflow_mul-at invariant-loop-i decreases-loop-i
 overflow_mul-at c = search rules
@@ -52,9 +50,7 @@ node_of-requires c κs = search rules
 
 vacate-requires : tie.Need-vacate-requires invariant-loop-i decreases-loop-i
 vacate-requires c κs =
-    let at-loop = c.before.before.before.before in
-    let start = at-loop.before.before in
-    (omega (arith, at-loop.loop-i.invariant.1.size, start.requires.fits, start.requires.room), omega (arith, node c, start.requires.inside at-loop.loop-i.i (omega arith)))
+    (omega (arith, c.loop-i.invariant.1.size, c.requires.fits, c.requires.room), omega (arith, node c, c.requires.inside c.loop-i.i (omega arith)))
 
 overflow_add-i : tie.Need-overflow_add-i invariant-loop-i decreases-loop-i
 overflow_add-i c = search rules
@@ -65,15 +61,13 @@ loop-less c = search rules
 loop-again : tie.Need-loop-i-preserved invariant-loop-i decreases-loop-i
 loop-again c =
     let at-vacate = c.before.before in
-    let at-loop = at-vacate.before.before.before.before.before in
-    let start = at-loop.before.before in
-    (omega arith, clearing_more start.requires at-loop.loop-i.invariant.1 (omega arith) _ (vacated_same (node at-vacate.before) at-vacate.vacate.ensures))
+    (omega arith, clearing_more at-vacate.requires at-vacate.loop-i.invariant.1 (omega arith) _ (vacated_same (node at-vacate.before) at-vacate.vacate.ensures))
 
 shape_of-s : tie.Need-shape_of-s invariant-loop-i decreases-loop-i
 shape_of-s c = search rules
 
 returns : tie.Need-returns invariant-loop-i decreases-loop-i
-returns c = cleared_nodes _ c.before.before.before.requires c.before.loop-i.invariant.1 (omega arith)
+returns c = cleared_nodes _ c.requires c.loop-i.invariant.1 (omega arith)
 
 pub clear_spec : {M : Type 1} → statement M
 clear_spec =

@@ -14,10 +14,9 @@ use Rattle.expansion.proofs.node_queue.offer.Statement.{statement}
 use Rattle.expansion.proofs.node_queue.offer.Tie as tie
 
 -- the seat of the node
-seat : (c : tie.After-seat_of-seat) → let start = c.before.before.before in c.seat_of-seat.result ≡ get_or start.args.s.now (start.args.b + node_of (key_of start.args.distance start.args.tag)) 0
+seat : (c : tie.After-seat_of-seat) → c.seat_of-seat.result ≡ get_or c.args.s.now (c.args.b + node_of (key_of c.args.distance c.args.tag)) 0
 seat c =
-    let start = c.before.before.before in
-    c.seat_of-seat.ensures ∙ ap (λ (v : ℕ). get_or start.args.s.now (start.args.b + v) 0) (sym (node_of_lem start.args.distance start.args.tag (omega arith)))
+    c.seat_of-seat.ensures ∙ ap (λ (v : ℕ). get_or c.args.s.now (c.args.b + v) 0) (sym (node_of_lem c.args.distance c.args.tag (omega arith)))
 
 seat_of-seat-requires : tie.Need-seat_of-seat-requires
 seat_of-seat-requires c κs = search rules
@@ -26,13 +25,12 @@ shape_of-s-then-n-seat : tie.Need-shape_of-s-then-n-seat
 shape_of-s-then-n-seat c = search rules
 
 returns-then-n-seat : tie.Need-returns-then-n-seat
-returns-then-n-seat c = let start = c.before.before.before.before in offered_settled start.requires.0 _ (omega (arith, seat c.before, c.if-n-seat.true))
+returns-then-n-seat c = offered_settled c.requires.0 _ (omega (arith, seat c.before, c.if-n-seat.true))
 
 push-requires : tie.Need-push-requires
 push-requires c κs =
     let at-seat = c.before.before.before in
-    let start = at-seat.before.before.before in
-    (start.requires.0, (start.requires.1, inl (omega (arith, seat at-seat, c.before.if-seat-eq0.true))))
+    (at-seat.requires.0, (at-seat.requires.1, inl (omega (arith, seat at-seat, c.if-seat-eq0.true))))
 
 overflow_add-result : tie.Need-overflow_add-result
 overflow_add-result c = search rules
@@ -42,10 +40,8 @@ shape_of-s-then-seat-eq0 c = search rules
 
 returns-then-seat-eq0 : tie.Need-returns-then-seat-eq0
 returns-then-seat-eq0 c =
-    let at_push = c.before.before in
-    let at-seat = at_push.before.before.before.before in
-    let start = at-seat.before.before.before in
-    offered_pushed start.requires.0 _ _ (omega (arith, seat at-seat, at_push.before.before.if-seat-eq0.true)) at_push.push.ensures
+    let at-seat = c.before.before.before.before.before.before in
+    offered_pushed at-seat.requires.0 _ _ (omega (arith, seat at-seat, c.if-seat-eq0.true)) c.push.ensures
 
 key_of-key-requires : tie.Need-key_of-key-requires
 key_of-key-requires c κs = search rules
@@ -60,41 +56,34 @@ overflow_sub-seat : tie.Need-overflow_sub-seat
 overflow_sub-seat c = search rules
 
 key_at-old-requires : tie.Need-key_at-old-requires
-key_at-old-requires c κs = let start = c.before.before.before.before.before.before.before in omega (arith, start.requires.0.room, c.before.before.if-seat-eq0)
+key_at-old-requires c κs = omega (arith, c.requires.0.room, c.if-seat-eq0)
 
 overflow_sub-seat-then-key-old : tie.Need-overflow_sub-seat-then-key-old
 overflow_sub-seat-then-key-old c = search rules
 
 lower-requires : tie.Need-lower-requires
 lower-requires c κs =
-    let at-seat = c.before.before.before.before.before.before.before in
-    let start = at-seat.before.before.before in
-    let at_key = c.before.before in
-    let w = waits_here start.requires.0 _ (at-seat.seat_of-seat.result - 1) (omega (arith, seat at-seat)) (omega arith) start.requires.1 in
-    rw at_key.before.before.key_of-key.ensures
-    (start.requires.0, record { inside = w.0; node = w.1; less = omega (arith, at_key.key_at-old.ensures, at_key.before.before.key_of-key.ensures, c.before.if-key-old.true) })
+    let at-seat = c.before.before.before.before.before.before in
+    let w = waits_here at-seat.requires.0 _ (at-seat.seat_of-seat.result - 1) (omega (arith, seat at-seat)) (omega arith) at-seat.requires.1 in
+    rw c.key_of-key.ensures
+    (at-seat.requires.0, record { inside = w.0; node = w.1; less = omega (arith, c.key_at-old.ensures, c.key_of-key.ensures, c.if-key-old.true) })
 
 shape_of-s-then-key-old : tie.Need-shape_of-s-then-key-old
 shape_of-s-then-key-old c = search rules
 
 returns-then-key-old : tie.Need-returns-then-key-old
 returns-then-key-old c =
-    let at-lower = c.before.before in
-    let at-else = at-lower.before.before.before.before.before.before in
-    let at-seat = at-else.before.before in
-    let start = at-seat.before.before.before in
-    offered_lowered start.requires.0 _ (at-seat.seat_of-seat.result - 1) (omega (arith, seat at-seat, at-else.if-seat-eq0.false)) (omega (arith, at-else.before.if-n-seat.false)) start.requires.1 _
-    (rw at-lower.before.before.before.before.before.key_of-key.ensures at at-lower.lower.ensures)
+    let at-seat = c.before.before.before.before.before.before.before.before.before in
+    offered_lowered at-seat.requires.0 _ (at-seat.seat_of-seat.result - 1) (omega (arith, seat at-seat, c.if-seat-eq0.false)) (omega (arith, c.if-n-seat.false)) at-seat.requires.1 _
+    (rw c.key_of-key.ensures at c.lower.ensures)
 
 shape_of-s-else-key-old : tie.Need-shape_of-s-else-key-old
 shape_of-s-else-key-old c = search rules
 
 returns-else-key-old : tie.Need-returns-else-key-old
 returns-else-key-old c =
-    let at_key = c.before in
-    let at-seat = at_key.before.before.before.before.before in
-    let start = at-seat.before.before.before in
-    offered_kept start.requires.0 _ (at-seat.seat_of-seat.result - 1) (omega (arith, seat at-seat)) (omega arith) start.requires.1 (omega (arith, at_key.key_at-old.ensures, at_key.before.before.key_of-key.ensures, c.if-key-old.false))
+    let at-seat = c.before.before.before.before.before in
+    offered_kept at-seat.requires.0 _ (at-seat.seat_of-seat.result - 1) (omega (arith, seat at-seat)) (omega arith) at-seat.requires.1 (omega (arith, c.key_at-old.ensures, c.key_of-key.ensures, c.if-key-old.false))
 
 pub offer_spec : {M : Type 1} → statement M
 offer_spec =

@@ -13,12 +13,11 @@ use Rattle.expansion.proofs.node_queue.pop.Statement.{statement}
 use Rattle.expansion.proofs.node_queue.pop.Tie as tie
 
 -- the node of the first entry
-node : (c : tie.After-node_of) → let start = c.before.before.before.before.before.before.before in c.node_of_lem.result ≡ node_at (drop (queue_base start.args.n start.args.b) start.args.s.now) 0
+node : (c : tie.After-node_of) → c.node_of.result ≡ node_at (drop (queue_base c.args.n c.args.b) c.args.s.now) 0
 node c =
-    let start = c.before.before.before.before.before.before.before in
-    first_node start.args.s.now (queue_base start.args.n start.args.b) _ c.node_of_lem.ensures
+    first_node c.args.s.now (queue_base c.args.n c.args.b) _ c.node_of.ensures
 
-gone : (c : tie.After-vacate) → let start = c.before.before.before.before.before.before.before.before in Vacated start.args.s.now c.vacate.new.0 start.args.b (queue_base start.args.n start.args.b) (start.args.len - 1) (node_at (drop (queue_base start.args.n start.args.b) start.args.s.now) 0)
+gone : (c : tie.After-vacate) → Vacated c.args.s.now c.vacate.new.s c.args.b (queue_base c.args.n c.args.b) (c.args.len - 1) (node_at (drop (queue_base c.args.n c.args.b) c.args.s.now) 0)
 gone c = vacated_same (node c.before) c.vacate.ensures
 
 overflow_mul-at : tie.Need-overflow_mul-at
@@ -53,8 +52,7 @@ node_of-requires c κs = search rules
 
 vacate-requires : tie.Need-vacate-requires
 vacate-requires c κs =
-    let start = c.before.before.before.before.before.before.before in
-    (search rules, omega (arith, node c, start.requires.0.inside 0 start.requires.1))
+    (search rules, omega (arith, node c, c.requires.0.inside 0 c.requires.1))
 
 shape_of-s-then-last-eq0 : tie.Need-shape_of-s-then-last-eq0
 shape_of-s-then-last-eq0 c = search rules
@@ -62,28 +60,24 @@ shape_of-s-then-last-eq0 c = search rules
 returns-then-last-eq0 : tie.Need-returns-then-last-eq0
 returns-then-last-eq0 c =
     let at-vacate = c.before.before.before in
-    let start = at-vacate.before.before.before.before.before.before.before.before in
-    rw (first_words start.args.s.now (queue_base start.args.n start.args.b))
-    (popped_last start.requires.0 start.requires.1 (gone at-vacate) c.if-last-eq0.true)
+    rw (first_words at-vacate.args.s.now (queue_base at-vacate.args.n at-vacate.args.b))
+    (popped_last at-vacate.requires.0 at-vacate.requires.1 (gone at-vacate) c.if-last-eq0.true)
 
 sink-requires : tie.Need-sink-requires
 sink-requires c κs =
     let at-vacate = c.before.before.before.before in
-    let start = at-vacate.before.before.before.before.before.before.before.before in
-    rw at-vacate.before.before.before.key_at-key.ensures
-    (vacated_can start.requires.0 start.requires.1 (gone at-vacate) _ c.before.if-last-eq0.false, vacated_seats start.requires.0 start.requires.1 (gone at-vacate) c.before.if-last-eq0.false)
+    rw at-vacate.key_at-key.ensures
+    (vacated_can at-vacate.requires.0 at-vacate.requires.1 (gone at-vacate) _ c.if-last-eq0.false, vacated_seats at-vacate.requires.0 at-vacate.requires.1 (gone at-vacate) c.if-last-eq0.false)
 
 shape_of-s : tie.Need-shape_of-s
 shape_of-s c = search rules
 
 returns : tie.Need-returns
 returns c =
-    let at-sink = c.before.before in
-    let at-vacate = at-sink.before.before.before.before.before in
-    let start = at-vacate.before.before.before.before.before.before.before.before in
-    rw (first_words start.args.s.now (queue_base start.args.n start.args.b))
-    (popped_filled start.requires.0 start.requires.1 (gone at-vacate) at-sink.before.before.if-last-eq0.false _
-    (rw at-vacate.before.before.before.key_at-key.ensures at at-sink.sink.ensures.0))
+    let at-vacate = c.before.before.before.before.before.before.before in
+    rw (first_words at-vacate.args.s.now (queue_base at-vacate.args.n at-vacate.args.b))
+    (popped_filled at-vacate.requires.0 at-vacate.requires.1 (gone at-vacate) c.if-last-eq0.false _
+    (rw at-vacate.key_at-key.ensures at c.sink.ensures.0))
 
 pub pop_spec : {M : Type 1} → statement M
 pop_spec =

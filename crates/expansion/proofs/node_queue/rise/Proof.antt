@@ -28,7 +28,7 @@ abbrev decreases-loop-hole : tie.decreases-loop-hole
 decreases-loop-hole s₀ b at len start key hole₀ s hole = hole
 
 loop-holds : tie.Need-loop-hole-init invariant-loop-hole decreases-loop-hole
-loop-holds c = record { size = refl; rises = c.before.requires.0; seats = c.before.requires.1; onward = λ zs f. f }
+loop-holds c = record { size = refl; rises = c.requires.0; seats = c.requires.1; onward = λ zs f. f }
 
 overflow_sub-parent : tie.Need-overflow_sub-parent invariant-loop-hole decreases-loop-hole
 overflow_sub-parent c = search rules
@@ -37,21 +37,19 @@ key_at-k-requires : tie.Need-key_at-k-requires invariant-loop-hole decreases-loo
 key_at-k-requires c κs = search rules
 
 put-requires : tie.Need-put-requires invariant-loop-hole decreases-loop-hole
-put-requires c κs = let inv = c.before.before.before.before.before.loop-hole.invariant in can_put _ _ _ _ _ _ inv.seats inv.rises.is_hole.inside
+put-requires c κs = let inv = c.loop-hole.invariant in can_put _ _ _ _ _ _ inv.seats inv.rises.is_hole.inside
 
 shape_of-s-then-k-key : tie.Need-shape_of-s-then-k-key invariant-loop-hole decreases-loop-hole
 shape_of-s-then-k-key c = search rules
 
 returns-then-k-key : tie.Need-returns-then-k-key invariant-loop-hole decreases-loop-hole
 returns-then-k-key c =
-    let at-put = c.before.before in
-    let at-if = at-put.before.before in
-    let inv = at-if.before.before.before.before.loop-hole.invariant in
-    inv.onward _ (filled_at_here _ _ _ _ _ _ _ inv.rises.is_hole inv.seats at-put.put.ensures (λ pos. omega (arith, at-if)) inv.rises.at_most)
+    let inv = c.loop-hole.invariant in
+    inv.onward _ (filled_at_here _ _ _ _ _ _ _ inv.rises.is_hole inv.seats c.put.ensures (λ pos. omega (arith, c.if-k-key.true)) inv.rises.at_most)
 
 shift-requires : tie.Need-shift-requires invariant-loop-hole decreases-loop-hole
 shift-requires c κs =
-    let inv = c.before.before.before.before.before.loop-hole.invariant in
+    let inv = c.loop-hole.invariant in
     let inside = inv.rises.is_hole.inside in
     can_shift _ _ _ _ _ _ inv.seats inside _ (omega arith) (omega arith)
 
@@ -60,30 +58,26 @@ loop-less c = search rules
 
 loop-again : tie.Need-loop-hole-preserved invariant-loop-hole decreases-loop-hole
 loop-again c =
-    let at-shift = c.before.before in
-    let at-if = at-shift.before.before in
-    let inv = at-if.before.before.before.before.loop-hole.invariant in
-    let p = at-shift.shift.ensures in
+    let inv = c.loop-hole.invariant in
+    let p = c.shift.ensures in
     let inside = inv.rises.is_hole.inside in
     record {
       size = omega (arith, p.size, inv.size);
-      rises = hole_up _ _ _ _ _ _ _ inv.rises (omega arith) (omega (arith, at-if)) p.put p.is;
+      rises = hole_up _ _ _ _ _ _ _ inv.rises (omega arith) (omega (arith, c.if-k-key.false)) p.put p.is;
       seats = seats_moved _ _ _ _ _ _ _ _ inv.seats inside (omega arith) (omega arith) p;
       onward = λ zs f. inv.onward zs (filled_at_moved _ _ _ _ _ _ _ _ inv.seats inside (omega arith) (omega arith) p zs f);
     }
 
 put-requires-2 : tie.Need-put-requires-2 invariant-loop-hole decreases-loop-hole
-put-requires-2 c κs = let inv = c.before.before.loop-hole.invariant in can_put _ _ _ _ _ _ inv.seats inv.rises.is_hole.inside
+put-requires-2 c κs = let inv = c.loop-hole.invariant in can_put _ _ _ _ _ _ inv.seats inv.rises.is_hole.inside
 
 shape_of-s : tie.Need-shape_of-s invariant-loop-hole decreases-loop-hole
 shape_of-s c = search rules
 
 returns : tie.Need-returns invariant-loop-hole decreases-loop-hole
 returns c =
-    let at-put = c.before.before in
-    let at_end = at-put.before.before in
-    let inv = at_end.before.loop-hole.invariant in
-    inv.onward _ (filled_at_here _ _ _ _ _ _ _ inv.rises.is_hole inv.seats at-put.put-2.ensures (λ pos. omega (arith, at_end.loop-hole-test)) inv.rises.at_most)
+    let inv = c.loop-hole.invariant in
+    inv.onward _ (filled_at_here _ _ _ _ _ _ _ inv.rises.is_hole inv.seats c.put-2.ensures (λ pos. omega (arith, c.loop-hole-test)) inv.rises.at_most)
 
 pub rise_spec : {M : Type 1} → statement M
 rise_spec =

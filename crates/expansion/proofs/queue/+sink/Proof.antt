@@ -11,10 +11,10 @@ use borrow.Fn.PlainCycle.{Measures, is, falls, and}
 use Rattle.expansion.proofs.queue.sink.Reads as sink
 use Rattle.expansion.proofs.queue.sink.Kinds as sink-kinds
 use Rattle.expansion.proofs.queue.+sink.Lts-sink as sink-lts
-use Rattle.expansion.proofs.queue.lesser_child-child.Reads as lesser-child-reads
+use Rattle.expansion.proofs.queue.lesser_child.Reads as lesser-child-reads
 use Rattle.expansion.proofs.queue.copy.Reads as copy-reads
-use Rattle.expansion.proofs.queue.key_at-k.Reads as key-at-reads
-use Rattle.expansion.proofs.queue.key_of-key.Reads as key-of-reads
+use Rattle.expansion.proofs.queue.key_at.Reads as key-at-reads
+use Rattle.expansion.proofs.queue.key_of.Reads as key-of-reads
 use Rattle.expansion.proofs.queue.put.Reads as put_reads
 use Rattle.expansion.proofs.queue.+sink.{statement}
 use Rattle.expansion.proofs.queue.+sink.Tie.{close}
@@ -52,14 +52,10 @@ module _ (t : ℕ) where
   copy-requires c κs = search rules
 
   sink-requires : sink-lts.Need-sink-requires (reads t) (sink-at t) sink.Post
-  sink-requires c κs =
-      let at_copy = c.before.before.before in
-      let at-key-of = at_copy.before.before.before in
-      let at-child = at-key-of.before.before.before in
-      let start = at-child.before.before.before.before in (
-        omega (arith, at-child.lesser_child-child.ensures.low, at-child.lesser_child-child.ensures.inside, start.requires.0),
-        hole_down _ _ _ _ _ _ _ _ start.requires.1 at-child.lesser_child-child.ensures (omega (arith, at_copy.before.before)) at_copy.copy.ensures (words_key _ _),
-      )
+  sink-requires c κs = (
+    omega (arith, c.lesser_child-child.ensures.low, c.lesser_child-child.ensures.inside, c.requires.0),
+    hole_down _ _ _ _ _ _ _ _ c.requires.1 c.lesser_child-child.ensures (omega (arith, c.if-k-key.true)) c.copy.ensures (words_key _ _),
+  )
 
   put-requires : sink-lts.Need-put-requires (reads t) (sink-at t) sink.Post
   put-requires c κs = search rules
@@ -68,41 +64,30 @@ module _ (t : ℕ) where
   put-requires-else-left-len c κs = search rules
 
   overflow_add-result : sink-lts.Need-overflow_add-result (reads t) (sink-at t) sink.Post
-  overflow_add-result c = omega (arith, sank_few _ _ _ _ _ _ c.before.before.sink.ensures.1)
+  overflow_add-result c = omega (arith, sank_few _ _ _ _ _ _ c.sink.ensures.1)
 
   shape_of-q-then-k-key : sink-lts.Need-shape_of-q-then-k-key (reads t) (sink-at t) sink.Post
   shape_of-q-then-k-key c = search rules
 
   returns-then-k-key : sink-lts.Need-returns-then-k-key (reads t) (sink-at t) sink.Post
   returns-then-k-key c =
-      let at-sink = c.before.before in
-      let at_copy = at-sink.before.before.before.before in
-      let at-key-of = at_copy.before.before.before in
-      let at-child = at-key-of.before.before.before in
-      let start = at-child.before.before.before.before in
-      let ch = at-child.lesser_child-child.ensures in
-      let r = at-sink.sink.ensures in
-      (filled_moved _ _ _ _ _ _ _ start.requires.1.is_hole.inside ch.inside (omega (arith, ch.low)) at_copy.copy.ensures (words_key _ _) _ _ r.0, sank_below _ _ _ _ _ _ _ _ _ _ ch.low ch.high (omega (arith, at_copy.before.before)) at_copy.copy.ensures (words_key _ _) r.1)
+      let ch = c.lesser_child-child.ensures in
+      let r = c.sink.ensures in
+      (filled_moved _ _ _ _ _ _ _ c.requires.1.is_hole.inside ch.inside (omega (arith, ch.low)) c.copy.ensures (words_key _ _) _ _ r.0, sank_below _ _ _ _ _ _ _ _ _ _ ch.low ch.high (omega (arith, c.if-k-key.true)) c.copy.ensures (words_key _ _) r.1)
 
   shape_of-q-else-k-key : sink-lts.Need-shape_of-q-else-k-key (reads t) (sink-at t) sink.Post
   shape_of-q-else-k-key c = search rules
 
   returns-else-k-key : sink-lts.Need-returns-else-k-key (reads t) (sink-at t) sink.Post
   returns-else-k-key c =
-      let at-put = c.before.before in
-      let at-key-of = at-put.before.before.before in
-      let at-child = at-key-of.before.before.before in
-      let start = at-child.before.before.before.before in
-      (filled_here _ _ _ _ _ _ start.requires.1.is_hole at-put.put.ensures start.requires.1.at_least_lem (λ i pos lt e. omega (arith, at-child.lesser_child-child.ensures.least i pos lt e, at-put.before.before)), sank_here _ _ _ _ _ _ start.requires.1.is_hole.inside at-put.put.ensures)
+      (filled_here _ _ _ _ _ _ c.requires.1.is_hole c.put.ensures c.requires.1.at_least (λ i pos lt e. omega (arith, c.lesser_child-child.ensures.least i pos lt e, c.if-k-key.false)), sank_here _ _ _ _ _ _ c.requires.1.is_hole.inside c.put.ensures)
 
   shape_of-q-else-left-len : sink-lts.Need-shape_of-q-else-left-len (reads t) (sink-at t) sink.Post
   shape_of-q-else-left-len c = search rules
 
   returns-else-left-len : sink-lts.Need-returns-else-left-len (reads t) (sink-at t) sink.Post
   returns-else-left-len c =
-      let at-put = c.before.before in
-      let start = at-put.before.before.before.before in
-      (filled_here _ _ _ _ _ _ start.requires.1.is_hole at-put.put-else-left-len.ensures start.requires.1.at_least_lem (λ i pos lt e. omega (arith, at-put.before.before.if-left-len)), sank_here _ _ _ _ _ _ start.requires.1.is_hole.inside at-put.put-else-left-len.ensures)
+      (filled_here _ _ _ _ _ _ c.requires.1.is_hole c.put-else-left-len.ensures c.requires.1.at_least (λ i pos lt e. omega (arith, c.if-left-len)), sank_here _ _ _ _ _ _ c.requires.1.is_hole.inside c.put-else-left-len.ensures)
 
 pub +sink_spec : {M : Type 1} → statement M
 +sink_spec = close μ-sink λ t. sink-lts.spec (reads t) (sink-at t) sink.Post (overflow_mul-left t) (overflow_add-left t) (lesser_child-child-requires t) (key_at-k-requires t) (key_of-key-requires t) (copy-requires t) (sink-requires t) (overflow_add-result t) (put-requires t) (put-requires-else-left-len t) (shape_of-q-then-k-key t) (returns-then-k-key t) (shape_of-q-else-k-key t) (returns-else-k-key t) (shape_of-q-else-left-len t) (returns-else-left-len t)

@@ -11,11 +11,11 @@ use borrow.Fn.PlainCycle.{Measures, is, falls, and}
 use Rattle.expansion.proofs.queue.sink_ahead.Reads as ahead
 use Rattle.expansion.proofs.queue.sink_ahead.Kinds as kinds
 use Rattle.expansion.proofs.queue.+sink_ahead.Lts-sink_ahead as lts
-use Rattle.expansion.proofs.queue.choose_index-child.Reads as choose-index-reads
-use Rattle.expansion.proofs.queue.choose_key-next_a.Reads as choose-key-reads
+use Rattle.expansion.proofs.queue.choose_index.Reads as choose-index-reads
+use Rattle.expansion.proofs.queue.choose_key.Reads as choose-key-reads
 use Rattle.expansion.proofs.queue.copy.Reads as copy-reads
-use Rattle.expansion.proofs.queue.key_at-c.Reads as key-at-reads
-use Rattle.expansion.proofs.queue.key_of-key.Reads as key-of-reads
+use Rattle.expansion.proofs.queue.key_at.Reads as key-at-reads
+use Rattle.expansion.proofs.queue.key_of.Reads as key-of-reads
 use Rattle.expansion.proofs.queue.put.Reads as put_reads
 use Rattle.expansion.proofs.queue.sink.Reads as sink-reads
 use Rattle.expansion.proofs.queue.+sink_ahead.{statement}
@@ -85,10 +85,8 @@ module _ (t : ℕ) where
 
   copy-requires : lts.Need-copy-requires (reads t) (ahead-at t) ahead.Post
   copy-requires c κs =
-      let at-index = c.before in
-      let start = at-index.before.before.before.before.before.before.before.before.before.before.before.before.before in
-      let hole = start.requires.1.0.is_hole in
-      let child = chosen_child _ _ _ _ _ _ start.requires.1.1.0 at-index.choose_index-child.ensures in
+      let hole = c.requires.1.0.is_hole in
+      let child = chosen_child _ _ _ _ _ _ c.requires.1.1.0 c.choose_index-child.ensures in
       (omega (arith, hole.fits, hole.inside), omega (arith, hole.fits, child.inside))
 
   choose_key-next_a-requires : lts.Need-choose_key-next_a-requires (reads t) (ahead-at t) ahead.Post
@@ -108,40 +106,24 @@ module _ (t : ℕ) where
 
   sink_ahead-requires : lts.Need-sink_ahead-requires (reads t) (ahead-at t) ahead.Post
   sink_ahead-requires c κs =
-      let at_next = c.before in
-      let at_right = at_next.before in
-      let at_left = at_right.before in
-      let at_b = at_left.before in
-      let at_a = at_b.before in
-      let at_copy = at_a.before.before.before in
-      let at-index = at_copy.before.before in
-      let at-key-of = at-index.before.before in
-      let start = at-key-of.before.before.before.before.before.before.before.before.before.before.before in
-      let hole = start.requires.1.0 in
-      let children = start.requires.1.1.0 in
-      let chosen = at-index.choose_index-child.ensures in
+      let hole = c.requires.1.0 in
+      let children = c.requires.1.1.0 in
+      let chosen = c.choose_index-child.ensures in
       let child = chosen_child _ _ _ _ _ _ children chosen in
-      let at-4 = at-key-of.before in
-      let at-3 = at-4.before.before in
-      let at-2 = at-3.before.before in
-      let at_1 = at-2.before.before in
-      let key = chosen_key _ _ _ _ _ _ children chosen _ start.requires.1.1.1 in (
-        omega (arith, child.low, child.inside, start.requires.0),
+      let key = chosen_key _ _ _ _ _ _ children chosen _ c.requires.1.1.1 in (
+        omega (arith, child.low, child.inside, c.requires.0),
         (
-          hole_down _ _ _ _ _ _ _ _ hole child (omega (arith, key, at-index.before)) at_copy.copy.ensures (words_key _ _),
+          hole_down _ _ _ _ _ _ _ _ hole child (omega (arith, key, c.if-least-key.true)) c.copy.ensures (words_key _ _),
           (
-            chosen_children _ _ _ _ _ _ children chosen _ _ _ _ _ _ (omega (arith, at_1.before.before)) at_1.key_at-c.ensures at-2.key_at-d.ensures at-3.key_at-e.ensures at-4.key_at-f.ensures at_a.choose_key-next_a.ensures at_b.choose_key-next_b.ensures _ _ _ at_copy.copy.ensures,
-            chosen_least at_a.choose_key-next_a.ensures at_b.choose_key-next_b.ensures at_left.choose_key-under_left.ensures at_right.choose_key-under_right.ensures at_next.choose_key-next.ensures,
+            chosen_children _ _ _ _ _ _ children chosen _ _ _ _ _ _ (omega (arith, c.if-below-len.true)) c.key_at-c.ensures c.key_at-d.ensures c.key_at-e.ensures c.key_at-f.ensures c.choose_key-next_a.ensures c.choose_key-next_b.ensures _ _ _ c.copy.ensures,
+            chosen_least c.choose_key-next_a.ensures c.choose_key-next_b.ensures c.choose_key-under_left.ensures c.choose_key-under_right.ensures c.choose_key-next.ensures,
           ),
         ),
       )
 
   overflow_add-result : lts.Need-overflow_add-result (reads t) (ahead-at t) ahead.Post
   overflow_add-result c =
-      let at-sink = c.before.before in
-      let at_copy = at-sink.before.before.before.before.before.before.before.before.before in
-      let start = at_copy.before.before.before.before.before.before.before.before.before.before.before.before.before.before.before in
-      omega (arith, sank_few _ _ _ _ _ _ at-sink.sink_ahead.ensures.1, start.requires.1.0.is_hole.fits)
+      omega (arith, sank_few _ _ _ _ _ _ c.sink_ahead.ensures.1, c.requires.1.0.is_hole.fits)
 
   put-requires : lts.Need-put-requires (reads t) (ahead-at t) ahead.Post
   put-requires c κs = search rules
@@ -154,29 +136,21 @@ module _ (t : ℕ) where
 
   returns-then-least-key : lts.Need-returns-then-least-key (reads t) (ahead-at t) ahead.Post
   returns-then-least-key c =
-      let at-sink = c.before.before in
-      let at_copy = at-sink.before.before.before.before.before.before.before.before.before in
-      let at-index = at_copy.before.before in
-      let at-key-of = at-index.before.before in
-      let start = at-key-of.before.before.before.before.before.before.before.before.before.before.before in
-      let hole = start.requires.1.0 in
-      let children = start.requires.1.1.0 in
-      let chosen = at-index.choose_index-child.ensures in
+      let hole = c.requires.1.0 in
+      let children = c.requires.1.1.0 in
+      let chosen = c.choose_index-child.ensures in
       let child = chosen_child _ _ _ _ _ _ children chosen in
-      let key = chosen_key _ _ _ _ _ _ children chosen _ start.requires.1.1.1 in
-      let r = at-sink.sink_ahead.ensures in
-      (filled_moved _ _ _ _ _ _ _ hole.is_hole.inside child.inside (omega (arith, child.low)) at_copy.copy.ensures (words_key _ _) _ _ r.0, sank_below _ _ _ _ _ _ _ _ _ _ child.low child.high (omega (arith, key, at-index.before)) at_copy.copy.ensures (words_key _ _) r.1)
+      let key = chosen_key _ _ _ _ _ _ children chosen _ c.requires.1.1.1 in
+      let r = c.sink_ahead.ensures in
+      (filled_moved _ _ _ _ _ _ _ hole.is_hole.inside child.inside (omega (arith, child.low)) c.copy.ensures (words_key _ _) _ _ r.0, sank_below _ _ _ _ _ _ _ _ _ _ child.low child.high (omega (arith, key, c.if-least-key.true)) c.copy.ensures (words_key _ _) r.1)
 
   shape_of-q-else-least-key : lts.Need-shape_of-q-else-least-key (reads t) (ahead-at t) ahead.Post
   shape_of-q-else-least-key c = search rules
 
   returns-else-least-key : lts.Need-returns-else-least-key (reads t) (ahead-at t) ahead.Post
   returns-else-least-key c =
-      let at-put = c.before.before in
-      let at-key-of = at-put.before.before.before in
-      let start = at-key-of.before.before.before.before.before.before.before.before.before.before.before in
-      let hole = start.requires.1.0 in
-      (filled_here _ _ _ _ _ _ hole.is_hole at-put.put.ensures hole.at_least (at_most_children _ _ _ _ _ _ _ start.requires.1.1.0 start.requires.1.1.1 (omega (arith, at-put.before.before))), sank_here _ _ _ _ _ _ hole.is_hole.inside at-put.put.ensures)
+      let hole = c.requires.1.0 in
+      (filled_here _ _ _ _ _ _ hole.is_hole c.put.ensures hole.at_least (at_most_children _ _ _ _ _ _ _ c.requires.1.1.0 c.requires.1.1.1 (omega (arith, c.if-least-key.false))), sank_here _ _ _ _ _ _ hole.is_hole.inside c.put.ensures)
 
   shape_of-q-else-below-len : lts.Need-shape_of-q-else-below-len (reads t) (ahead-at t) ahead.Post
   shape_of-q-else-below-len c = search rules

@@ -23,7 +23,7 @@ key_of-key-requires : tie.Need-key_of-key-requires invariant-loop-hole decreases
 key_of-key-requires c κs = search rules
 
 loop-holds : tie.Need-loop-hole-init invariant-loop-hole decreases-loop-hole
-loop-holds c = (refl, (c.before.before.requires, λ zs f. f))
+loop-holds c = (refl, (c.requires, λ zs f. f))
 
 overflow_sub-parent : tie.Need-overflow_sub-parent invariant-loop-hole decreases-loop-hole
 overflow_sub-parent c = search rules
@@ -39,10 +39,8 @@ shape_of-q-then-k-key c = search rules
 
 returns-then-k-key : tie.Need-returns-then-k-key invariant-loop-hole decreases-loop-hole
 returns-then-k-key c =
-    let at-put = c.before.before in
-    let at-if = at-put.before.before in
-    let inv = at-if.before.before.before.before.loop-hole.invariant in
-    inv.1.1 _ (filled_here _ _ _ _ _ _ inv.1.0.is_hole at-put.put.ensures (λ pos. omega (arith, at-if)) inv.1.0.at_most)
+    let inv = c.loop-hole.invariant in
+    inv.1.1 _ (filled_here _ _ _ _ _ _ inv.1.0.is_hole c.put.ensures (λ pos. omega (arith, c.if-k-key.true)) inv.1.0.at_most)
 
 copy-requires : tie.Need-copy-requires invariant-loop-hole decreases-loop-hole
 copy-requires c κs = search rules
@@ -52,15 +50,12 @@ loop-less c = search rules
 
 loop-again : tie.Need-loop-hole-preserved invariant-loop-hole decreases-loop-hole
 loop-again c =
-    let at_copy = c.before.before in
-    let at-if = at_copy.before.before in
-    let at-loop = at-if.before.before.before.before in
-    let inv = at-loop.loop-hole.invariant in
-    let p = at_copy.copy.ensures in
+    let inv = c.loop-hole.invariant in
+    let p = c.copy.ensures in
     let inside = inv.1.0.is_hole.inside in (
       omega (arith, p.size, inv.0),
       (
-        hole_up _ _ _ _ _ _ _ inv.1.0 (omega arith) (omega (arith, at-if)) p (words_key _ _),
+        hole_up _ _ _ _ _ _ _ inv.1.0 (omega arith) (omega (arith, c.if-k-key.false)) p (words_key _ _),
         λ zs f. inv.1.1 zs (filled_moved _ _ _ _ _ _ _ inside (omega arith) (omega arith) p (words_key _ _) zs _ f),
       ),
     )
@@ -73,10 +68,8 @@ shape_of-q c = search rules
 
 returns : tie.Need-returns invariant-loop-hole decreases-loop-hole
 returns c =
-    let at-put = c.before.before in
-    let at_end = at-put.before.before in
-    let inv = at_end.before.loop-hole.invariant in
-    inv.1.1 _ (filled_here _ _ _ _ _ _ inv.1.0.is_hole at-put.put-2.ensures (λ pos. omega (arith, at_end.loop-hole-test)) inv.1.0.at_most)
+    let inv = c.loop-hole.invariant in
+    inv.1.1 _ (filled_here _ _ _ _ _ _ inv.1.0.is_hole c.put-2.ensures (λ pos. omega (arith, c.loop-hole-test)) inv.1.0.at_most)
 
 pub rise_spec : {M : Type 1} → statement M
 rise_spec =

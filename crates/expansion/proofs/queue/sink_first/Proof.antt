@@ -15,10 +15,7 @@ choose_key-least-requires c κs = search rules
 
 sink_ahead-requires : tie.Need-sink_ahead-requires
 sink_ahead-requires c κs =
-    let at_least_lem = c.before in
-    let at-2 = at_least_lem.before in
-    let at_1 = at-2.before.before in
-    (search rules, (record { two = search rules; left = at_1.key_at-a.ensures; right = at-2.key_at-b.ensures }, at_least_lem.choose_key-least.ensures))
+    (search rules, (record { two = search rules; left = c.key_at-a.ensures; right = c.key_at-b.ensures }, c.choose_key-least.ensures))
 
 sink-requires : tie.Need-sink-requires
 sink-requires c κs = search rules

@@ -20,14 +20,13 @@ abbrev decreases-loop-i : tie.decreases-loop-i
 decreases-loop-i s₀ b n settled len i₀ s i = settled - i
 
 -- how far the clearing is, from the area on; and the node at place i
-so_far : (l : tie.At-loop-i invariant-loop-i decreases-loop-i) → let start = l.before.before.before.before.before.before in Clearing start.args.n start.args.s.now l.loop-i.s-1 start.args.b start.args.settled l.loop-i.i
-so_far l = let start = l.before.before.before.before.before.before in l.loop-i.invariant.2 start.args.s.now start.requires l.before.before.before.clear.ensures
+so_far : (l : tie.At-loop-i invariant-loop-i decreases-loop-i) → Clearing l.args.n l.args.s.now l.loop-i.s l.args.b l.args.settled l.loop-i.i
+so_far l = l.loop-i.invariant.2 l.args.s.now l.requires l.clear.ensures
 
-node : (c : tie.After-wide-node invariant-loop-i decreases-loop-i) → c.wide-node.result < c.before.before.before.before.before.before.before.before.before.args.n
+node : (c : tie.After-wide-node invariant-loop-i decreases-loop-i) → c.wide-node.result < c.args.n
 node c =
     let l = c.before.before.before in
-    let start = l.before.before.before.before.before.before in
-    rw c.wide-node.ensures (clearing_node start.requires (so_far l) c.before.before.loop-i-test.true)
+    rw c.wide-node.ensures (clearing_node l.requires (so_far l) c.loop-i-test.true)
 
 clear-requires : tie.Need-clear-requires invariant-loop-i decreases-loop-i
 clear-requires c κs = search rules
@@ -47,8 +46,7 @@ offset_bounds-s-at c = search rules
 bounds-s-at : tie.Need-bounds-s-at invariant-loop-i decreases-loop-i
 bounds-s-at c =
     let l = c.before.before in
-    let start = l.before.before.before.before.before.before in
-    omega (arith, (so_far l).size, start.requires.queue.room, start.requires.counted)
+    omega (arith, (so_far l).size, l.requires.queue.room, l.requires.counted)
 
 wide-node-requires : tie.Need-wide-node-requires invariant-loop-i decreases-loop-i
 wide-node-requires c κs = search rules
@@ -61,19 +59,16 @@ bounds-s-at-in-loop-i c = search rules
 
 overflow_add-s : tie.Need-overflow_add-s invariant-loop-i decreases-loop-i
 overflow_add-s c =
-    let start = c.before.before.before.before.before.before.before.before.before in
-    omega (arith, node c, start.requires.queue.room)
+    omega (arith, node c, c.requires.queue.room)
 
 offset_bounds-s-b : tie.Need-offset_bounds-s-b invariant-loop-i decreases-loop-i
 offset_bounds-s-b c =
-    let start = c.before.before.before.before.before.before.before.before.before in
-    omega (arith, node c, start.requires.queue.room)
+    omega (arith, node c, c.requires.queue.room)
 
 bounds-s-b : tie.Need-bounds-s-b invariant-loop-i decreases-loop-i
 bounds-s-b c =
     let l = c.before.before.before in
-    let start = l.before.before.before.before.before.before in
-    simp length-set (omega (arith, node c, (so_far l).size, start.requires.queue.room))
+    simp length-set (omega (arith, node c, (so_far l).size, l.requires.queue.room))
 
 overflow_add-i : tie.Need-overflow_add-i invariant-loop-i decreases-loop-i
 overflow_add-i c = search rules
@@ -82,12 +77,11 @@ loop-less : tie.Need-loop-i-smaller invariant-loop-i decreases-loop-i
 loop-less c = search rules
 
 loop-again : tie.Need-loop-i-preserved invariant-loop-i decreases-loop-i
-loop-again c =
-    let l = c.before.before.before in (
-      omega arith,
-      simp length-set l.loop-i.invariant.1,
-      λ xs a d. rw c.wide-node.ensures (clearing_more a (l.loop-i.invariant.2 xs a d) c.before.before.loop-i-test.true),
-    )
+loop-again c = (
+  omega arith,
+  simp length-set c.loop-i.invariant.1,
+  λ xs a d. rw c.wide-node.ensures (clearing_more a (c.loop-i.invariant.2 xs a d) c.loop-i-test.true),
+)
 
 shape_of-s : tie.Need-shape_of-s invariant-loop-i decreases-loop-i
 shape_of-s c = search rules
@@ -95,8 +89,7 @@ shape_of-s c = search rules
 returns : tie.Need-returns invariant-loop-i decreases-loop-i
 returns c =
     let l = c.before in
-    let start = l.before.before.before.before.before.before in
-    clearing_done start.requires (so_far l) (omega (arith, c.loop-i-test.false)) l.loop-i.invariant.0
+    clearing_done l.requires (so_far l) (omega (arith, c.loop-i-test.false)) l.loop-i.invariant.0
 
 pub clear_spec : {M : Type 1} → statement M
 clear_spec =

@@ -30,25 +30,25 @@ G s = network s.args.starts.now s.args.neighbours.now s.args.weights.now
 abbrev start : tie.After-weights_of-weighed invariant-loop-j decreases-loop-j → tie.Start invariant-loop-j decreases-loop-j
 start c = c.before.before.before.before.before.before.before.before
 
-ahead : (c : tie.After-weights_of-weighed invariant-loop-j decreases-loop-j) → c.before.before.neighbours_of-ahead.result.now ≡ neighbours_of (G (start c)) (start c).args.node
-ahead c = rw c.before.before.before.wide.ensures at c.before.before.neighbours_of-ahead.ensures
+ahead : (c : tie.After-weights_of-weighed invariant-loop-j decreases-loop-j) → c.neighbours_of-ahead.result.now ≡ neighbours_of (G (start c)) c.args.node
+ahead c = rw c.wide.ensures at c.neighbours_of-ahead.ensures
 
-weighed : (c : tie.After-weights_of-weighed invariant-loop-j decreases-loop-j) → c.weights_of-weighed.result.now ≡ weights_of (G (start c)) (start c).args.node
-weighed c = rw c.before.wide-2.ensures at c.weights_of-weighed.ensures
+weighed : (c : tie.After-weights_of-weighed invariant-loop-j decreases-loop-j) → c.weights_of-weighed.result.now ≡ weights_of (G (start c)) c.args.node
+weighed c = rw c.wide-2.ensures at c.weights_of-weighed.ensures
 
 place : (c : tie.In-loop-j invariant-loop-j decreases-loop-j)
     → let s = start c.before.before in
-    ArcAt (G s) s.args.node c.before.loop-j.j c.before.before.before.before.neighbours_of-ahead.result.now c.before.before.weights_of-weighed.result.now
+    ArcAt (G s) s.args.node c.loop-j.j c.neighbours_of-ahead.result.now c.weights_of-weighed.result.now
 place c =
     let w = c.before.before in
     let s = start w in
-    arc_handed s.pre.accepted s.pre.inside (ahead w) (weighed w) c.loop-j-test.true
+    arc_handed s.requires.accepted s.requires.inside (ahead w) (weighed w) c.loop-j-test.true
 
 -- the key of the entry that the arc offers, and its node
 key : (c : tie.After-tag_of-tag invariant-loop-j decreases-loop-j)
     → let i = c.before.before.before in
     let s = start i.before.before in
-    key_of (s.args.label + get_or i.before.before.weights_of-weighed.result.now i.before.loop-j.j 0) c.tag_of-tag.result ≡ arc_key (G s) s.args.node s.args.label i.before.loop-j.j
+    key_of (s.args.label + get_or i.weights_of-weighed.result.now i.loop-j.j 0) c.tag_of-tag.result ≡ arc_key (G s) s.args.node s.args.label i.loop-j.j
 key c =
     let i = c.before.before.before in
     omega (arith, c.tag_of-tag.ensures, (place i).to, (place i).weight)
@@ -56,11 +56,11 @@ key c =
 node : (c : tie.After-tag_of-tag invariant-loop-j decreases-loop-j)
     → let i = c.before.before.before in
     let s = start i.before.before in
-    node_of (key_of (s.args.label + get_or i.before.before.weights_of-weighed.result.now i.before.loop-j.j 0) c.tag_of-tag.result) ≡ get_or (neighbours_of (G s) s.args.node) i.before.loop-j.j 0
+    node_of (key_of (s.args.label + get_or i.weights_of-weighed.result.now i.loop-j.j 0) c.tag_of-tag.result) ≡ get_or (neighbours_of (G s) s.args.node) i.loop-j.j 0
 node c =
     let i = c.before.before.before in
     let s = start i.before.before in
-    ap node_of (key c) ∙ key_node_of s.pre.accepted (s.args.label + get_or (weights_of (G s) s.args.node) i.before.loop-j.j 0) (get_or (neighbours_of (G s) s.args.node) i.before.loop-j.j 0) s.args.node (s.pre.accepted.leads_in (place i).arc) s.pre.inside
+    ap node_of (key c) ∙ key_node_of s.requires.accepted (s.args.label + get_or (weights_of (G s) s.args.node) i.loop-j.j 0) (get_or (neighbours_of (G s) s.args.node) i.loop-j.j 0) s.args.node (s.requires.accepted.leads_in (place i).arc) s.requires.inside
 
 overflow_sub-n : tie.Need-overflow_sub-n invariant-loop-j decreases-loop-j
 overflow_sub-n c = search rules
@@ -70,19 +70,17 @@ wide-requires c κs = search rules
 
 neighbours_of-ahead-requires : tie.Need-neighbours_of-ahead-requires invariant-loop-j decreases-loop-j
 neighbours_of-ahead-requires c κs =
-    let s = c.before.before.before.before.before in
-    (accepted_searchable s.requires.accepted).neighbours.part _ (omega (arith, c.wide.ensures, s.requires.inside))
+    (accepted_searchable c.requires.accepted).neighbours.part _ (omega (arith, c.wide.ensures, c.requires.inside))
 
 wide-requires-2 : tie.Need-wide-requires-2 invariant-loop-j decreases-loop-j
 wide-requires-2 c κs = search rules
 
 weights_of-weighed-requires : tie.Need-weights_of-weighed-requires invariant-loop-j decreases-loop-j
 weights_of-weighed-requires c κs =
-    let s = c.before.before.before.before.before.before.before in
-    (accepted_searchable s.requires.accepted).weights.part _ (omega (arith, c.wide-2.ensures, s.requires.inside))
+    (accepted_searchable c.requires.accepted).weights.part _ (omega (arith, c.wide-2.ensures, c.requires.inside))
 
 loop-holds : tie.Need-loop-j-init invariant-loop-j decreases-loop-j
-loop-holds c = (omega arith, followed_none (start c).requires.queue)
+loop-holds c = (omega arith, followed_none c.requires.queue)
 
 offset_bounds-ahead-j : tie.Need-offset_bounds-ahead-j invariant-loop-j decreases-loop-j
 offset_bounds-ahead-j c = search rules
@@ -99,7 +97,7 @@ bounds-weighed-j c = (place c.before.before).weighed
 overflow_add-far : tie.Need-overflow_add-far invariant-loop-j decreases-loop-j
 overflow_add-far c =
     let s = start c.before.before.before.before in
-    omega (arith, s.pre.accepted.weight_high (place c.before.before).arc, (place c.before.before).weight, s.pre.fits)
+    omega (arith, s.requires.accepted.weight_high (place c.before.before).arc, (place c.before.before).weight, s.requires.fits)
 
 overflow_add-j : tie.Need-overflow_add-j invariant-loop-j decreases-loop-j
 overflow_add-j c = search rules
@@ -108,14 +106,14 @@ tag_of-tag-requires : tie.Need-tag_of-tag-requires invariant-loop-j decreases-lo
 tag_of-tag-requires c κs =
     let i = c.before.before in
     let s = start i.before.before in
-    let f = s.pre.accepted.few in
-    (omega (arith, s.pre.accepted.leads_in (place i).arc, (place i).to), omega (arith, s.pre.inside))
+    let f = s.requires.accepted.few in
+    (omega (arith, s.requires.accepted.leads_in (place i).arc, (place i).to), omega (arith, s.requires.inside))
 
 offer-more-requires : tie.Need-offer-more-requires invariant-loop-j decreases-loop-j
 offer-more-requires c κs =
     let i = c.before.before.before.before in
     let s = start i.before.before in
-    (i.before.loop-j.invariant.1.queue, omega (arith, node c.before, s.pre.accepted.leads_in (place i).arc))
+    (i.loop-j.invariant.1.queue, omega (arith, node c.before, s.requires.accepted.leads_in (place i).arc))
 
 loop-less : tie.Need-loop-j-smaller invariant-loop-j decreases-loop-j
 loop-less c = search rules
@@ -125,7 +123,7 @@ loop-again c =
     let t = c.before.before.before.before in
     let i = t.before.before.before in
     let s = start i.before.before in
-    (omega arith, followed_more i.before.loop-j.invariant.1 (rw (key t) at c.before.before.offer-more.ensures) (s.pre.accepted.leads_in (place i).arc) (sym (ap node_of (key t)) ∙ node t))
+    (omega arith, followed_more i.loop-j.invariant.1 (rw (key t) at c.offer-more.ensures) (s.requires.accepted.leads_in (place i).arc) (sym (ap node_of (key t)) ∙ node t))
 
 shape_of-s : tie.Need-shape_of-s invariant-loop-j decreases-loop-j
 shape_of-s c = search rules
@@ -133,7 +131,7 @@ shape_of-s c = search rules
 returns : tie.Need-returns invariant-loop-j decreases-loop-j
 returns c =
     let e = ahead c.before.before in
-    let l = c.before.loop-j in
+    let l = c.loop-j in
     let q : l.j ≡ length (neighbours_of (G (start c.before.before)) (start c.before.before).args.node) = omega (arith, ap length e, l.invariant.0, c.loop-j-test.false) in
     rw q at l.invariant.1
 
