@@ -1,5 +1,6 @@
 // The number of each call: the first condition met, or 0. Document 01, 'Numbers of refusal'.
 #![tactic(auto)]
+
 ghost use Rattle.std.specs.Prelude.{◌≡◌};
 ghost use Rattle.network.specs.Network.{network};
 ghost use Rattle.numbers.specs.Numbers.{network_points_number, site_number, query_number, distances_number, nearest_number, verify_number, search_number, limited_number, eager_number, table_check_number, build_number, table_node_number, change_number, table_query_number};
