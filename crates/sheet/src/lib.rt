@@ -2,6 +2,7 @@
 // list, for one nearest, is then found along the arcs that keep to these distances, at the cost of its own region. The lent words are: the area of the
 // expansion, 4 n | marks n | members n.
 #![tactic(auto)]
+
 pub mod list;
 pub mod sheet;
 pub mod sources;

@@ -27,7 +27,7 @@ start c = c.before.before.before.before.before.before.before.before.before
 
 -- the state in which a turn begins
 abbrev begun : tie.In-loop-j invariant-loop-j decreases-loop-j → tie.Start invariant-loop-j decreases-loop-j
-begun c = start c.before.before.before.before
+begun c = start c.before.before.before
 
 abbrev G : tie.Start invariant-loop-j decreases-loop-j → Network
 G s = network s.args.starts.now s.args.neighbours.now s.args.weights.now
@@ -40,26 +40,26 @@ weighed : (c : tie.After-weights_of-weighed invariant-loop-j decreases-loop-j) �
 weighed c = rw c.before.wide-2.ensures at c.weights_of-weighed.ensures
 
 place : (c : tie.In-loop-j invariant-loop-j decreases-loop-j)
-    → let w = c.before.before.before.before in
+    → let w = c.before.before.before in
     ArcAt (G (start w)) (start w).args.node c.before.loop-j.j w.before.before.neighbours_of-ahead.result.now w.weights_of-weighed.result.now
 place c =
-    let w = c.before.before.before.before in
+    let w = c.before.before.before in
     let s = start w in
-    arc_handed s.pre.accepted s.pre.inside (ahead w) (weighed w) c.loop-j-test.true
+    arc_handed s.requires.accepted s.requires.inside (ahead w) (weighed w) c.loop-j-test.true
 
 inside : (c : tie.In-loop-j invariant-loop-j decreases-loop-j) → let s = begun c in get_or (neighbours_of (G s) s.args.node) c.before.loop-j.j 0 < node_count (G s)
 inside c = (begun c).requires.accepted.leads_in (place c).arc
 
 -- the label that is read is that of the node behind the arc, and as before
 behind : (c : tie.After-label_of-label invariant-loop-j decreases-loop-j)
-    → let i = c.before.before.before.before in
+    → let i = c.before.before.before in
     let s = begun i in
     c.label_of-label.result ≡ label_in (node_count (G s)) s.args.s.now 0 (get_or (neighbours_of (G s) s.args.node) i.before.loop-j.j 0)
 behind c =
-    let i = c.before.before.before.before in
+    let i = c.before.before.before in
     let s = begun i in
     c.label_of-label.ensures
-    ∙ ap (label_in (node_count (G s)) i.before.loop-j.s-1 0) (place i).to
+    ∙ ap (label_in (node_count (G s)) i.before.loop-j.s 0) (place i).to
     ∙ label_kept i.before.loop-j.invariant.1.grows.frame (get_or (neighbours_of (G s) s.args.node) i.before.loop-j.j 0) (inside i)
 
 overflow_sub-n : tie.Need-overflow_sub-n invariant-loop-j decreases-loop-j
@@ -86,8 +86,8 @@ label_of-near-requires c κs = search rules
 
 loop-holds : tie.Need-loop-j-init invariant-loop-j decreases-loop-j
 loop-holds c =
-    let s = start c.before.before in
-    (omega arith, followed_none (G s) s.args.node s.pre.list)
+    let s = start c.before in
+    (omega arith, followed_none (G s) s.args.node s.requires.list)
 
 offset_bounds-ahead-j : tie.Need-offset_bounds-ahead-j invariant-loop-j decreases-loop-j
 offset_bounds-ahead-j c = search rules
@@ -105,19 +105,19 @@ overflow_add-far : tie.Need-overflow_add-far invariant-loop-j decreases-loop-j
 overflow_add-far c =
     let i = c.before.before in
     let s = begun i in
-    omega (arith, i.before.before.label_of-near.ensures, s.pre.label, s.pre.accepted.weight_high (place i).arc, (place i).weight)
+    omega (arith, i.before.before.label_of-near.ensures, s.requires.label, s.requires.accepted.weight_high (place i).arc, (place i).weight)
 
 overflow_add-j : tie.Need-overflow_add-j invariant-loop-j decreases-loop-j
 overflow_add-j c = search rules
 
 label_of-label-requires : tie.Need-label_of-label-requires invariant-loop-j decreases-loop-j
 label_of-label-requires c κs =
-    let i = c.before.before.before in
+    let i = c.before.before in
     omega (arith, (place i).to, inside i, i.before.loop-j.invariant.1.grows.list.room)
 
 take_in-members-requires : tie.Need-take_in-members-requires invariant-loop-j decreases-loop-j
 take_in-members-requires c κs =
-    let i = c.before.before.before.before.before.before in
+    let i = c.before.before.before.before.before in
     record { list = i.before.loop-j.invariant.1.grows.list; inside = omega (arith, (place i).to, inside i) }
 
 loop-less : tie.Need-loop-j-smaller-then-label-far invariant-loop-j decreases-loop-j
@@ -127,10 +127,10 @@ loop-again : tie.Need-loop-j-preserved-then-label-far invariant-loop-j decreases
 loop-again c =
     let t = c.before.before in
     let f = t.before.before in
-    let i = f.before.before.before.before.before in
+    let i = f.before.before.before.before in
     let s = begun i in (
       omega (arith, i.loop-j-test.true),
-      followed_more i.before.loop-j.invariant.1 s.pre.accepted s.pre.inside (place i).low
+      followed_more i.before.loop-j.invariant.1 s.requires.accepted s.requires.inside (place i).low
           (omega (arith, behind f.before, f.if-label-far.true, i.before.before.label_of-near.ensures, (place i).weight))
           (rw (place i).to at t.take_in-members.ensures),
     )
@@ -140,7 +140,7 @@ loop-less-2 c = search rules
 
 loop-again-2 : tie.Need-loop-j-preserved invariant-loop-j decreases-loop-j
 loop-again-2 c =
-    let i = c.before.before.before.before.before in (
+    let i = c.before.before.before.before in (
       omega (arith, i.loop-j-test.true),
       followed_past i.before.loop-j.invariant.1 (λ k. c.if-label-far.false (omega (arith, k, behind c.before, i.before.before.label_of-near.ensures, (place i).weight))),
     )
@@ -150,7 +150,7 @@ shape_of-s c = search rules
 
 returns : tie.Need-returns invariant-loop-j decreases-loop-j
 returns c =
-    let w = c.before.before.before.before in
+    let w = c.before.before.before in
     let l = c.before.loop-j in
     let q : l.j ≡ length (neighbours_of (G (start w)) (start w).args.node) = omega (arith, ap length (ahead w), l.invariant.0, c.loop-j-test.false) in
     rw q at l.invariant.1

@@ -27,14 +27,14 @@ G s = network s.args.starts.now s.args.neighbours.now s.args.weights.now
 
 listing : (c : tie.At-loop-i invariant-loop-i decreases-loop-i)
     → let a = (start c).args in
-    Collecting (G (start c)) a.s-1.now c.loop-i.s-1 a.households.now a.q c.loop-i.size c.loop-i.sum c.loop-i.i
+    Collecting (G (start c)) a.s.now c.loop-i.s a.households.now a.q c.loop-i.size c.loop-i.sum c.loop-i.i
 listing c = c.loop-i.invariant (start c).args.s.now (start c).requires c.before.before.before.take_in-first.ensures
 
 -- a member's place is below n
 low : (c : tie.In-loop-i invariant-loop-i decreases-loop-i) → let n = node_count (G (start c.before)) in (c.before.loop-i.i < n) × (n ≤ 65535)
 low c =
     let s = start c.before in
-    (omega (arith, c.loop-i-test.true, listing_few s.pre (listing c.before)), s.pre.accepted.few)
+    (omega (arith, c.loop-i-test.true, listing_few s.requires (listing c.before)), s.requires.accepted.few)
 
 overflow_sub-n : tie.Need-overflow_sub-n invariant-loop-i decreases-loop-i
 overflow_sub-n c = omega (arith, c.before.before.before.before.before.requires.accepted.some)
@@ -63,7 +63,7 @@ overflow_add-i c = omega (arith, low c.before)
 follow-members-requires : tie.Need-follow-members-requires invariant-loop-i decreases-loop-i
 follow-members-requires c κs =
     let i = c.before.before in
-    can_follow (start i.before).pre (listing i.before) i.loop-i-test.true
+    can_follow (start i.before).requires (listing i.before) i.loop-i-test.true
 
 loop-less : tie.Need-loop-i-smaller invariant-loop-i decreases-loop-i
 loop-less c = omega (arith, low c.before.before.before.before.before)
@@ -78,7 +78,7 @@ shape_of-s : tie.Need-shape_of-s invariant-loop-i decreases-loop-i
 shape_of-s c = (listing c.before).grows.frame.size
 
 returns : tie.Need-returns invariant-loop-i decreases-loop-i
-returns c = listing_done (start c.before).pre (listing c.before) c.loop-i-test.false
+returns c = listing_done (start c.before).requires (listing c.before) c.loop-i-test.false
 
 pub list_length_spec : {M : Type 1} → statement M
 list_length_spec =

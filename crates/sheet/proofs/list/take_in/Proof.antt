@@ -23,7 +23,7 @@ fresh : (c : tie.Else-mark-q) → let a = (start c.before.before).args in get_or
 fresh c e = c.if-mark-q.false (omega (arith, mark c.before.before, e))
 
 room : (c : tie.Else-mark-q) → let a = (start c.before.before).args in (a.size < a.n) × (a.n ≤ 65535)
-room c = let s = start c.before.before in (list_room s.pre.list s.args.node s.pre.inside (fresh c), s.pre.list.few)
+room c = let s = start c.before.before in (list_room s.requires.list s.args.node s.requires.inside (fresh c), s.requires.list.few)
 
 overflow_mul-at : tie.Need-overflow_mul-at
 overflow_mul-at c = search rules
@@ -44,7 +44,7 @@ overflow_add-q : tie.Need-overflow_add-q
 overflow_add-q c = search rules
 
 returns-then-mark-q : tie.Need-returns-then-mark-q
-returns-then-mark-q c = let s = start c.before.before in taken_before s.pre.list s.args.node (omega (arith, mark c.before.before, c.if-mark-q.true))
+returns-then-mark-q c = let s = start c.before.before in taken_before s.requires.list s.args.node (omega (arith, mark c.before.before, c.if-mark-q.true))
 
 overflow_add-s : tie.Need-overflow_add-s
 overflow_add-s c = search rules
@@ -84,7 +84,7 @@ returns : tie.Need-returns
 returns c =
     let s = start c.before.before.before in
     let h = c.households_at-more.ensures in
-    rw (c.before.before.before.wide.ensures, add-one s.args.q, h.0) (taken_new s.pre.list s.args.node s.pre.inside (fresh c.before) (omega arith))
+    rw (c.before.before.before.wide.ensures, add-one s.args.q, h.0) (taken_new s.requires.list s.args.node s.requires.inside (fresh c.before) (omega arith))
 
 pub take_in_spec : {M : Type 1} → statement M
 take_in_spec =

@@ -44,19 +44,19 @@ bounds-answers-at : tie.Need-bounds-answers-at invariant-loop-at decreases-loop-
 bounds-answers-at c =
     let e = c.before.before in
     let l = loop-of e in
-    omega (arith, e.before.before.loop-at-test.true, l.loop-at.inv.3.size, (start_of l).pre.places)
+    omega (arith, e.before.before.loop-at-test.true, l.loop-at.invariant.3.size, (start_of l).requires.places)
 
 overflow_add-node : tie.Need-overflow_add-node invariant-loop-at decreases-loop-at
 overflow_add-node c =
     let e = c.before.before in
     let l = loop-of e in
-    record { fits = omega (arith, e.before.before.loop-at-test.true, l.loop-at.inv.1, (start_of l).pre.accepted.few) }
+    record { fits = omega (arith, e.before.before.loop-at-test.true, l.loop-at.invariant.1, (start_of l).requires.accepted.few) }
 
 overflow_add-at : tie.Need-overflow_add-at invariant-loop-at decreases-loop-at
 overflow_add-at c =
     let e = c.before.before in
     let l = loop-of e in
-    record { fits = omega (arith, e.before.before.loop-at-test.true, (start_of l).pre.accepted.few) }
+    record { fits = omega (arith, e.before.before.loop-at-test.true, (start_of l).requires.accepted.few) }
 
 loop-less : tie.Need-loop-at-smaller invariant-loop-at decreases-loop-at
 loop-less c = let e = c.before.before in omega (arith, e.before.before.loop-at-test.true)
@@ -66,11 +66,11 @@ loop-again c =
     let e = c.before.before in
     let l = loop-of e in
     let low = e.before.before.loop-at-test.true in
-    let left = rw l.loop-at.inv.1 at e.entry_of.ensures in (
+    let left = rw l.loop-at.invariant.1 at e.entry_of.ensures in (
       omega arith,
-      omega (arith, l.loop-at.inv.1),
-      entering_more l.loop-at.inv.2 left,
-      stored_more e.entry_of.result l.loop-at.inv.3 (omega (arith, low, (start_of l).pre.places)) left.entry,
+      omega (arith, l.loop-at.invariant.1),
+      entering_more l.loop-at.invariant.2 left,
+      stored_more e.entry_of.result l.loop-at.invariant.3 (omega (arith, low, (start_of l).requires.places)) left.entry,
     )
 
 shape_of-s : tie.Need-shape_of-s invariant-loop-at decreases-loop-at

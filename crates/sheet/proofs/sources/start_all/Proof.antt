@@ -34,12 +34,12 @@ inside c = c.before.loop-at-test.true
 present : (c : tie.After-lockers_at-there invariant-loop-at decreases-loop-at) → c.lockers_at-there.result ≢ 0 → marked (start_of (loop-of c)).args.sites.now (loop-of c).loop-at.at ≡ true
 present c h =
     let l = loop-of c in
-    lt-ltb 0 (lockers (start_of l).args.sites.now l.loop-at.at) (omega (arith, rw l.loop-at.inv.1 at c.lockers_at-there.ensures.0))
+    lt-ltb 0 (lockers (start_of l).args.sites.now l.loop-at.at) (omega (arith, rw l.loop-at.invariant.1 at c.lockers_at-there.ensures.0))
 
 absent : (c : tie.After-lockers_at-there invariant-loop-at decreases-loop-at) → c.lockers_at-there.result ≡ 0 → marked (start_of (loop-of c)).args.sites.now (loop-of c).loop-at.at ≡ false
 absent c h =
     let l = loop-of c in
-    le-ltb 0 (lockers (start_of l).args.sites.now l.loop-at.at) (omega (arith, rw l.loop-at.inv.1 at c.lockers_at-there.ensures.0))
+    le-ltb 0 (lockers (start_of l).args.sites.now l.loop-at.at) (omega (arith, rw l.loop-at.invariant.1 at c.lockers_at-there.ensures.0))
 
 loop-holds : tie.Need-loop-at-init invariant-loop-at decreases-loop-at
 loop-holds c = (omega arith, refl, started_none _ c.before.before.requires)
@@ -87,7 +87,7 @@ loop-again-2 : tie.Need-loop-at-preserved invariant-loop-at decreases-loop-at
 loop-again-2 c =
     let k = c.before in
     let l = loop-of k in
-    let i = l.loop-at.inv in (
+    let i = l.loop-at.invariant in (
       omega (arith, inside k),
       omega (arith, i.1),
       started_passed i.2 (absent k c.if-there-ne0.false),
