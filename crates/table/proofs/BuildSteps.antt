@@ -30,14 +30,14 @@ place_is {r = true} n h s = record { yes = λ e. absurd (false≢true e); no = �
 place_is {r = false} n h s = record { yes = λ e. record { free = omega arith; lacks = s.no refl }; no = λ e. absurd (true≢false e) }
 
 -- append: a row without a place for p stays, and one that has a place has taken p as often as there is room for
-pub append_none : {ids dists : List ℕ} {size p d all : ℕ} {r : Bool} → HasPlaceIs ids size p r → not r ≡ true → Appended ids ids dists dists size p d all size
-append_none {r = true} h e = absurd (false≢true e)
+pub append_none : {ids dists : List ℕ} {size p d all : ℕ} {r : Bool} → HasPlaceIs ids size p r → r ≡ false → Appended ids ids dists dists size p d all size
+append_none {r = true} h e = absurd (true≢false e)
 append_none {r = false} h e = record { taken = λ l. absurd (omega arith); refused = λ l. record { place = h.no refl; new_ids = refl; new_dists = refl } }
 
-pub append_some : {ids ids' dists dists' : List ℕ} {size p d all end : ℕ} {r : Bool} → HasPlaceIs ids size p r → not r ≡ false → 0 < all
+pub append_some : {ids ids' dists dists' : List ℕ} {size p d all end : ℕ} {r : Bool} → HasPlaceIs ids size p r → r ≡ true → 0 < all
     → end ≡ size + often (length ids) size all → ids' ≡ with_run ids size (end - size) p → dists' ≡ with_run dists size (end - size) d
     → Appended ids ids' dists dists' size p d all end
-append_some {r = false} h e some c a b = absurd (true≢false e)
+append_some {r = false} h e some c a b = absurd (false≢true e)
 append_some {ids} {dists = dists} {size = size} {p = p} {d = d} {all = all} {end = end} {r = true} h e some c a b =
     let q : end - size ≡ often (length ids) size all = omega arith in
     record {

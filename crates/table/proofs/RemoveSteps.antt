@@ -23,7 +23,7 @@ use Rattle.network.proofs.Counts.{count_few}
 use Rattle.network.proofs.Lends.{mid_length, mid_at, row_fits}
 use Rattle.network.proofs.Rank.{marked_inside}
 use Rattle.expansion.specs.Queue.{Queue, PushedAt}
-use Rattle.rows.specs.Flat.{place, row_at}
+use Rattle.rows.specs.Flat.{row_at}
 use Rattle.network.specs.Rows.{Sized}
 use Rattle.rows.specs.Take.{take_if, TakenOutOfRow}
 use Rattle.rows.specs.Check.{among}

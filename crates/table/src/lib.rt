@@ -1,5 +1,6 @@
 // The table of each node's K nearest points: build, insert, remove.
 #![tactic(auto)]
+
 pub mod build;
 pub mod insert;
 pub mod remove;

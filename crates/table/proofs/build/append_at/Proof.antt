@@ -36,10 +36,10 @@ module _ (c : tie.After-wide-size) where
   long xs h = omega (arith, mid_len at (at + (start w).args.places) xs (omega (arith, from w)))
 
   long-ids : length (mid_of at (at + (start w).args.places - at) (start w).args.ids.now) ≡ (start w).args.places
-  long-ids = long (start w).args.ids.now (start w).pre.look.ids_room
+  long-ids = long (start w).args.ids.now (start w).requires.look.ids_room
 
   long-dists : length (mid_of at (at + (start w).args.places - at) (start w).args.distances.now) ≡ (start w).args.places
-  long-dists = long (start w).args.distances.now (start w).pre.dists_room
+  long-dists = long (start w).args.distances.now (start w).requires.dists_room
 
 wide-at-requires : tie.Need-wide-at-requires
 wide-at-requires c κs = search rules
@@ -116,7 +116,7 @@ returns-then-size-then c =
     record {
       taken =
           λ e.
-          takes_at s.pre (w.wide-at.result * s.args.places) (w.wide-at.result * s.args.places + s.args.places) w.wide-at.result u.wide-size.result s.args.p s.args.d (from w) refl w.wide-at.ensures u.wide-size.ensures
+          takes_at s.requires (w.wide-at.result * s.args.places) (w.wide-at.result * s.args.places + s.args.places) w.wide-at.result u.wide-size.result s.args.p s.args.d (from w) refl w.wide-at.ensures u.wide-size.ensures
           (a.append-then.ensures.taken c.if-size-then.true);
       refused = λ e. absurd (true≢false e);
     }
@@ -137,7 +137,7 @@ returns c =
       taken = λ e. absurd (false≢true e);
       refused =
           λ e.
-          refuses_at s.pre (w.wide-at.result * s.args.places) (w.wide-at.result * s.args.places + s.args.places) w.wide-at.result u.wide-size.result s.args.p s.args.d (from w) refl w.wide-at.ensures u.wide-size.ensures
+          refuses_at s.requires (w.wide-at.result * s.args.places) (w.wide-at.result * s.args.places + s.args.places) w.wide-at.result u.wide-size.result s.args.p s.args.d (from w) refl w.wide-at.ensures u.wide-size.ensures
           (a.append-then.ensures.refused c.if-size-then.false);
     }
 

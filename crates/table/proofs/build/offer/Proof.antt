@@ -31,19 +31,16 @@ G s = network s.args.starts.now s.args.neighbours.now s.args.weights.now
 abbrev start : tie.After-weights_of-weighed invariant-loop-j decreases-loop-j → tie.Start invariant-loop-j decreases-loop-j
 start c = c.before.before.before.before.before.before.before.before.before
 
-ahead : (c : tie.After-weights_of-weighed invariant-loop-j decreases-loop-j) → c.before.before.neighbours_of-ahead.result.now ≡ neighbours_of (G (start c)) (start c).args.node
-ahead c = rw c.before.before.before.wide.ensures at c.before.before.neighbours_of-ahead.ensures
+ahead : (c : tie.After-weights_of-weighed invariant-loop-j decreases-loop-j) → c.neighbours_of-ahead.result.now ≡ neighbours_of (G c.before.before.before.before.before.before.before.before.before) c.args.node
+ahead c = rw c.wide.ensures at c.neighbours_of-ahead.ensures
 
-weighed : (c : tie.After-weights_of-weighed invariant-loop-j decreases-loop-j) → c.weights_of-weighed.result.now ≡ weights_of (G (start c)) (start c).args.node
-weighed c = rw c.before.wide-2.ensures at c.weights_of-weighed.ensures
+weighed : (c : tie.After-weights_of-weighed invariant-loop-j decreases-loop-j) → c.weights_of-weighed.result.now ≡ weights_of (G c.before.before.before.before.before.before.before.before.before) c.args.node
+weighed c = rw c.wide-2.ensures at c.weights_of-weighed.ensures
 
 place : (c : tie.In-loop-j invariant-loop-j decreases-loop-j)
-    → let s = start c.before.before in
-    ArcAt (G s) s.args.node c.before.loop-j.j c.before.before.before.before.neighbours_of-ahead.result.now c.before.before.weights_of-weighed.result.now
+    → ArcAt (G c.before.before.before.before.before.before.before.before.before.before.before) c.args.node c.loop-j.j c.neighbours_of-ahead.result.now c.weights_of-weighed.result.now
 place c =
-    let w = c.before.before in
-    let s = start w in
-    arc_handed s.pre.can.accepted s.pre.can.inside (ahead w) (weighed w) c.loop-j-test.true
+    arc_handed c.requires.can.accepted c.requires.can.inside (ahead c.before.before) (weighed c.before.before) c.loop-j-test.true
 
 overflow_sub-at : tie.Need-overflow_sub-at invariant-loop-j decreases-loop-j
 overflow_sub-at c = search rules
@@ -53,16 +50,14 @@ wide-requires c κs = search rules
 
 neighbours_of-ahead-requires : tie.Need-neighbours_of-ahead-requires invariant-loop-j decreases-loop-j
 neighbours_of-ahead-requires c κs =
-    let s = c.before.before.before.before.before.before in
-    (accepted_searchable s.requires.can.accepted).neighbours.part _ (omega (arith, c.wide.ensures, s.requires.can.inside))
+    (accepted_searchable c.requires.can.accepted).neighbours.part _ (omega (arith, c.wide.ensures, c.requires.can.inside))
 
 wide-requires-2 : tie.Need-wide-requires-2 invariant-loop-j decreases-loop-j
 wide-requires-2 c κs = search rules
 
 weights_of-weighed-requires : tie.Need-weights_of-weighed-requires invariant-loop-j decreases-loop-j
 weights_of-weighed-requires c κs =
-    let s = c.before.before.before.before.before.before.before.before in
-    (accepted_searchable s.requires.can.accepted).weights.part _ (omega (arith, c.wide-2.ensures, s.requires.can.inside))
+    (accepted_searchable c.requires.can.accepted).weights.part _ (omega (arith, c.wide-2.ensures, c.requires.can.inside))
 
 loop-holds : tie.Need-loop-j-init invariant-loop-j decreases-loop-j
 loop-holds c = (omega arith, entered_none (start c).requires.can.queue)
@@ -81,65 +76,57 @@ bounds-weighed-j c = (place c.before.before).weighed
 
 overflow_add-far : tie.Need-overflow_add-far invariant-loop-j decreases-loop-j
 overflow_add-far c =
-    let s = start c.before.before.before.before in
-    omega (arith, s.pre.can.accepted.weight_high (place c.before.before).arc, (place c.before.before).weight, s.pre.can.fits)
+    omega (arith, c.requires.can.accepted.weight_high (place c.before.before).arc, (place c.before.before).weight, c.requires.can.fits)
 
 overflow_add-j : tie.Need-overflow_add-j invariant-loop-j decreases-loop-j
 overflow_add-j c = search rules
 
 -- the word of the node that the arc leads to is as it was
 kept : (c : tie.In-loop-j invariant-loop-j decreases-loop-j)
-    → let s = start c.before.before in
-    let to = get_or c.before.before.before.before.neighbours_of-ahead.result.now c.before.loop-j.j 0 in
-    get_or c.before.loop-j.s-1 to 0 ≡ get_or s.args.s.now to 0
+    → let to = get_or c.neighbours_of-ahead.result.now c.loop-j.j 0 in
+    get_or c.loop-j.s to 0 ≡ get_or c.args.s.now to 0
 kept c =
-    let s = start c.before.before in
-    c.before.loop-j.invariant.1.frame.words _ (omega (arith, s.pre.can.accepted.leads_in (place c).arc, (place c).to))
+    c.loop-j.invariant.1.frame.words _ (omega (arith, c.requires.can.accepted.leads_in (place c).arc, (place c).to))
 
 has_place_at-requires : tie.Need-has_place_at-requires invariant-loop-j decreases-loop-j
 has_place_at-requires c κs =
-    let i = c.before.before.before in
-    let s = start i.before.before in
-    look_kept (kept i) i.before.loop-j.invariant.1.frame.size (s.pre.looks _ (omega (arith, s.pre.can.accepted.leads_in (place i).arc, (place i).to)))
+    look_kept (kept c.before.before) c.loop-j.invariant.1.frame.size (c.requires.looks _ (omega (arith, c.requires.can.accepted.leads_in (place c.before.before).arc, (place c.before.before).to)))
 
 tag_of-tag-requires : tie.Need-tag_of-tag-requires invariant-loop-j decreases-loop-j
 tag_of-tag-requires c κs =
-    let i = c.before.before.before.before.before in
-    let s = start i.before.before in
-    let f = s.pre.can.accepted.few in
-    (omega (arith, s.pre.can.point), omega (arith, s.pre.can.accepted.leads_in (place i).arc, (place i).to))
+    let i = c.before.before.before.before in
+    let f = c.requires.can.accepted.few in
+    (omega (arith, c.requires.can.point), omega (arith, c.requires.can.accepted.leads_in (place i).arc, (place i).to))
 
 push_at-requires : tie.Need-push_at-requires invariant-loop-j decreases-loop-j
 push_at-requires c κs =
-    let i = c.before.before.before.before.before.before.before in
-    let f = i.before.loop-j.invariant.1 in
-    (f.queue, omega (arith, f.frame.size, f.grown, (start i.before.before).pre.can.room, (place i).low))
+    let i = c.before.before.before.before.before.before in
+    let f = c.loop-j.invariant.1 in
+    (f.queue, omega (arith, f.frame.size, f.grown, c.requires.can.room, (place i).low))
 
 overflow_add-more : tie.Need-overflow_add-more invariant-loop-j decreases-loop-j
 overflow_add-more c =
-    let i = c.before.before.before.before.before.before.before.before.before.before in
-    let s = start i.before.before in
-    omega (arith, i.before.loop-j.invariant.1.grown, s.pre.can.room, (place i).low, s.good.1.1.1.0)
+    let i = c.before.before.before.before.before.before.before.before.before in
+    omega (arith, c.loop-j.invariant.1.grown, c.requires.can.room, (place i).low, c.well_formed.1.1.1.0)
 
 loop-less : tie.Need-loop-j-smaller-then-has_place_at invariant-loop-j decreases-loop-j
 loop-less c = search rules
 
 loop-again : tie.Need-loop-j-preserved-then-has_place_at invariant-loop-j decreases-loop-j
 loop-again c =
-    let t = c.before.before.before.before in
-    let i = t.before.before.before.before.before.before in
-    let s = start i.before.before in
-    let e : key_of (s.args.d + get_or i.before.before.weights_of-weighed.result.now i.before.loop-j.j 0) t.tag_of-tag.result ≡ arc_offer (G s) s.args.node s.args.p s.args.d i.before.loop-j.j = omega (arith, t.tag_of-tag.ensures, (place i).to, (place i).weight) in
-    let h = t.before.before.has_place_at.ensures.yes t.before.if-has_place_at.true in
-    (omega arith, entered_pushed i.before.loop-j.invariant.1 (rw (place i).to at (place_kept {xs = s.args.s.now} (kept i) h)) (rw e at c.before.before.push_at.ensures))
+    let s = c.before.before.before.before.before.before.before.before.before.before.before.before.before.before.before.before.before.before.before.before in
+    let i = c.before.before.before.before.before.before.before.before.before in
+    let e : key_of (c.args.d + get_or c.weights_of-weighed.result.now c.loop-j.j 0) c.tag_of-tag.result ≡ arc_offer (G s) c.args.node c.args.p c.args.d c.loop-j.j = omega (arith, c.tag_of-tag.ensures, (place i).to, (place i).weight) in
+    let h = c.has_place_at.ensures.yes c.if-has_place_at.true in
+    (omega arith, entered_pushed c.loop-j.invariant.1 (rw (place i).to at (place_kept {xs = c.args.s.now} (kept i) h)) (rw e at c.push_at.ensures))
 
 loop-less-2 : tie.Need-loop-j-smaller invariant-loop-j decreases-loop-j
 loop-less-2 c = search rules
 
 loop-again-2 : tie.Need-loop-j-preserved invariant-loop-j decreases-loop-j
 loop-again-2 c =
-    let i = c.before.before.before.before.before in
-    (omega arith, entered_passed i.before.loop-j.invariant.1 (λ h. place_not_none h (rw (place i).to at (none_kept {xs = (start i.before.before).args.s.now} (kept i) (c.before.has_place_at.ensures.no c.if-has_place_at.false)))))
+    let i = c.before.before.before.before in
+    (omega arith, entered_passed c.loop-j.invariant.1 (λ h. place_not_none h (rw (place i).to at (none_kept {xs = c.args.s.now} (kept i) (c.has_place_at.ensures.no c.if-has_place_at.false)))))
 
 shape_of-s : tie.Need-shape_of-s invariant-loop-j decreases-loop-j
 shape_of-s c = search rules
@@ -147,8 +134,8 @@ shape_of-s c = search rules
 returns : tie.Need-returns invariant-loop-j decreases-loop-j
 returns c =
     let e = ahead c.before.before in
-    let l = c.before.loop-j in
-    let q : l.j ≡ length (neighbours_of (G (start c.before.before)) (start c.before.before).args.node) = omega (arith, ap length e, l.invariant.0, c.loop-j-test.false) in
+    let l = c.loop-j in
+    let q : l.j ≡ length (neighbours_of (G c.before.before.before.before.before.before.before.before.before.before.before) c.args.node) = omega (arith, ap length e, l.invariant.0, c.loop-j-test.false) in
     rw q at l.invariant.1
 
 pub offer_spec : {M : Type 1} → statement M

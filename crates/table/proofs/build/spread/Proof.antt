@@ -37,10 +37,10 @@ abbrev node : tie.After-tag_parent-node invariant-loop-left decreases-loop-left 
 node c = c.tag_parent-node.result
 
 abbrev point : tie.After-tag_parent-node invariant-loop-left decreases-loop-left → ℕ
-point c = c.before.tag_node-p.result
+point c = c.tag_node-p.result
 
 abbrev far : tie.After-tag_parent-node invariant-loop-left decreases-loop-left → ℕ
-far c = c.before.before.before.before.pop_at-e.result.distance
+far c = c.pop_at-e.result.distance
 
 tag_fits : (c : tie.After-pop_at-e invariant-loop-left decreases-loop-left) → c.pop_at-e.result.tag < 4294967296
 tag_fits c = omega arith
@@ -49,40 +49,40 @@ node_fits : (c : tie.After-tag_parent-node invariant-loop-left decreases-loop-le
 node_fits c = omega (arith, c.tag_parent-node.ensures)
 
 point-fits : (c : tie.After-tag_parent-node invariant-loop-left decreases-loop-left) → point c < 65536
-point-fits c = omega (arith, c.before.tag_node-p.ensures, tag_fits c.before.before.before.before)
+point-fits c = omega (arith, c.tag_node-p.ensures, tag_fits c.before.before.before.before)
 
 popped : (c : tie.After-tag_parent-node invariant-loop-left decreases-loop-left)
-    → PoppedAt (turn c).loop-left.s-1 c.before.before.before.before.pop_at-e.new.0 (node_count (G (start_of (turn c)))) (turn c).loop-left.left (offer_of (node c) (point c) (far c))
+    → PoppedAt c.loop-left.s c.pop_at-e.new.s (node_count (G (start_of c.before.before.before.before.before.before.before))) c.loop-left.left (offer_of (node c) (point c) (far c))
 popped c =
-    let r = c.before.before.before.before.pop_at-e in
-    let e : key_of r.result.distance r.result.tag ≡ offer_of (node c) (point c) (far c) = omega (arith, c.tag_parent-node.ensures, c.before.tag_node-p.ensures) in
+    let r = c.pop_at-e in
+    let e : key_of r.result.distance r.result.tag ≡ offer_of (node c) (point c) (far c) = omega (arith, c.tag_parent-node.ensures, c.tag_node-p.ensures) in
     rw e at r.ensures
 
-more : (c : tie.After-tag_parent-node invariant-loop-left decreases-loop-left) → 0 < (turn c).loop-left.left
-more c = omega (arith, c.before.before.before.before.before.before.loop-left-test.true)
+more : (c : tie.After-tag_parent-node invariant-loop-left decreases-loop-left) → 0 < c.loop-left.left
+more c = omega (arith, c.loop-left-test.true)
 
 some : (c : tie.After-tag_parent-node invariant-loop-left decreases-loop-left) → 1 ≤ (start_of (turn c)).args.places
-some c = omega (arith, (start_of (turn c)).pre.can.least)
+some c = omega (arith, (start_of (turn c)).requires.can.least)
 
 overflow_sub-n : tie.Need-overflow_sub-n invariant-loop-left decreases-loop-left
 overflow_sub-n c = search rules
 
 seed-len-requires : tie.Need-seed-len-requires invariant-loop-left decreases-loop-left
 seed-len-requires c κs =
-    let p = c.before.before.before.before.before.before.before.before.requires.can in
+    let p = c.requires.can in
     record { few = omega (arith, p.points, p.accepted.few); blank = p.blank; room = omega (arith, p.points, p.room) }
 
 -- the arrays and the scratch when every point has been offered to its own row
 begun : (c : tie.At-loop-left invariant-loop-left decreases-loop-left)
-    → Filling (G (start_of c)) (start_of c).args.points.now (start_of c).args.places c.before.before.before.seed-len.new.1.0 (start_of c).args.ids.now
-    (start_of c).args.distances.now c.before.before.before.seed-len.result
-begun c = filling_start (start_of c).requires c.before.before.before.seed-len.ensures
+    → Filling (G c.before.before.before.before.before.before.before.before.before.before.before.before) c.args.points.now c.args.places c.seed-len.new.s c.args.ids.now
+    c.args.distances.now c.seed-len.result
+begun c = filling_start c.requires c.seed-len.ensures
 
 loop-holds : tie.Need-loop-left-init invariant-loop-left decreases-loop-left
-loop-holds c = (refl, filling_start c.before.before.before.before.before.before.before.before.before.before.before.requires c.before.before.seed-len.ensures)
+loop-holds c = (refl, filling_start c.requires c.seed-len.ensures)
 
 pop_at-e-requires : tie.Need-pop_at-e-requires invariant-loop-left decreases-loop-left
-pop_at-e-requires c κs = (c.before.before.loop-left.invariant.1.queue, omega (arith, c.before.loop-left-test.true))
+pop_at-e-requires c κs = (c.loop-left.invariant.1.queue, omega (arith, c.loop-left-test.true))
 
 overflow_sub-left : tie.Need-overflow_sub-left invariant-loop-left decreases-loop-left
 overflow_sub-left c = search rules
@@ -96,80 +96,56 @@ tag_parent-node-requires c κs = search rules
 lockers_at-all-requires : tie.Need-lockers_at-all-requires invariant-loop-left decreases-loop-left
 lockers_at-all-requires c κs = search rules
 
-abbrev at-point : tie.After-lockers_at-all invariant-loop-left decreases-loop-left → tie.After-tag_parent-node invariant-loop-left decreases-loop-left
-at-point l = l.before
-
 append_at-requires : tie.Need-append_at-requires invariant-loop-left decreases-loop-left
 append_at-requires c κs =
-    let l = c.before.before.before in
-    let t = at-point l in
-    let s = start_of (turn t) in
-    rw l.lockers_at-all.ensures.0
-    (can_append s.pre.can.accepted (some t) (turn t).loop-left.inv.1 (more t) (node t) (point t) (far t) (node_fits t) (point-fits t) (popped t) s.pre.can.most)
+    let t = c.before.before.before.before in
+    rw c.lockers_at-all.ensures.0
+    (can_append c.requires.can.accepted (some t) c.loop-left.invariant.1 (more t) (node t) (point t) (far t) (node_fits t) (point-fits t) (popped t) c.requires.can.most)
 
 offer-left-requires : tie.Need-offer-left-requires invariant-loop-left decreases-loop-left
 offer-left-requires c κs =
-    let a = c.before.before.before.before.before.before.before.before.before in
-    let l = a.before.before.before.before in
-    let t = at-point l in
-    let s = start_of (turn t) in
-    can_offer s.pre.can.accepted (some t) (turn t).loop-left.inv.1 (more t) (node t) (point t) (far t) (node_fits t) (point-fits t) (popped t) (rw l.lockers_at-all.ensures.0 at (a.append_at.ensures.taken c.before.before.if-append_at.true))
+    let t = c.before.before.before.before.before.before.before.before.before.before.before.before.before in
+    can_offer c.requires.can.accepted (some t) c.loop-left.invariant.1 (more t) (node t) (point t) (far t) (node_fits t) (point-fits t) (popped t) (rw c.lockers_at-all.ensures.0 at (c.append_at.ensures.taken c.if-append_at.true))
 
 loop-less : tie.Need-loop-left-smaller-then-append_at invariant-loop-left decreases-loop-left
 loop-less c =
-    let o = c.before.before in
-    let i = o.before.before.before in
-    let a = i.before.before.before.before.before.before.before in
-    let l = a.before.before.before.before in
-    let t = at-point l in
-    let s = start_of (turn t) in
-    let r = rw l.lockers_at-all.ensures.0 at (a.append_at.ensures.taken i.if-append_at.true) in
-    taken_less s.pre.can.accepted (some t) (turn t).loop-left.inv.1 (more t) (node t) (point t) (far t) (node_fits t) (point-fits t) (popped t) r o.offer-left.ensures
+    let t = c.before.before.before.before.before.before.before.before.before.before.before.before.before.before.before.before in
+    let r = rw c.lockers_at-all.ensures.0 at (c.append_at.ensures.taken c.if-append_at.true) in
+    taken_less c.requires.can.accepted (some t) c.loop-left.invariant.1 (more t) (node t) (point t) (far t) (node_fits t) (point-fits t) (popped t) r c.offer-left.ensures
 
 loop-again : tie.Need-loop-left-preserved-then-append_at invariant-loop-left decreases-loop-left
 loop-again c =
-    let o = c.before.before in
-    let i = o.before.before.before in
-    let a = i.before.before.before.before.before.before.before in
-    let l = a.before.before.before.before in
-    let t = at-point l in
-    let s = start_of (turn t) in
-    let r = rw l.lockers_at-all.ensures.0 at (a.append_at.ensures.taken i.if-append_at.true) in (
-      taken_size s.pre.can.accepted (some t) (turn t).loop-left.inv.1 (more t) (node t) (point t) (far t) (node_fits t) (point-fits t) (popped t) r o.offer-left.ensures ∙ (turn t).loop-left.inv.0,
-      filling_taken s.pre.can.accepted (some t) (turn t).loop-left.inv.1 (more t) (node t) (point t) (far t) (node_fits t) (point-fits t) (popped t) r o.offer-left.ensures,
+    let t = c.before.before.before.before.before.before.before.before.before.before.before.before.before.before.before.before in
+    let r = rw c.lockers_at-all.ensures.0 at (c.append_at.ensures.taken c.if-append_at.true) in (
+      taken_size c.requires.can.accepted (some t) c.loop-left.invariant.1 (more t) (node t) (point t) (far t) (node_fits t) (point-fits t) (popped t) r c.offer-left.ensures ∙ c.loop-left.invariant.0,
+      filling_taken c.requires.can.accepted (some t) c.loop-left.invariant.1 (more t) (node t) (point t) (far t) (node_fits t) (point-fits t) (popped t) r c.offer-left.ensures,
     )
 
 loop-less-2 : tie.Need-loop-left-smaller invariant-loop-left decreases-loop-left
 loop-less-2 c =
-    let a = c.before.before.before.before.before.before.before in
-    let l = a.before.before.before.before in
-    let t = at-point l in
-    let s = start_of (turn t) in
-    let r = a.append_at.ensures.refused c.if-append_at.false in
-    refused_less s.pre.can.accepted (some t) (turn t).loop-left.inv.1 (more t) (node t) (point t) (far t) (node_fits t) (point-fits t) (popped t) r
+    let t = c.before.before.before.before.before.before.before.before.before.before.before.before in
+    let r = c.append_at.ensures.refused c.if-append_at.false in
+    refused_less c.requires.can.accepted (some t) c.loop-left.invariant.1 (more t) (node t) (point t) (far t) (node_fits t) (point-fits t) (popped t) r
 
 loop-again-2 : tie.Need-loop-left-preserved invariant-loop-left decreases-loop-left
 loop-again-2 c =
-    let a = c.before.before.before.before.before.before.before in
-    let l = a.before.before.before.before in
-    let t = at-point l in
-    let s = start_of (turn t) in
-    let r = a.append_at.ensures.refused c.if-append_at.false in
-    (ap length r.words ∙ (popped t).size ∙ (turn t).loop-left.inv.0, filling_refused s.pre.can.accepted (some t) (turn t).loop-left.inv.1 (more t) (node t) (point t) (far t) (node_fits t) (point-fits t) (popped t) r)
+    let t = c.before.before.before.before.before.before.before.before.before.before.before.before in
+    let r = c.append_at.ensures.refused c.if-append_at.false in
+    (ap length r.words ∙ (popped t).size ∙ c.loop-left.invariant.0, filling_refused c.requires.can.accepted (some t) c.loop-left.invariant.1 (more t) (node t) (point t) (far t) (node_fits t) (point-fits t) (popped t) r)
 
 shape_of-s : tie.Need-shape_of-s invariant-loop-left decreases-loop-left
 shape_of-s c = search rules
 
 shape_of-ids : tie.Need-shape_of-ids invariant-loop-left decreases-loop-left
-shape_of-ids c = c.before.loop-left.invariant.1.sized.all_ids ∙ sym (begun c.before).sized.all_ids
+shape_of-ids c = c.loop-left.invariant.1.sized.all_ids ∙ sym (begun c.before).sized.all_ids
 
 shape_of-distances : tie.Need-shape_of-distances invariant-loop-left decreases-loop-left
-shape_of-distances c = c.before.loop-left.invariant.1.sized.all_dists ∙ sym (begun c.before).sized.all_dists
+shape_of-distances c = c.loop-left.invariant.1.sized.all_dists ∙ sym (begun c.before).sized.all_dists
 
 returns : tie.Need-returns invariant-loop-left decreases-loop-left
 returns c =
-    let l = c.before.loop-left in
-    record { size = l.invariant.0 ∙ c.before.before.before.before.seed-len.ensures.frame.size; table = filling_table (start_of c.before).pre.can.accepted l.invariant.1 (omega (arith, c.loop-left-test.false)) }
+    let l = c.loop-left in
+    record { size = l.invariant.0 ∙ c.seed-len.ensures.frame.size; table = filling_table c.requires.can.accepted l.invariant.1 (omega (arith, c.loop-left-test.false)) }
 
 pub spread_spec : {M : Type 1} → statement M
 spread_spec =

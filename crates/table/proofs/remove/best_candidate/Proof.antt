@@ -39,23 +39,23 @@ place : (c : tie.In-loop-j invariant-loop-j decreases-loop-j)
 place c =
     let w = c.before.before in
     let s = start w in
-    arc_handed s.pre.accepted s.pre.inside (ahead w) (weighed w) c.loop-j-test.true
+    arc_handed s.requires.accepted s.requires.inside (ahead w) (weighed w) c.loop-j-test.true
 
 -- row i, and the row of the node that the arc leads to
 own-fits : (s : tie.Start invariant-loop-j decreases-loop-j) → s.args.i * s.args.places + s.args.places ≤ length s.args.ids.now
 own-fits s = (row_inside s.requires.sized s.requires.inside).0
 
 to_low : (c : tie.In-loop-j invariant-loop-j decreases-loop-j) → get_or c.before.before.before.neighbours_of-ahead.result.now c.before.loop-j.j 0 < node_count (G (start c.before.before))
-to_low c = omega (arith, (place c).to, (start c.before.before).pre.accepted.leads_in (place c).arc)
+to_low c = omega (arith, (place c).to, (start c.before.before).requires.accepted.leads_in (place c).arc)
 
 row_low : (c : tie.After-wide invariant-loop-j decreases-loop-j) → c.wide.result < node_count (G (start c.before.before.before.before))
 row_low c = omega (arith, c.wide.ensures, to_low c.before.before)
 
 row-ids : (c : tie.After-wide invariant-loop-j decreases-loop-j) → c.wide.result * (start c.before.before.before.before).args.places + (start c.before.before.before.before).args.places ≤ length (start c.before.before.before.before).args.ids.now
-row-ids c = (row_inside (start c.before.before.before.before).pre.sized (row_low c)).0
+row-ids c = (row_inside (start c.before.before.before.before).requires.sized (row_low c)).0
 
 row-dists : (c : tie.After-wide invariant-loop-j decreases-loop-j) → c.wide.result * (start c.before.before.before.before).args.places + (start c.before.before.before.before).args.places ≤ length (start c.before.before.before.before).args.distances.now
-row-dists c = (row_inside (start c.before.before.before.before).pre.sized (row_low c)).1
+row-dists c = (row_inside (start c.before.before.before.before).requires.sized (row_low c)).1
 
 neighbours_of-ahead-requires : tie.Need-neighbours_of-ahead-requires invariant-loop-j decreases-loop-j
 neighbours_of-ahead-requires c κs = let s = c.before.before.before.before.before.before in (accepted_searchable s.requires.accepted).neighbours.part _ (omega (arith, s.requires.inside))
@@ -111,10 +111,10 @@ offset_bounds-ids-a c = omega (arith, row-ids c.before.before)
 slice_bounds-best_of_row-count-in-loop-j : tie.Need-slice_bounds-best_of_row-count-in-loop-j invariant-loop-j decreases-loop-j
 slice_bounds-best_of_row-count-in-loop-j c = omega (arith, row-ids c.before.before)
 
-part-best-of-row-start-2 : tie.Need-slice-bounds-best-of-row-start-2 invariant-loop-j decreases-loop-j
+part-best-of-row-start-2 : tie.Need-slice_bounds-best_of_row-start-in-loop-j invariant-loop-j decreases-loop-j
 part-best-of-row-start-2 c = omega (arith, row-ids c.before.before)
 
-part-best-of-row-end-2 : tie.Need-slice-bounds-best-of-row-end-2 invariant-loop-j decreases-loop-j
+part-best-of-row-end-2 : tie.Need-slice_bounds-best_of_row-end-in-loop-j invariant-loop-j decreases-loop-j
 part-best-of-row-end-2 c = omega (arith, row-ids c.before.before)
 
 offset_bounds-distances-a : tie.Need-offset_bounds-distances-a invariant-loop-j decreases-loop-j
@@ -123,10 +123,10 @@ offset_bounds-distances-a c = omega (arith, row-dists c.before.before.before)
 slice_bounds-best_of_row-count-in-loop-j-2 : tie.Need-slice_bounds-best_of_row-count-in-loop-j-2 invariant-loop-j decreases-loop-j
 slice_bounds-best_of_row-count-in-loop-j-2 c = omega (arith, row-dists c.before.before.before)
 
-part-best-of-row-start-3 : tie.Need-slice-bounds-best-of-row-start-3 invariant-loop-j decreases-loop-j
+part-best-of-row-start-3 : tie.Need-slice_bounds-best_of_row-start-in-loop-j-2 invariant-loop-j decreases-loop-j
 part-best-of-row-start-3 c = omega (arith, row-dists c.before.before.before)
 
-part-best-of-row-end-3 : tie.Need-slice-bounds-best-of-row-end-3 invariant-loop-j decreases-loop-j
+part-best-of-row-end-3 : tie.Need-slice_bounds-best_of_row-end-in-loop-j-2 invariant-loop-j decreases-loop-j
 part-best-of-row-end-3 c = omega (arith, row-dists c.before.before.before)
 
 best_of_row-best-requires : tie.Need-best_of_row-best-requires invariant-loop-j decreases-loop-j
@@ -134,7 +134,7 @@ best_of_row-best-requires c κs =
     let w = c.before.before.before.before in
     let i = w.before.before in
     let s = start i.before.before in
-    (omega (arith, (place i).weight, s.pre.accepted.weight_high (place i).arc), lent_even s.pre.sized (row_low w))
+    (omega (arith, (place i).weight, s.requires.accepted.weight_high (place i).arc), lent_even s.requires.sized (row_low w))
 
 overflow_add-j : tie.Need-overflow_add-j invariant-loop-j decreases-loop-j
 overflow_add-j c = search rules
@@ -148,7 +148,7 @@ loop-again c =
     let i = w.before.before in
     let s = start i.before.before in (
       omega (arith, i.loop-j-test.true),
-      chosen_lent s.pre.sized s.pre.inside w.wide.result (get_or i.before.before.weights_of-weighed.result.now i.before.loop-j.j 0) (w.wide.ensures ∙ (place i).to) (place i).weight
+      chosen_lent s.requires.sized s.requires.inside w.wide.result (get_or i.before.before.weights_of-weighed.result.now i.before.loop-j.j 0) (w.wide.ensures ∙ (place i).to) (place i).weight
           (row_low w) i.before.loop-j.invariant.1 c.best_of_row-best.ensures,
     )
 

@@ -18,34 +18,28 @@ invariant-loop-left starts neighbours weights points s₀ len ids₀ distances�
 abbrev decreases-loop-left : tie.decreases-loop-left
 decreases-loop-left starts neighbours weights points s₀ len ids₀ distances₀ places n left₀ s ids distances left = fill_work (network starts neighbours weights) s left
 
-abbrev start : tie.After-wide-i invariant-loop-left decreases-loop-left → tie.Start invariant-loop-left decreases-loop-left
-start c = c.before.before.before.before.before.before.before.before.before.before.before.before.before.before.before.before
-
-abbrev in-loop : tie.After-wide-i invariant-loop-left decreases-loop-left → tie.In-loop-left invariant-loop-left decreases-loop-left
-in-loop c = c.before.before.before.before.before.before.before
-
 -- the entry that left the queue: its node and its point are its tag's
 key-is : (c : tie.After-wide-i invariant-loop-left decreases-loop-left)
-    → key_of c.before.before.before.before.before.pop_at-entry.result.distance c.before.before.before.before.before.pop_at-entry.result.tag ≡ offer_of c.wide-i.result c.before.before.tag_node-p.result c.before.before.before.before.before.pop_at-entry.result.distance
-key-is c = omega (arith, c.wide-i.ensures, c.before.tag_parent.ensures, c.before.before.tag_node-p.ensures)
+    → key_of c.pop_at-entry.result.distance c.pop_at-entry.result.tag ≡ offer_of c.wide-i.result c.tag_node-p.result c.pop_at-entry.result.distance
+key-is c = omega (arith, c.wide-i.ensures, c.tag_parent.ensures, c.tag_node-p.ensures)
 
 low-node : (c : tie.After-wide-i invariant-loop-left decreases-loop-left) → c.wide-i.result < 65536
-low-node c = omega (arith, c.wide-i.ensures, c.before.tag_parent.ensures)
+low-node c = omega (arith, c.wide-i.ensures, c.tag_parent.ensures)
 
 fits : (c : tie.After-pop_at-entry invariant-loop-left decreases-loop-left) → c.pop_at-entry.result.tag < 4294967296
 fits c = omega arith
 
-low-point : (c : tie.After-wide-i invariant-loop-left decreases-loop-left) → c.before.before.tag_node-p.result < 65536
-low-point c = omega (arith, c.before.before.tag_node-p.ensures, fits c.before.before.before.before.before)
+low-point : (c : tie.After-wide-i invariant-loop-left decreases-loop-left) → c.tag_node-p.result < 65536
+low-point c = omega (arith, c.tag_node-p.ensures, fits c.before.before.before.before.before)
 
 overflow_sub-n : tie.Need-overflow_sub-n invariant-loop-left decreases-loop-left
 overflow_sub-n c = search rules
 
 loop-holds : tie.Need-loop-left-init invariant-loop-left decreases-loop-left
-loop-holds c = let s = c.before.before.before.before.before.before.before in filling_start s.args.points.now s.requires
+loop-holds c = filling_start c.args.points.now c.requires
 
 pop_at-entry-requires : tie.Need-pop_at-entry-requires invariant-loop-left decreases-loop-left
-pop_at-entry-requires c κs = (c.before.before.loop-left.invariant.waiting.queue, c.before.loop-left-test.true)
+pop_at-entry-requires c κs = (c.loop-left.invariant.waiting.queue, c.loop-left-test.true)
 
 overflow_sub-left : tie.Need-overflow_sub-left invariant-loop-left decreases-loop-left
 overflow_sub-left c = search rules
@@ -62,56 +56,50 @@ wide-i-requires c κs = search rules
 take_in-took-requires : tie.Need-take_in-took-requires invariant-loop-left decreases-loop-left
 take_in-took-requires c κs =
     let w = c.before.before.before in
-    let p = w.before.before.before.before.before in
-    filling_can (start w).requires (in-loop w).before.loop-left.invariant w.wide-i.result w.before.before.tag_node-p.result p.pop_at-entry.result.distance (key-is w) p.pop_at-entry.ensures
-    (in-loop w).loop-left-test.true (low-node w) (low-point w)
+    filling_can c.requires c.loop-left.invariant c.wide-i.result c.tag_node-p.result c.pop_at-entry.result.distance (key-is w) c.pop_at-entry.ensures
+    c.loop-left-test.true (low-node w) (low-point w)
 
 offer-left-requires : tie.Need-offer-left-requires invariant-loop-left decreases-loop-left
 offer-left-requires c κs =
     let w = c.before.before.before.before.before.before.before.before.before.before.before.before in
-    let p = w.before.before.before.before.before in
-    filling_offer (start w).requires (in-loop w).before.loop-left.invariant w.wide-i.result w.before.before.tag_node-p.result p.pop_at-entry.result.distance (key-is w) p.pop_at-entry.ensures
-    (in-loop w).loop-left-test.true (low-node w) (low-point w) c.before.before.before.before.before.before.before.before.take_in-took.ensures c.before.if-took.true
+    filling_offer c.requires c.loop-left.invariant c.wide-i.result c.tag_node-p.result c.pop_at-entry.result.distance (key-is w) c.pop_at-entry.ensures
+    c.loop-left-test.true (low-node w) (low-point w) c.take_in-took.ensures c.if-took.true
 
 loop-less : tie.Need-loop-left-smaller-then-took invariant-loop-left decreases-loop-left
 loop-less c =
     let w = c.before.before.before.before.before.before.before.before.before.before.before.before.before.before.before in
-    let p = w.before.before.before.before.before in
-    taken_work (start w).requires (in-loop w).before.loop-left.invariant w.wide-i.result w.before.before.tag_node-p.result p.pop_at-entry.result.distance (key-is w) p.pop_at-entry.ensures
-    (in-loop w).loop-left-test.true (low-node w) (low-point w) c.before.before.before.before.before.before.before.before.before.before.before.take_in-took.ensures c.before.before.before.before.if-took.true c.before.before.offer-left.ensures
+    taken_work c.requires c.loop-left.invariant c.wide-i.result c.tag_node-p.result c.pop_at-entry.result.distance (key-is w) c.pop_at-entry.ensures
+    c.loop-left-test.true (low-node w) (low-point w) c.take_in-took.ensures c.if-took.true c.offer-left.ensures
 
 loop-again : tie.Need-loop-left-preserved-then-took invariant-loop-left decreases-loop-left
 loop-again c =
     let w = c.before.before.before.before.before.before.before.before.before.before.before.before.before.before.before in
-    let p = w.before.before.before.before.before in
-    filling_taken (start w).requires (in-loop w).before.loop-left.invariant w.wide-i.result w.before.before.tag_node-p.result p.pop_at-entry.result.distance (key-is w) p.pop_at-entry.ensures
-    (in-loop w).loop-left-test.true (low-node w) (low-point w) c.before.before.before.before.before.before.before.before.before.before.before.take_in-took.ensures c.before.before.before.before.if-took.true c.before.before.offer-left.ensures
+    filling_taken c.requires c.loop-left.invariant c.wide-i.result c.tag_node-p.result c.pop_at-entry.result.distance (key-is w) c.pop_at-entry.ensures
+    c.loop-left-test.true (low-node w) (low-point w) c.take_in-took.ensures c.if-took.true c.offer-left.ensures
 
 loop-less-2 : tie.Need-loop-left-smaller invariant-loop-left decreases-loop-left
 loop-less-2 c =
     let w = c.before.before.before.before.before.before.before.before.before.before.before in
-    let p = w.before.before.before.before.before in
-    skipped_falls (start w).requires (in-loop w).before.loop-left.invariant w.wide-i.result w.before.before.tag_node-p.result p.pop_at-entry.result.distance (key-is w) p.pop_at-entry.ensures
-    (in-loop w).loop-left-test.true (low-node w) (low-point w) c.before.before.before.before.before.before.before.take_in-took.ensures c.if-took.false
+    skipped_falls c.requires c.loop-left.invariant c.wide-i.result c.tag_node-p.result c.pop_at-entry.result.distance (key-is w) c.pop_at-entry.ensures
+    c.loop-left-test.true (low-node w) (low-point w) c.take_in-took.ensures c.if-took.false
 
 loop-again-2 : tie.Need-loop-left-preserved invariant-loop-left decreases-loop-left
 loop-again-2 c =
     let w = c.before.before.before.before.before.before.before.before.before.before.before in
-    let p = w.before.before.before.before.before in
-    filling_skipped (start w).requires (in-loop w).before.loop-left.invariant w.wide-i.result w.before.before.tag_node-p.result p.pop_at-entry.result.distance (key-is w) p.pop_at-entry.ensures
-    (in-loop w).loop-left-test.true (low-node w) (low-point w) c.before.before.before.before.before.before.before.take_in-took.ensures c.if-took.false
+    filling_skipped c.requires c.loop-left.invariant c.wide-i.result c.tag_node-p.result c.pop_at-entry.result.distance (key-is w) c.pop_at-entry.ensures
+    c.loop-left-test.true (low-node w) (low-point w) c.take_in-took.ensures c.if-took.false
 
 shape_of-s : tie.Need-shape_of-s invariant-loop-left decreases-loop-left
-shape_of-s c = c.before.loop-left.invariant.size
+shape_of-s c = c.loop-left.invariant.size
 
 shape_of-ids : tie.Need-shape_of-ids invariant-loop-left decreases-loop-left
-shape_of-ids c = c.before.loop-left.invariant.sized.all_ids ∙ sym c.before.before.before.before.before.before.before.before.before.requires.sized.all_ids
+shape_of-ids c = c.loop-left.invariant.sized.all_ids ∙ sym c.requires.sized.all_ids
 
 shape_of-distances : tie.Need-shape_of-distances invariant-loop-left decreases-loop-left
-shape_of-distances c = c.before.loop-left.invariant.sized.all_dists ∙ sym c.before.before.before.before.before.before.before.before.before.requires.sized.all_dists
+shape_of-distances c = c.loop-left.invariant.sized.all_dists ∙ sym c.requires.sized.all_dists
 
 returns : tie.Need-returns invariant-loop-left decreases-loop-left
-returns c = filling_end c.before.before.before.before.before.before.before.before.before.requires c.before.loop-left.invariant (omega (arith, c.loop-left-test.false))
+returns c = filling_end c.requires c.loop-left.invariant (omega (arith, c.loop-left-test.false))
 
 pub fill_spec : {M : Type 1} → statement M
 fill_spec =

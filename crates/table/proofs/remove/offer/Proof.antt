@@ -30,46 +30,37 @@ G s = network s.args.starts.now s.args.neighbours.now s.args.weights.now
 abbrev start : tie.After-weights_of-weighed invariant-loop-j decreases-loop-j → tie.Start invariant-loop-j decreases-loop-j
 start c = c.before.before.before.before.before.before
 
-ahead : (c : tie.After-weights_of-weighed invariant-loop-j decreases-loop-j) → c.before.neighbours_of-ahead.result.now ≡ neighbours_of (G (start c)) (start c).args.node
-ahead c = c.before.neighbours_of-ahead.ensures
+ahead : (c : tie.After-weights_of-weighed invariant-loop-j decreases-loop-j) → c.neighbours_of-ahead.result.now ≡ neighbours_of (G c.before.before.before.before.before.before) c.args.node
+ahead c = c.neighbours_of-ahead.ensures
 
 weighed : (c : tie.After-weights_of-weighed invariant-loop-j decreases-loop-j) → c.weights_of-weighed.result.now ≡ weights_of (G (start c)) (start c).args.node
 weighed c = c.weights_of-weighed.ensures
 
 place : (c : tie.In-loop-j invariant-loop-j decreases-loop-j)
-    → let s = start c.before.before in
-    ArcAt (G s) s.args.node c.before.loop-j.j c.before.before.before.neighbours_of-ahead.result.now c.before.before.weights_of-weighed.result.now
+    → ArcAt (G c.before.before.before.before.before.before.before.before) c.args.node c.loop-j.j c.neighbours_of-ahead.result.now c.weights_of-weighed.result.now
 place c =
-    let w = c.before.before in
-    let s = start w in
-    arc_handed s.pre.accepted s.pre.inside (ahead w) (weighed w) c.loop-j-test.true
+    arc_handed c.requires.accepted c.requires.inside (ahead c.before.before) (weighed c.before.before) c.loop-j-test.true
 
 -- the flag of the row that the arc leads to
-word : (c : tie.After-wide invariant-loop-j decreases-loop-j) → c.wide.result < length c.before.before.before.before.loop-j.s-1
+word : (c : tie.After-wide invariant-loop-j decreases-loop-j) → c.wide.result < length c.loop-j.s
 word c =
-    let i = c.before.before.before in
-    let s = start i.before.before in
-    omega (arith, c.wide.ensures, (place i).to, s.pre.accepted.leads_in (place i).arc, i.before.loop-j.invariant.1.frame.size, s.pre.room)
+    omega (arith, c.wide.ensures, (place c.before.before.before).to, c.requires.accepted.leads_in (place c.before.before.before).arc, c.loop-j.invariant.1.frame.size, c.requires.room)
 
 -- it is as it was
 kept : (c : tie.After-wide invariant-loop-j decreases-loop-j)
-    → let i = c.before.before.before in
-    let s = start i.before.before in
-    get_or i.before.loop-j.s-1 c.wide.result 0 ≡ get_or s.args.s.now (get_or (neighbours_of (G s) s.args.node) i.before.loop-j.j 0) 0
+    → get_or c.loop-j.s c.wide.result 0 ≡ get_or c.args.s.now (get_or (neighbours_of (G c.before.before.before.before.before.before.before.before.before.before.before) c.args.node) c.loop-j.j 0) 0
 kept c =
-    let i = c.before.before.before in
-    let s = start i.before.before in
-    ap (λ (x : ℕ). get_or i.before.loop-j.s-1 x 0) (c.wide.ensures ∙ (place i).to)
-    ∙ i.before.loop-j.invariant.1.frame.words _ (s.pre.accepted.leads_in (place i).arc)
+    ap (λ (x : ℕ). get_or c.loop-j.s x 0) (c.wide.ensures ∙ (place c.before.before.before).to)
+    ∙ c.loop-j.invariant.1.frame.words _ (c.requires.accepted.leads_in (place c.before.before.before).arc)
 
 overflow_sub-n : tie.Need-overflow_sub-n invariant-loop-j decreases-loop-j
 overflow_sub-n c = search rules
 
 neighbours_of-ahead-requires : tie.Need-neighbours_of-ahead-requires invariant-loop-j decreases-loop-j
-neighbours_of-ahead-requires c κs = let s = c.before.before.before.before in (accepted_searchable s.requires.accepted).neighbours.part _ (omega (arith, s.requires.inside))
+neighbours_of-ahead-requires c κs = (accepted_searchable c.requires.accepted).neighbours.part _ (omega (arith, c.requires.inside))
 
 weights_of-weighed-requires : tie.Need-weights_of-weighed-requires invariant-loop-j decreases-loop-j
-weights_of-weighed-requires c κs = let s = c.before.before.before.before.before in (accepted_searchable s.requires.accepted).weights.part _ (omega (arith, s.requires.inside))
+weights_of-weighed-requires c κs = (accepted_searchable c.requires.accepted).weights.part _ (omega (arith, c.requires.inside))
 
 loop-holds : tie.Need-loop-j-init invariant-loop-j decreases-loop-j
 loop-holds c = (omega arith, entered_none (start c).requires.queue)
@@ -88,9 +79,7 @@ bounds-weighed-j c = (place c.before.before).weighed
 
 overflow_add-far : tie.Need-overflow_add-far invariant-loop-j decreases-loop-j
 overflow_add-far c =
-    let i = c.before.before in
-    let s = start i.before.before in
-    omega (arith, s.pre.accepted.weight_high (place i).arc, (place i).weight, s.pre.fits)
+    omega (arith, c.requires.accepted.weight_high (place c.before.before).arc, (place c.before.before).weight, c.requires.fits)
 
 overflow_add-j : tie.Need-overflow_add-j invariant-loop-j decreases-loop-j
 overflow_add-j c = search rules
@@ -107,51 +96,47 @@ bounds-s-wide c = omega (arith, word c.before)
 tag_of-tag-requires : tie.Need-tag_of-tag-requires invariant-loop-j decreases-loop-j
 tag_of-tag-requires c κs =
     let i = c.before.before.before.before.before in
-    let s = start i.before.before in
-    let f = s.pre.accepted.few in
-    (omega (arith, s.pre.point), omega (arith, s.pre.accepted.leads_in (place i).arc, (place i).to))
+    let f = c.requires.accepted.few in
+    (omega (arith, c.requires.point), omega (arith, c.requires.accepted.leads_in (place i).arc, (place i).to))
 
 push_at-requires : tie.Need-push_at-requires invariant-loop-j decreases-loop-j
 push_at-requires c κs =
     let i = c.before.before.before.before.before.before.before in
-    let f = i.before.loop-j.invariant.1 in
-    (f.queue, omega (arith, f.frame.size, f.grown, (start i.before.before).pre.room, (place i).low))
+    let f = c.loop-j.invariant.1 in
+    (f.queue, omega (arith, f.frame.size, f.grown, c.requires.room, (place i).low))
 
 overflow_add-more : tie.Need-overflow_add-more invariant-loop-j decreases-loop-j
 overflow_add-more c =
     let i = c.before.before.before.before.before.before.before.before.before.before in
-    let f = i.before.loop-j.invariant.1 in
-    omega (arith, f.frame.size, f.grown, (start i.before.before).pre.room, (place i).low)
+    let f = c.loop-j.invariant.1 in
+    omega (arith, f.frame.size, f.grown, c.requires.room, (place i).low)
 
 loop-less : tie.Need-loop-j-smaller-then-flag-eq1 invariant-loop-j decreases-loop-j
 loop-less c = search rules
 
 loop-again : tie.Need-loop-j-preserved-then-flag-eq1 invariant-loop-j decreases-loop-j
 loop-again c =
-    let t = c.before.before.before.before in
-    let i = t.before.before.before.before.before.before in
-    let s = start i.before.before in
-    let e : key_of (s.args.d + get_or i.before.before.weights_of-weighed.result.now i.before.loop-j.j 0) t.tag_of-tag.result ≡ arc_offer (G s) s.args.node s.args.p s.args.d i.before.loop-j.j = omega (arith, t.tag_of-tag.ensures, (place i).to, (place i).weight) in
-    let h = eq-eqb _ 1 (sym (kept t.before.before.before) ∙ t.before.if-flag-eq1.true) in
-    (omega (arith, i.loop-j-test.true), entered_pushed i.before.loop-j.invariant.1 h (rw e at c.before.before.push_at.ensures))
+    let s = c.before.before.before.before.before.before.before.before.before.before.before.before.before.before.before.before.before.before in
+    let i = c.before.before.before.before.before.before.before.before.before.before in
+    let e : key_of (c.args.d + get_or c.weights_of-weighed.result.now c.loop-j.j 0) c.tag_of-tag.result ≡ arc_offer (G s) c.args.node c.args.p c.args.d c.loop-j.j = omega (arith, c.tag_of-tag.ensures, (place i).to, (place i).weight) in
+    let h = eq-eqb _ 1 (sym (kept c.before.before.before.before.before.before.before) ∙ c.if-flag-eq1.true) in
+    (omega (arith, c.loop-j-test.true), entered_pushed c.loop-j.invariant.1 h (rw e at c.push_at.ensures))
 
 loop-less-2 : tie.Need-loop-j-smaller invariant-loop-j decreases-loop-j
 loop-less-2 c = search rules
 
 loop-again-2 : tie.Need-loop-j-preserved invariant-loop-j decreases-loop-j
 loop-again-2 c =
-    let i = c.before.before.before.before.before in
-    (omega (arith, i.loop-j-test.true), entered_passed i.before.loop-j.invariant.1 (λ h. c.if-flag-eq1.false (kept c.before.before ∙ eqb-true _ 1 h)))
+    (omega (arith, c.loop-j-test.true), entered_passed c.loop-j.invariant.1 (λ h. c.if-flag-eq1.false (kept c.before.before ∙ eqb-true _ 1 h)))
 
 shape_of-s : tie.Need-shape_of-s invariant-loop-j decreases-loop-j
-shape_of-s c = c.before.loop-j.invariant.1.frame.size
+shape_of-s c = c.loop-j.invariant.1.frame.size
 
 returns : tie.Need-returns invariant-loop-j decreases-loop-j
 returns c =
-    let l = c.before.loop-j in
-    let w = c.before.before in
-    let s = start w in
-    let e : l.j ≡ length (neighbours_of (G s) s.args.node) = omega (arith, ap length (ahead w), l.invariant.0, c.loop-j-test.false) in
+    let s = c.before.before.before.before.before.before.before.before in
+    let l = c.loop-j in
+    let e : l.j ≡ length (neighbours_of (G s) c.args.node) = omega (arith, ap length (ahead c.before.before), l.invariant.0, c.loop-j-test.false) in
     rw e at l.invariant.1
 
 pub offer_spec : {M : Type 1} → statement M

@@ -12,22 +12,22 @@ lacks-requires : tie.Need-lacks-requires
 lacks-requires c κs = search rules
 
 overflow_sub-ids : tie.Need-overflow_sub-ids
-overflow_sub-ids c = omega (arith, c.before.before.before.before.before.before.requires.1)
+overflow_sub-ids c = omega (arith, c.requires.1)
 
 offset_bounds-ids-size : tie.Need-offset_bounds-ids-size
-offset_bounds-ids-size c = omega (arith, c.before.before.before.before.before.before.requires.1)
+offset_bounds-ids-size c = omega (arith, c.requires.1)
 
 bounds-ids-size : tie.Need-bounds-ids-size
-bounds-ids-size c = omega (arith, c.before.before.before.before.before.before.requires.1)
+bounds-ids-size c = omega (arith, c.requires.1)
 
 overflow_sub-distances : tie.Need-overflow_sub-distances
-overflow_sub-distances c = omega (arith, c.before.before.before.before.before.before.requires.1)
+overflow_sub-distances c = omega (arith, c.requires.1)
 
 offset_bounds-distances-size : tie.Need-offset_bounds-distances-size
-offset_bounds-distances-size c = omega (arith, c.before.before.before.before.before.before.requires.0, c.before.before.before.before.before.before.requires.1)
+offset_bounds-distances-size c = omega (arith, c.requires.0, c.requires.1)
 
 bounds-distances-size : tie.Need-bounds-distances-size
-bounds-distances-size c = omega (arith, c.before.before.before.before.before.before.requires.0, c.before.before.before.before.before.before.requires.1)
+bounds-distances-size c = omega (arith, c.requires.0, c.requires.1)
 
 shape_of-ids-then-lacks : tie.Need-shape_of-ids-then-lacks
 shape_of-ids-then-lacks c = search rules
@@ -36,13 +36,13 @@ shape_of-distances-then-lacks : tie.Need-shape_of-distances-then-lacks
 shape_of-distances-then-lacks c = search rules
 
 returns-then-lacks : tie.Need-returns-then-lacks
-returns-then-lacks c = record { taken = λ e. (ltb-true _ _ (sym c.before.lacks.ensures ∙ c.if-lacks.true), refl, refl); refused = λ e. absurd (true≢false e) }
+returns-then-lacks c = record { taken = λ e. (ltb-true _ _ (sym c.lacks.ensures ∙ c.if-lacks.true), refl, refl); refused = λ e. absurd (true≢false e) }
 
 shape_of-ids : tie.Need-shape_of-ids
 shape_of-ids c = search rules
 
 returns : tie.Need-returns
-returns c = record { taken = λ e. absurd (false≢true e); refused = λ e. (ltb-false _ _ (sym c.before.lacks.ensures ∙ c.if-lacks.false), refl, refl) }
+returns c = record { taken = λ e. absurd (false≢true e); refused = λ e. (ltb-false _ _ (sym c.lacks.ensures ∙ c.if-lacks.false), refl, refl) }
 
 pub put_last_spec : {M : Type 1} → statement M
 put_last_spec =
