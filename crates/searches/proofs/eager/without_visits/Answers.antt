@@ -1,0 +1,6 @@
+-- What the expansion leaves is finished.
+use Rattle.searches.proofs.EagerLaws.{limited_left}
+use Rattle.searches.proofs.eager.without_visits.Goals as goal
+
+pub returns : goal.returns
+returns c = limited_left c.requires.can_search.accepted c.explore-end.ensures c.finish.ensures
