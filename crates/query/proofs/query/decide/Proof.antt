@@ -23,7 +23,7 @@ is_within-requires c κs = search rules
 returns-then-is_within : tie.Need-returns-then-is_within
 returns-then-is_within c =
     let i = c.before in
-    record { answer = inl (leb-true _ _ (sym i.is_Within.ensures ∙ c.if-is_within.true), refl); area = unwiped i.before.before.before.before.before.before.before.before.requires }
+    record { answer = inl (leb-true _ _ (sym i.is_within.ensures ∙ c.if-is_within.true), refl); area = unwiped i.before.before.before.before.before.before.before.before.requires }
 
 overflow_sub-b : tie.Need-overflow_sub-b
 overflow_sub-b c = search rules

@@ -25,84 +25,58 @@ invariant-loop-label starts neighbours weights points ids distances s₀ b q k p
 abbrev decreases-loop-label : tie.decreases-loop-label
 decreases-loop-label starts neighbours weights points ids distances s₀ b q k places n settled₀ len₀ s settled len = node_count (network starts neighbours weights) - settled
 
--- the places: where the loop begins, the entry that was taken, its node looked at, and settled
-abbrev start_of : tie.At-loop-label invariant-loop-label decreases-loop-label → tie.Start invariant-loop-label decreases-loop-label
-start_of l = l.before.before.before.before.before.before.before.before.before.before.before.before
-
-abbrev loop-of : tie.In-Node-2 invariant-loop-label decreases-loop-label → tie.At-loop-label invariant-loop-label decreases-loop-label
-loop-of c = c.before.before.before.before.before.before
-
-abbrev taken_of : tie.After-look-found invariant-loop-label decreases-loop-label → tie.In-Node-2 invariant-loop-label decreases-loop-label
-taken_of k = k.before.before.before
-
-abbrev look-of : tie.After-settle invariant-loop-label decreases-loop-label → tie.After-look-found invariant-loop-label decreases-loop-label
-look-of s = s.before.before.before.before
-
-abbrev settle-of : tie.After-open-len invariant-loop-label decreases-loop-label → tie.After-settle invariant-loop-label decreases-loop-label
-settle-of o = o.before.before.before.before.before
-
+-- the network
 abbrev G : tie.At-loop-label invariant-loop-label decreases-loop-label → Network
-G l = let s = start_of l in network s.args.starts.now s.args.neighbours.now s.args.weights.now
+G l = network l.args.starts.now l.args.neighbours.now l.args.weights.now
 
 abbrev T : tie.At-loop-label invariant-loop-label decreases-loop-label → Type 0
-T l = let a = (start_of l).args in IsTable (G l) a.points.now a.places a.ids.now a.distances.now
+T l = let a = l.args in IsTable (G l) a.points.now a.places a.ids.now a.distances.now
 
 -- the entry that was taken
-took : (c : tie.In-Node-2 invariant-loop-label decreases-loop-label)
-    → Took (node_count (G (loop-of c))) (loop-of c).loop-label.s-1 c.before.before.before.before.next-taken.new.0 (start_of (loop-of c)).args.b
-    (loop-of c).loop-label.len c.taken-1.given.0.1.1.1.0 c.taken-1.given.0.0 c.taken-1.given.0.1.0 c.taken-1.given.0.1.1.0
-took c = rw c.taken-1.given.1 at c.before.before.before.before.next-taken.ensures
+took : (c : tie.In-Node invariant-loop-label decreases-loop-label)
+    → Took (node_count (G c.before.before.before.before.before)) c.loop-label.s c.next-taken.new.s c.args.b
+    c.loop-label.len c.in-Node.left c.in-Node.label c.in-Node.node c.in-Node.parent
+took c = rw c.in-Node.is at c.next-taken.ensures
 
 -- its node was looked at
 arrived : (k : tie.After-look-found invariant-loop-label decreases-loop-label)
-    → let c = taken_of k in
-    let l = loop-of c in
-    let a = (start_of l).args in
-    Arrived (T l) (G l) a.points.now a.q a.k
-    (k.look-found.new.1.1.1.1.1.1.0 ++ drop a.b c.before.before.before.before.next-taken.last.0) a.b l.loop-label.settled
-    c.taken-1.given.0.1.1.1.0 c.taken-1.given.0.0 c.taken-1.given.0.1.0 k.look-found.result
+    → let a = k.args in
+    Arrived (T k.before.before.before.before.before.before.before) (G k.before.before.before.before.before.before.before) a.points.now a.q a.k
+    (k.look-found.new.f ++ drop a.b k.next-taken.new.s) a.b k.loop-label.settled
+    k.in-Node.left k.in-Node.label k.in-Node.node k.look-found.result
 arrived k =
-    let l = loop-of (taken_of k) in
-    arrive (start_of l).pre l.loop-label.inv.1 (took (taken_of k)) k.look-found.ensures
+    arrive k.requires k.loop-label.invariant.1 (took k.before.before) k.look-found.ensures
 
 sized : (k : tie.After-look-found invariant-loop-label decreases-loop-label)
-    → let c = taken_of k in
-    let l = loop-of c in
-    let a = (start_of l).args in
-    length (k.look-found.new.1.1.1.1.1.1.0 ++ drop a.b c.before.before.before.before.next-taken.last.0) ≡ length l.loop-label.s-1
+    → let a = k.args in
+    length (k.look-found.new.f ++ drop a.b k.next-taken.new.s) ≡ length k.loop-label.s
 sized k =
-    let l = loop-of (taken_of k) in
-    arrived_size (start_of l).pre l.loop-label.inv.1 (took (taken_of k)) k.look-found.ensures
+    arrived_size k.requires k.loop-label.invariant.1 (took k.before.before) k.look-found.ensures
 
 -- the arcs of its node are followed
 followed : (o : tie.After-open-len invariant-loop-label decreases-loop-label)
-    → let k = look-of (settle-of o) in
-    let c = taken_of k in
-    let l = loop-of c in
-    let b = (start_of l).args.b in
-    Followed (G l)
-    (settled_as (node_count (G l)) (k.look-found.last.1.1.1.1.1.1.0 ++ drop b c.before.before.before.before.next-taken.last.0) b l.loop-label.settled c.taken-1.given.0.1.0 c.taken-1.given.0.0)
-    o.«open».new.1.1.1.0 b c.taken-1.given.0.1.1.1.0 o.«open».result c.taken-1.given.0.1.0 c.taken-1.given.0.0
-    (length (neighbours_of (G l) c.taken-1.given.0.1.0))
-followed o = rw (settle-of o).settle.ensures at o.«open».ensures
+    → let b = o.args.b in
+    Followed (G o.before.before.before.before.before.before.before.before.before.before.before.before.before.before.before.before)
+    (settled_as (node_count (G o.before.before.before.before.before.before.before.before.before.before.before.before.before.before.before.before)) (o.look-found.new.f ++ drop b o.next-taken.new.s) b o.loop-label.settled o.in-Node.node o.in-Node.label)
+    o.open-len.new.s b o.in-Node.left o.open-len.result o.in-Node.node o.in-Node.label
+    (length (neighbours_of (G o.before.before.before.before.before.before.before.before.before.before.before.before.before.before.before.before) o.in-Node.node))
+followed o = rw o.settle.ensures at o.open-len.ensures
 
 overflow_sub-n : tie.Need-overflow_sub-n invariant-loop-label decreases-loop-label
 overflow_sub-n c = search rules
 
 start-requires : tie.Need-start-requires invariant-loop-label decreases-loop-label
 start-requires c κs =
-    let p = can_expand c.before.before.before.before.before.before.before.before.requires in
+    let p = can_expand c.requires in
     (p.blank, (p.size, p.inside, p.accepted.few))
 
 loop-holds : tie.Need-loop-label-init invariant-loop-label decreases-loop-label
 loop-holds c =
-    let s = c.before.before.before.before.before.before.before.before.before.before.before in
-    (refl, querying_start s.requires c.before.before.start.ensures)
+    (refl, querying_start c.requires c.start.ensures)
 
 next-taken-requires : tie.Need-next-taken-requires invariant-loop-label decreases-loop-label
 next-taken-requires c κs =
-    let l = c.before in
-    l.loop-label.invariant.1.progress.area.queue
+    c.loop-label.invariant.1.progress.area.queue
 
 enum_known-taken : tie.Need-enum_known-taken invariant-loop-label decreases-loop-label
 enum_known-taken c = search rules
@@ -115,15 +89,13 @@ shape_of-s-in_default c = search rules
 
 returns-in_default : tie.Need-returns-in_default invariant-loop-label decreases-loop-label
 returns-in_default c =
-    let n = c.before.before.before.before in
-    let l = n.before.before in
-    let e = l.loop-label.invariant.1 in
-    let t = rw c.enum_told-1.given.1 at n.next-taken.ensures in
+    let e = c.loop-label.invariant.1 in
+    let t = rw c.in_default.is at c.next-taken.ensures in
     rw t.1
     (record {
-      size = l.loop-label.invariant.0 ∙ l.before.before.before.start.ensures.frame.size;
-      only = ended_only (start_of l).requires e t.0;
-      right = ended_found (start_of l).requires e t.0;
+      size = c.loop-label.invariant.0 ∙ c.start.ensures.frame.size;
+      only = ended_only c.requires e t.0;
+      right = ended_found c.requires e t.0;
     })
 
 slice_bounds-look-end : tie.Need-slice_bounds-look-end invariant-loop-label decreases-loop-label
@@ -131,66 +103,49 @@ slice_bounds-look-end c = search rules
 
 slice_bounds-look-end-in-loop-label : tie.Need-slice_bounds-look-end-in-loop-label invariant-loop-label decreases-loop-label
 slice_bounds-look-end-in-loop-label c =
-    let t = c.before.before in
-    let l = loop-of t in
-    sym (front_size (start_of l).pre l.loop-label.inv.1 (took t))
+    sym (front_size c.requires c.loop-label.invariant.1 (took c.before))
 
 look-found-requires : tie.Need-look-found-requires invariant-loop-label decreases-loop-label
 look-found-requires c κs =
-    let t = c.before.before in
-    let l = loop-of t in
-    can_look (start_of l).pre l.loop-label.inv.1 (took t)
+    can_look c.requires c.loop-label.invariant.1 (took c.before)
 
 settle-requires : tie.Need-settle-requires invariant-loop-label decreases-loop-label
 settle-requires c κs =
     let k = c.before.before.before in
-    let l = loop-of (taken_of k) in
-    took_fits (start_of l).pre.asked.accepted (arrived k).querying.progress (arrived k).took
+    took_fits c.requires.asked.accepted (arrived k).querying.progress (arrived k).took
 
 overflow_add-settled : tie.Need-overflow_add-settled invariant-loop-label decreases-loop-label
 overflow_add-settled c =
-    let k = look-of c.before.before in
-    let l = loop-of (taken_of k) in
-    record { fits = omega (arith, took_place (start_of l).pre.asked.accepted (arrived k).querying.progress (arrived k).took, (start_of l).pre.asked.accepted.few) }
+    let k = c.before.before.before.before.before.before in
+    record { fits = omega (arith, took_place c.requires.asked.accepted (arrived k).querying.progress (arrived k).took, c.requires.asked.accepted.few) }
 
 loop-less : tie.Need-loop-label-smaller-then-k-found invariant-loop-label decreases-loop-label
 loop-less c =
-    let s = c.before.before.before in
-    let k = look-of s in
-    let l = loop-of (taken_of k) in
-    omega (arith, took_place (start_of l).pre.asked.accepted (arrived k).querying.progress (arrived k).took)
+    let k = c.before.before.before.before.before.before.before in
+    omega (arith, took_place c.requires.asked.accepted (arrived k).querying.progress (arrived k).took)
 
 loop-again : tie.Need-loop-label-preserved-then-k-found invariant-loop-label decreases-loop-label
 loop-again c =
-    let s = c.before.before.before in
-    let k = look-of s in
-    let l = loop-of (taken_of k) in (
-      rw s.settle.ensures (simp length-set (sized k ∙ l.loop-label.inv.0)),
-      rw s.settle.ensures (querying_stopped (start_of l).pre (arrived k) c.if-k-found.true),
+    let k = c.before.before.before.before.before.before.before in (
+      rw c.settle.ensures (simp length-set (sized k ∙ c.loop-label.invariant.0)),
+      rw c.settle.ensures (querying_stopped c.requires (arrived k) c.if-k-found.true),
     )
 
 open-len-requires : tie.Need-open-len-requires invariant-loop-label decreases-loop-label
 open-len-requires c κs =
-    let s = c.before.before.before.before in
-    let k = look-of s in
-    let l = loop-of (taken_of k) in
-    rw s.settle.ensures (took_follow (start_of l).pre.asked.accepted (arrived k).querying.progress (arrived k).took)
+    let k = c.before.before.before.before.before.before.before.before in
+    rw c.settle.ensures (took_follow c.requires.asked.accepted (arrived k).querying.progress (arrived k).took)
 
 loop-less-2 : tie.Need-loop-label-smaller invariant-loop-label decreases-loop-label
 loop-less-2 c =
-    let o = c.before.before in
-    let k = look-of (settle-of o) in
-    let l = loop-of (taken_of k) in
-    omega (arith, took_place (start_of l).pre.asked.accepted (arrived k).querying.progress (arrived k).took)
+    let k = c.before.before.before.before.before.before.before.before.before.before.before in
+    omega (arith, took_place c.requires.asked.accepted (arrived k).querying.progress (arrived k).took)
 
 loop-again-2 : tie.Need-loop-label-preserved invariant-loop-label decreases-loop-label
 loop-again-2 c =
-    let o = c.before.before in
-    let s = settle-of o in
-    let k = look-of s in
-    let l = loop-of (taken_of k) in (
-      (followed o).frame.size ∙ simp length-set (sized k ∙ l.loop-label.inv.0),
-      querying_opened (start_of l).pre (arrived k) (followed o),
+    let k = c.before.before.before.before.before.before.before.before.before.before.before in (
+      (followed c.before.before).frame.size ∙ simp length-set (sized k ∙ c.loop-label.invariant.0),
+      querying_opened c.requires (arrived k) (followed c.before.before),
     )
 
 pub explore_spec : {M : Type 1} → statement M

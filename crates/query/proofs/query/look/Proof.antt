@@ -37,7 +37,7 @@ part-verify-row-end : tie.Need-slice_bounds-verify_row-end
 part-verify-row-end c = omega (arith, from c, ids_inside (start_of c).requires)
 
 offset_bounds-distances-from : tie.Need-offset_bounds-distances-from
-offset_bounds-distances-from c = let w = c.before in omega (arith, from w, dists_inside (start_of w).requires)
+offset_bounds-distances-from c = omega (arith, from c.before, dists_inside c.requires)
 
 slice_bounds-verify_row-count-2 : tie.Need-slice_bounds-verify_row-count-2
 slice_bounds-verify_row-count-2 c = search rules
@@ -46,22 +46,18 @@ part-verify-row-start-2 : tie.Need-slice_bounds-verify_row-start-2
 part-verify-row-start-2 c = search rules
 
 part-verify-row-end-2 : tie.Need-slice_bounds-verify_row-end-2
-part-verify-row-end-2 c = let w = c.before in omega (arith, from w, dists_inside (start_of w).requires)
+part-verify-row-end-2 c = omega (arith, from c.before, dists_inside c.requires)
 
 verify_row-requires : tie.Need-verify_row-requires
 verify_row-requires c κs =
-    let w = c.before.before.before in
-    rw w.wide.ensures (can_verify_row (start_of w).requires)
+    rw c.wide.ensures (can_verify_row c.requires)
 
 shape_of-f : tie.Need-shape_of-f
-shape_of-f c = c.before.before.verify_row.ensures.grown.size
+shape_of-f c = c.verify_row.ensures.grown.size
 
 returns : tie.Need-returns
 returns c =
-    let v = c.before.before in
-    let w = v.before.before.before.before in
-    let s = start_of w in
-    looked_left s.pre (omega (arith, s.fits.label)) (rw w.wide.ensures at v.verify_row.ensures)
+    looked_left c.requires (omega (arith, c.ranges.label.fits)) (rw c.wide.ensures at c.verify_row.ensures)
 
 pub look_spec : {M : Type 1} → statement M
 look_spec =

@@ -8,9 +8,6 @@ use borrow.Author.Rules.{rules}
 use Rattle.query.proofs.query.query.Statement.{statement}
 use Rattle.query.proofs.query.query.Tie as tie
 
-abbrev start_of : tie.After-explore → tie.Start
-start_of e = e.before.before.before.before.before.before.before.before.before.before
-
 overflow_sub-n : tie.Need-overflow_sub-n
 overflow_sub-n c = search rules
 
@@ -18,32 +15,26 @@ overflow_mul-b : tie.Need-overflow_mul-b
 overflow_mul-b c = search rules
 
 explore-requires : tie.Need-explore-requires
-explore-requires c κs = begun c.before.before.before.before.before.before.before.before.before.requires
+explore-requires c κs = begun c.requires
 
 write_found-size-requires : tie.Need-write_found-size-requires
 write_found-size-requires c κs =
-    let e = c.before.before.before.before in
-    let p = (start_of e).requires in
-    (omega (arith, e.explore.ensures.size, p.size), p.answers-1, p.asked.accepted.few)
+    let p = c.requires in
+    (omega (arith, c.explore.ensures.size, p.size), p.answers, p.asked.accepted.few)
 
 zero-requires : tie.Need-zero-requires
 zero-requires c κs = search rules
 
 shape_of-s : tie.Need-shape_of-s
 shape_of-s c =
-    let z = c.before.before in
-    let e = z.before.before.before.before.before.before.before.before.before in
-    ap length z.zero.ensures ∙ length-replicate _ 0 ∙ e.explore.ensures.size
+    ap length c.zero.ensures ∙ length-replicate _ 0 ∙ c.explore.ensures.size
 
 shape_of-answers : tie.Need-shape_of-answers
 shape_of-answers c = search rules
 
 returns : tie.Need-returns
 returns c =
-    let z = c.before.before in
-    let f = z.before.before.before.before in
-    let e = f.before.before.before.before.before in
-    queried (start_of e).requires e.explore.ensures f.write_found-size.ensures.0 f.write_found-size.ensures.1 z.zero.ensures
+    queried c.requires c.explore.ensures c.write_found-size.ensures.0 c.write_found-size.ensures.1 c.zero.ensures
 
 pub query_spec : {M : Type 1} → statement M
 query_spec =

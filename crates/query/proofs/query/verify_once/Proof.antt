@@ -12,43 +12,30 @@ use borrow.Author.Rules.{rules}
 use Rattle.query.proofs.query.verify_once.Statement.{statement}
 use Rattle.query.proofs.query.verify_once.Tie as tie
 
-abbrev start_of : tie.After-wide-at → tie.Start
-start_of w = w.before.before.before.before.before.before.before
+-- the point that is decided is a point, and was not verified before
+inside : (e : tie.Else-seen-ne0) → let a = e.args in a.p < node_count (network a.starts.now a.neighbours.now a.weights.now)
+inside e = omega (arith, e.if-n-at.false, e.wide-at.ensures)
 
--- where the point is decided: it is a point, not verified before
-abbrev wide_at : tie.Else-seen-ne0 → tie.After-wide-at
-wide_at e = e.before.before.before.before.before
-
-abbrev else-of : tie.After-decide-yes → tie.Else-seen-ne0
-else-of d = d.before.before.before
-
-abbrev wide_of : tie.After-decide-yes → tie.After-wide-at
-wide_of d = wide_at (else-of d)
-
-inside : (e : tie.Else-seen-ne0) → let a = (start_of (wide_at e)).args in a.p < node_count (network a.starts.now a.neighbours.now a.weights.now)
-inside e = omega (arith, e.before.before.before.before.if-n-at.false, (wide_at e).wide-at.ensures)
-
-mark : (e : tie.Else-seen-ne0) → let a = (start_of (wide_at e)).args in 0 < get_or a.points.now a.p 0
+mark : (e : tie.Else-seen-ne0) → let a = e.args in 0 < get_or a.points.now a.p 0
 mark e =
-    let m = rw (wide_at e).wide-at.ensures at e.before.before.if-mark-eq0.false in
+    let m = rw e.wide-at.ensures at e.if-mark-eq0.false in
     omega (arith, m)
 
 -- its row
-row : (e : tie.Else-seen-ne0) → let a = (start_of (wide_at e)).args in (wide_at e).wide-at.result * a.places + a.places ≤ length a.distances.now
-row e = row_inside (start_of (wide_at e)).requires (wide_at e).wide-at.result 0 (omega (arith, e.before.before.before.before.if-n-at.false))
+row : (e : tie.Else-seen-ne0) → let a = e.args in e.wide-at.result * a.places + a.places ≤ length a.distances.now
+row e = row_inside e.requires e.wide-at.result 0 (omega (arith, e.if-n-at.false))
 
 decided : (d : tie.After-decide-yes)
-    → let a = (start_of (wide_of d)).args in
+    → let a = d.args in
     let g = network a.starts.now a.neighbours.now a.weights.now in
     Decided g a.points.now (part (a.p * a.places + 1) (a.p * a.places + a.places) a.distances.now) a.p a.q a.k (a.label + a.far)
-    (set a.f-1.now a.p 1) d.decide-yes.new.1.1.1.1.1.0 d.decide-yes.result
-decided d = rw (wide_of d).wide-at.ensures at d.decide-yes.ensures
+    (set a.f.now a.p 1) d.decide-yes.new.f d.decide-yes.result
+decided d = rw d.wide-at.ensures at d.decide-yes.ensures
 
-sized : (d : tie.After-decide-yes) → let a = (start_of (wide_of d)).args in length d.decide-yes.new.1.1.1.1.1.0 ≡ length a.f-1.now
+sized : (d : tie.After-decide-yes) → let a = d.args in length d.decide-yes.new.f ≡ length a.f.now
 sized d =
-    let w = wide_of d in
-    let a = (start_of w).args in
-    decided_size (start_of w).pre a.p (a.label + a.far) (inside (else-of d)) (mark (else-of d)) (decided d)
+    let a = d.args in
+    decided_size d.requires a.p (a.label + a.far) (inside d.before.before.before) (mark d.before.before.before) (decided d)
 
 overflow_sub-n : tie.Need-overflow_sub-n
 overflow_sub-n c = search rules
@@ -58,16 +45,14 @@ wide-at-requires c κs = search rules
 
 returns-then-n-at : tie.Need-returns-then-n-at
 returns-then-n-at c =
-    let w = c.before in
-    verified_beyond (start_of w).requires _ _ (rw w.wide-at.ensures at c.if-n-at.true)
+    verified_beyond c.requires _ _ (rw c.wide-at.ensures at c.if-n-at.true)
 
 bounds-points-at : tie.Need-bounds-points-at
 bounds-points-at c = search rules
 
 returns-then-mark-eq0 : tie.Need-returns-then-mark-eq0
 returns-then-mark-eq0 c =
-    let w = c.before.before.before in
-    verified_none (start_of w).requires _ _ (rw w.wide-at.ensures at c.if-mark-eq0.true)
+    verified_none c.requires _ _ (rw c.wide-at.ensures at c.if-mark-eq0.true)
 
 offset_bounds-f-at : tie.Need-offset_bounds-f-at
 offset_bounds-f-at c = search rules
@@ -77,8 +62,7 @@ bounds-f-at c = search rules
 
 returns-then-seen-ne0 : tie.Need-returns-then-seen-ne0
 returns-then-seen-ne0 c =
-    let w = c.before.before.before.before.before in
-    verified_seen (start_of w).requires _ _ (omega (arith, c.before.before.before.before.if-n-at.false, w.wide-at.ensures)) (rw w.wide-at.ensures at c.if-seen-ne0.true)
+    verified_seen c.requires _ _ (omega (arith, c.if-n-at.false, c.wide-at.ensures)) (rw c.wide-at.ensures at c.if-seen-ne0.true)
 
 offset_bounds-f-at-2 : tie.Need-offset_bounds-f-at-2
 offset_bounds-f-at-2 c = search rules
@@ -112,8 +96,7 @@ part-decide-end c = omega (arith, row c)
 
 decide-yes-requires : tie.Need-decide-yes-requires
 decide-yes-requires c κs =
-    let e = c.before.before in
-    rw (wide_at e).wide-at.ensures (can_decide (start_of (wide_at e)).requires (start_of (wide_at e)).args.p 0 (inside e))
+    rw c.wide-at.ensures (can_decide c.requires c.args.p 0 (inside c.before.before))
 
 overflow_add-f : tie.Need-overflow_add-f
 overflow_add-f c = search rules
@@ -124,8 +107,7 @@ offset_bounds-f-n c = search rules
 bounds-f-n : tie.Need-bounds-f-n
 bounds-f-n c =
     let d = c.before.before.before in
-    let w = wide_of d in
-    omega (arith, sized d, (start_of w).pre.front.size, inside (else-of d), w.wide-at.ensures)
+    omega (arith, sized d, c.requires.front.size, inside c.before.before.before.before.before.before, c.wide-at.ensures)
 
 shape_of-f-then-yes : tie.Need-shape_of-f-then-yes
 shape_of-f-then-yes c = simp length-set (sized c.before.before.before)
@@ -133,10 +115,9 @@ shape_of-f-then-yes c = simp length-set (sized c.before.before.before)
 returns-then-yes : tie.Need-returns-then-yes
 returns-then-yes c =
     let d = c.before.before.before in
-    let w = wide_of d in
-    let a = (start_of w).args in
-    rw w.wide-at.ensures
-    (verified_yes (start_of w).pre a.p (a.label + a.far) (inside (else-of d)) (mark (else-of d)) (decided d) c.if-yes.true)
+    let a = c.args in
+    rw c.wide-at.ensures
+    (verified_yes c.requires a.p (a.label + a.far) (inside c.before.before.before.before.before.before) (mark c.before.before.before.before.before.before) (decided d) c.if-yes.true)
 
 shape_of-f-else-yes : tie.Need-shape_of-f-else-yes
 shape_of-f-else-yes c = sized c.before.before.before
@@ -144,9 +125,8 @@ shape_of-f-else-yes c = sized c.before.before.before
 returns-else-yes : tie.Need-returns-else-yes
 returns-else-yes c =
     let d = c.before.before.before in
-    let w = wide_of d in
-    let a = (start_of w).args in
-    verified_no (start_of w).pre a.p (a.label + a.far) (inside (else-of d)) (mark (else-of d)) (decided d) c.if-yes.false
+    let a = c.args in
+    verified_no c.requires a.p (a.label + a.far) (inside c.before.before.before.before.before.before) (mark c.before.before.before.before.before.before) (decided d) c.if-yes.false
 
 pub verify_once_spec : {M : Type 1} → statement M
 verify_once_spec =

@@ -16,11 +16,8 @@ invariant-loop-i starts neighbours weights points ids_row distances-row distance
 abbrev decreases-loop-i : tie.decreases-loop-i
 decreases-loop-i starts neighbours weights points ids_row distances-row distances f₀ label q k places i₀ f i = k - i
 
-abbrev start_of : tie.At-loop-i invariant-loop-i decreases-loop-i → tie.Start invariant-loop-i decreases-loop-i
-start_of l = l.before.before.before.before.before.before.before.before.before
-
 loop-holds : tie.Need-loop-i-init invariant-loop-i decreases-loop-i
-loop-holds c = let s = c.before.before.before.before.before.before.before.before in row_start s.requires s.args.label
+loop-holds c = row_start c.requires c.args.label
 
 offset_bounds-distances_row-i : tie.Need-offset_bounds-distances_row-i invariant-loop-i decreases-loop-i
 offset_bounds-distances_row-i c = search rules
@@ -29,12 +26,11 @@ bounds-distances_row-i : tie.Need-bounds-distances_row-i invariant-loop-i decrea
 bounds-distances_row-i c = search rules
 
 shape_of-f-then-label-far : tie.Need-shape_of-f-then-label-far invariant-loop-i decreases-loop-i
-shape_of-f-then-label-far c = c.before.before.before.loop-i.invariant.grown.size
+shape_of-f-then-label-far c = c.loop-i.invariant.grown.size
 
 returns-then-label-far : tie.Need-returns-then-label-far invariant-loop-i decreases-loop-i
 returns-then-label-far c =
-    let l = c.before.before.before in
-    row_end (start_of l).requires (start_of l).args.label l.loop-i.invariant (λ _. omega (arith, c.if-label-far.true))
+    row_end c.requires c.args.label c.loop-i.invariant (λ _. omega (arith, c.if-label-far.true))
 
 offset_bounds-ids_row-i : tie.Need-offset_bounds-ids_row-i invariant-loop-i decreases-loop-i
 offset_bounds-ids_row-i c = search rules
@@ -44,29 +40,25 @@ bounds-ids_row-i c = search rules
 
 verify_once-requires : tie.Need-verify_once-requires invariant-loop-i decreases-loop-i
 verify_once-requires c κs =
-    let l = c.before.before.before.before.before in
-    row_verify (start_of l).requires (start_of l).args.label l.loop-i.invariant
+    row_verify c.requires c.args.label c.loop-i.invariant
 
 overflow_add-i : tie.Need-overflow_add-i invariant-loop-i decreases-loop-i
 overflow_add-i c = search rules
 
 loop-less : tie.Need-loop-i-smaller invariant-loop-i decreases-loop-i
-loop-less c = omega (arith, c.before.before.before.before.before.before.before.loop-i-test.true)
+loop-less c = omega (arith, c.loop-i-test.true)
 
 loop-again : tie.Need-loop-i-preserved invariant-loop-i decreases-loop-i
 loop-again c =
-    let i = c.before.before.before.before.before.before.before in
-    let l = i.before in
-    row_more (start_of l).requires (start_of l).args.label l.loop-i.invariant i.loop-i-test.true (omega (arith, c.before.before.before.before.before.if-label-far.false))
-    c.before.before.verify_once.ensures
+    row_more c.requires c.args.label c.loop-i.invariant c.loop-i-test.true (omega (arith, c.if-label-far.false))
+    c.verify_once.ensures
 
 shape_of-f : tie.Need-shape_of-f invariant-loop-i decreases-loop-i
-shape_of-f c = c.before.loop-i.invariant.grown.size
+shape_of-f c = c.loop-i.invariant.grown.size
 
 returns : tie.Need-returns invariant-loop-i decreases-loop-i
 returns c =
-    let l = c.before in
-    row_end (start_of l).requires (start_of l).args.label l.loop-i.invariant (λ h. absurd (omega (arith, c.loop-i-test.false)))
+    row_end c.requires c.args.label c.loop-i.invariant (λ h. absurd (omega (arith, c.loop-i-test.false)))
 
 pub verify_row_spec : {M : Type 1} → statement M
 verify_row_spec =
