@@ -2,6 +2,7 @@
 // to it; the households on the nodes that it goes on from are the list, and nothing is verified. The lent words are: found nodes n | the area of the inner
 // expansions, 4 n | flags n | the area of the outer expansion, 4 n.
 #![tactic(auto)]
+
 ghost use Rattle.std.specs.Prelude.{◌≡◌, length};
 ghost use Rattle.network.specs.Network.{network};
 ghost use Rattle.network.specs.Nearest.{nearest};

@@ -22,7 +22,7 @@ slice_bounds-zero-end c = let n = c.before.before in found_fits (start_of n).req
 slice_bounds-zero-end-2 : tie.Need-slice_bounds-zero-end-2
 slice_bounds-zero-end-2 c =
     let n = c.before.before.before in
-    sym (length-take-le n.nodes-near.result.found n.nodes-near.new.1.1.1.1.0 (found_fits (start_of n).requires n.nodes-near.ensures))
+    sym (length-take-le n.nodes-near.result.found n.nodes-near.new.s (found_fits (start_of n).requires n.nodes-near.ensures))
 
 zero-requires : tie.Need-zero-requires
 zero-requires c κs = search rules
