@@ -2,6 +2,7 @@
 // there it is eager's search: an unbeaten node's label is the distance of the nearest of them. A node of the route has 2 for its verified flag, so that a verification ends
 // at it and a point on it is never listed; the route is not copied. The lent words are eager's (searches, Eager); those of the visits stay 0.
 #![tactic(auto)]
+
 ghost use Rattle.network.specs.Network.{network};
 ghost use Rattle.searches.specs.Eager.{HasPlaces};
 ghost use Rattle.routes.specs.Route.{CanStartRoute, RouteStarted, CanRoute, RouteExplored, RouteLeft};

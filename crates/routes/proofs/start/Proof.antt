@@ -37,14 +37,14 @@ inside : (w : tie.After-wide-at invariant-loop-i decreases-loop-i) → w.wide-at
 inside w =
     let l = loop-of w in
     let R = (start_of l).args.route.now in
-    (start_of l).pre.inside _ (ap (on_route R) w.wide-at.ensures ∙ on_place R _ (omega (arith, (in-of w).loop-i-test.true)))
+    (start_of l).requires.inside _ (ap (on_route R) w.wide-at.ensures ∙ on_place R _ (omega (arith, (in-of w).loop-i-test.true)))
 
 -- its mark can be read
-fits : (w : tie.After-wide-at invariant-loop-i decreases-loop-i) → w.wide-at.result < length (loop-of w).loop-i.s-1
-fits w = let l = loop-of w in mark_fits l.loop-i.i (start_of l).pre l.loop-i.inv.1 (inside w)
+fits : (w : tie.After-wide-at invariant-loop-i decreases-loop-i) → w.wide-at.result < length (loop-of w).loop-i.s
+fits w = let l = loop-of w in mark_fits l.loop-i.i (start_of l).requires l.loop-i.invariant.1 (inside w)
 
 small : (w : tie.After-wide-at invariant-loop-i decreases-loop-i) → w.wide-at.result < 65536
-small w = omega (arith, inside w, (start_of (loop-of w)).pre.few)
+small w = omega (arith, inside w, (start_of (loop-of w)).requires.few)
 
 -- the tag of its entry
 own : (t : tie.After-tag_of-tag invariant-loop-i decreases-loop-i)
@@ -55,13 +55,13 @@ own t =
     t.tag_of-tag.ensures ∙ ap (λ (x : ℕ). tag_of x x) (sym w.wide-at.ensures)
 
 -- where it is put in it had no mark; where it is passed over it has one, and was put in before: must-fail/first_node_only is refused there
-most : (w : tie.After-wide-at invariant-loop-i decreases-loop-i) → get_or (loop-of w).loop-i.s-1 w.wide-at.result 0 ≤ 2 * (loop-of w).loop-i.len
-most w = let l = loop-of w in mark_most l.loop-i.i (start_of l).pre l.loop-i.inv.1 (inside w)
+most : (w : tie.After-wide-at invariant-loop-i decreases-loop-i) → get_or (loop-of w).loop-i.s w.wide-at.result 0 ≤ 2 * (loop-of w).loop-i.len
+most w = let l = loop-of w in mark_most l.loop-i.i (start_of l).requires l.loop-i.invariant.1 (inside w)
 
-new : (t : tie.Then-mark-eq0 invariant-loop-i decreases-loop-i) → let w = t.before.before in get_or (loop-of w).loop-i.s-1 w.wide-at.result 0 ≡ 0
+new : (t : tie.Then-mark-eq0 invariant-loop-i decreases-loop-i) → let w = t.before.before in get_or (loop-of w).loop-i.s w.wide-at.result 0 ≡ 0
 new t = omega (arith, t.if-mark-eq0.true, most t.before.before)
 
-again : (t : tie.Else-mark-eq0 invariant-loop-i decreases-loop-i) → let w = t.before.before in get_or (loop-of w).loop-i.s-1 w.wide-at.result 0 ≢ 0
+again : (t : tie.Else-mark-eq0 invariant-loop-i decreases-loop-i) → let w = t.before.before in get_or (loop-of w).loop-i.s w.wide-at.result 0 ≢ 0
 again t = omega (arith, t.if-mark-eq0.false, most t.before.before)
 
 loop-holds : tie.Need-loop-i-init invariant-loop-i decreases-loop-i
@@ -102,8 +102,8 @@ push-requires c κs =
     let m = t.before in
     let w = m.before.before in
     let l = loop-of w in
-    let p = (start_of l).pre in
-    let i = l.loop-i.inv.1 in
+    let p = (start_of l).requires in
+    let i = l.loop-i.invariant.1 in
     (queue_marked l.loop-i.i p i (inside w) (new m), can_push l.loop-i.i p i (inside w) (new m) t.tag_of-tag.result (own t))
 
 overflow_add-len : tie.Need-overflow_add-len invariant-loop-i decreases-loop-i
@@ -122,7 +122,7 @@ loop-again c =
     let h = (in-of w).loop-i-test.true in
     let e = p.push.ensures in (
       omega (arith, h),
-      started_more l.loop-i.i (start_of l).pre l.loop-i.inv.1 (inside w) (new m) h w.wide-at.ensures (rw (own t) at e),
+      started_more l.loop-i.i (start_of l).requires l.loop-i.invariant.1 (inside w) (new m) h w.wide-at.ensures (rw (own t) at e),
     )
 
 loop-less-2 : tie.Need-loop-i-smaller invariant-loop-i decreases-loop-i
@@ -133,7 +133,7 @@ loop-again-2 c =
     let w = c.before.before in
     let l = loop-of w in
     let h = (in-of w).loop-i-test.true in
-    (omega (arith, h), started_again l.loop-i.i (start_of l).pre l.loop-i.inv.1 (inside w) h w.wide-at.ensures (again c))
+    (omega (arith, h), started_again l.loop-i.i (start_of l).requires l.loop-i.invariant.1 (inside w) h w.wide-at.ensures (again c))
 
 shape_of-s : tie.Need-shape_of-s invariant-loop-i decreases-loop-i
 shape_of-s c = search rules
