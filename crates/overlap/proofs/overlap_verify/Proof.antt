@@ -21,7 +21,7 @@ returns c =
     let e = c.before.before.before.answer.ensures in
     record {
       answer = c.verdict_of.ensures ∙ ap (λ (o : VerifyOutcome). rule_verdict o.answer) e;
-      scratch_left = ap (λ (o : VerifyOutcome). o.scratch-1) e;
+      scratch_left = ap (λ (o : VerifyOutcome). o.scratch) e;
     }
 
 pub overlap_verify_spec : {M : Type 1} → statement M

@@ -33,11 +33,11 @@ abbrev read_by : tie.After-one-update invariant-loop-j decreases-loop-j → tie.
 read_by o = o.before.before.before.before.before
 
 -- the call asks no more scratch than is lent
-fits : (k : tie.After-call_at-call invariant-loop-j decreases-loop-j) → k.call_at-call.result.length ≤ length k.before.before.loop-j.scratch-1
+fits : (k : tie.After-call_at-call invariant-loop-j decreases-loop-j) → k.call_at-call.result.length ≤ length k.before.before.loop-j.scratch
 fits k =
     let i = k.before in
     let l = i.before in
-    omega (arith, ap (λ (w : CallWords). w.length) k.call_at-call.ensures, (start_of l).requires.room l.loop-j.j i.loop-j-test.true, l.loop-j.invariant.scratch-1)
+    omega (arith, ap (λ (w : CallWords). w.length) k.call_at-call.ensures, (start_of l).requires.room l.loop-j.j i.loop-j-test.true, l.loop-j.invariant.scratch)
 
 -- an index's bytes can be counted
 small : (i : tie.In-loop-j invariant-loop-j decreases-loop-j) → 4 * i.before.loop-j.j + 4 < 18446744073709551616

@@ -21,11 +21,11 @@ abbrev old_of : tie.Start → Lent
 old_of s = record { points = s.args.points.now; scratch = s.args.scratch.now; ids = s.args.ids.now; distances = s.args.distances.now; numbers = s.args.numbers.now; counts = s.args.counts.now }
 
 abbrev start_of : tie.After-unfit → tie.Start
-start_of u = u.before.before.before.before.before.before.before.before.before.before.before.before.before.before.before.before.before
+start_of u = u.before.before.before.before.before.before.before.before.before.before.before.before.before.before
 
 -- behind the first test; and what build left
 abbrev fit_of : tie.After-overlap_build-number → tie.Else-unfit
-fit_of o = o.before.before.before.before.before
+fit_of o = o.before.before.before.before
 
 fits : (e : tie.Else-unfit) → unfit_of (list_of (start_of e.before)) (old_of (start_of e.before)) ≡ false
 fits e = sym e.before.unfit.ensures ∙ e.if-unfit.false

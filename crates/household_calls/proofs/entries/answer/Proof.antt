@@ -15,7 +15,7 @@ abbrev G : tie.Start → Network
 G s = network s.args.starts.now s.args.neighbours.now s.args.weights.now
 
 abbrev start : tie.After-sheet_number-refusal → tie.Start
-start n = n.before.before.before.before.before.before.before.before.before.before
+start n = n.before.before.before.before.before.before.before.before
 
 sheet_number-refusal-requires : tie.Need-sheet_number-refusal-requires
 sheet_number-refusal-requires c κs = search rules
@@ -37,7 +37,7 @@ run-requires c κs =
     let e = c.before.before in
     let n = e.before in
     let a = (start n).args in
-    sheet_ready (G (start n)) a.households.now a.sites.now a.scratch-1.now a.answers-1.now (sym n.sheet_number-refusal.ensures ∙ e.if-refusal-ne0.false)
+    sheet_ready (G (start n)) a.households.now a.sites.now a.scratch.now a.answers.now (sym n.sheet_number-refusal.ensures ∙ e.if-refusal-ne0.false)
 
 shape_of-scratch : tie.Need-shape_of-scratch
 shape_of-scratch c = search rules
@@ -52,7 +52,7 @@ returns c =
     let e = r.before.before.before in
     let n = e.before in
     let h = r.run.ensures in
-    entries_done _ _ _ (sym n.sheet_number-refusal.ensures ∙ e.if-refusal-ne0.false) (all_zero (length (start n).args.scratch.now) refl h.area) h.answers-1
+    entries_done _ _ _ (sym n.sheet_number-refusal.ensures ∙ e.if-refusal-ne0.false) (all_zero (length (start n).args.scratch.now) refl h.area) h.answers
 
 pub answer_spec : {M : Type 1} → statement M
 answer_spec =

@@ -17,7 +17,7 @@ abbrev start : tie.After-zero → tie.Start
 start z = z.before.before.before.before.before.before.before.before.before
 
 -- the cleared words are as many, and those that are used are there
-long : (z : tie.After-zero) → length z.zero.new.0 ≡ length (start z).args.scratch.now
+long : (z : tie.After-zero) → length z.zero.new.s ≡ length (start z).args.scratch.now
 long z = zero_length (length (start z).args.scratch.now) z.zero.ensures
 
 fits : (z : tie.After-zero) → 6 * node_count (G (start z)) ≤ length (start z).args.scratch.now
@@ -43,10 +43,10 @@ sheet-requires c κs =
     let z = c.before.before.before.before in
     let s = start z in
     record {
-      accepted = s.pre.accepted;
+      accepted = s.requires.accepted;
       blank = part_blank (length s.args.scratch.now) (6 * node_count (G s)) z.zero.ensures;
       room = simp length-take (omega (arith, fits z, long z));
-      places = s.pre.places;
+      places = s.requires.places;
     }
 
 shape_of-scratch : tie.Need-shape_of-scratch
@@ -63,7 +63,7 @@ returns c =
     let h = r.sheet.ensures in
     record {
       area = part_wiped s.args.scratch.now (6 * node_count (G s)) z.zero.ensures (fits z) h.area;
-      answers = h.answers-1;
+      answers = h.answers;
     }
 
 pub run_spec : {M : Type 1} → statement M

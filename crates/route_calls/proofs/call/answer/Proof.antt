@@ -20,14 +20,14 @@ abbrev G : tie.Start → Network
 G s = network s.args.starts.now s.args.neighbours.now s.args.weights.now
 
 abbrev start : tie.After-route_call_number-refusal → tie.Start
-start n = n.before.before.before.before.before.before.before.before.before.before
+start n = n.before.before.before.before.before.before.before.before
 
 -- behind the test no condition is met
 ready : (e : tie.Else-refusal-ne0) → let s = start e.before in RouteReady (G s) s.args.points.now s.args.route.now s.args.k s.args.scratch.now s.args.answers.now
 ready e =
     let n = e.before in
     let a = (start n).args in
-    route_call_ready (G (start n)) a.points.now a.route.now a.k a.scratch-1.now a.answers-1.now
+    route_call_ready (G (start n)) a.points.now a.route.now a.k a.scratch.now a.answers.now
     (sym n.route_call_number-refusal.ensures ∙ e.if-refusal-ne0.false)
 
 route_call_number-refusal-requires : tie.Need-route_call_number-refusal-requires
@@ -83,12 +83,12 @@ returns c =
     let e = z.before.before in
     let n = e.before in
     let a = (start n).args in
-    let long = length a.scratch-1.now in
+    let long = length a.scratch.now in
     let h = w.touched-length.ensures in
     list_done _ _ _ (sym n.route_call_number-refusal.ensures ∙ e.if-refusal-ne0.false)
     (all_zero long (zero_length long z.zero.ensures) h.area)
     (h.sized ∙ ap (λ k. length (touched (G (start n)) a.points.now a.route.now k)) v.wide.ensures)
-    (h.answers-1 ∙ ap (λ k. answered (touched (G (start n)) a.points.now a.route.now k) a.answers-1.now) v.wide.ensures)
+    (h.answers ∙ ap (λ k. answered (touched (G (start n)) a.points.now a.route.now k) a.answers.now) v.wide.ensures)
 
 pub answer_spec : {M : Type 1} → statement M
 answer_spec =

@@ -17,7 +17,7 @@ abbrev G : tie.Start → Network
 G s = network s.args.starts.now s.args.neighbours.now s.args.weights.now
 
 abbrev start : tie.After-distances_number-refusal → tie.Start
-start c = c.before.before.before.before.before.before.before.before
+start c = c.before.before.before.before.before.before
 
 -- behind the test no condition is met
 ready : (e : tie.Else-refusal-ne0) → let s = start e.before in DistancesReady (G s) s.args.node s.args.scratch.now s.args.answers.now
@@ -75,7 +75,7 @@ returns c =
     let long = length s.args.scratch.now in
     distances_done (G s) s.args.node s.args.scratch.now s.args.answers.now (sym n.distances_number-refusal.ensures ∙ e.if-refusal-ne0.false)
     (all_zero long (zero_length long z.zero.ensures) d.distances.ensures.area)
-    d.distances.ensures.answers-1
+    d.distances.ensures.answers
 
 pub answer_spec : {M : Type 1} → statement M
 answer_spec =

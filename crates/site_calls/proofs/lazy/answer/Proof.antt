@@ -14,7 +14,7 @@ abbrev G : tie.Start → Network
 G s = network s.args.starts.now s.args.neighbours.now s.args.weights.now
 
 abbrev start : tie.After-search_number-refusal → tie.Start
-start n = n.before.before.before.before.before.before.before.before.before
+start n = n.before.before.before.before.before.before.before
 
 search_number-refusal-requires : tie.Need-search_number-refusal-requires
 search_number-refusal-requires c κs = search rules
@@ -51,7 +51,7 @@ returns c =
     let n = e.before in
     let s = start n in
     let h = r.run-length.ensures in
-    lazy_done (G s) s.args.points.now s.args.q s.args.k s.args.scratch.now s.args.answers.now (sym n.search_number-refusal.ensures ∙ e.if-refusal-ne0.false) (all_zero (length s.args.scratch.now) refl h.area) h.sized h.answers-1
+    lazy_done (G s) s.args.points.now s.args.q s.args.k s.args.scratch.now s.args.answers.now (sym n.search_number-refusal.ensures ∙ e.if-refusal-ne0.false) (all_zero (length s.args.scratch.now) refl h.area) h.sized h.answers
 
 pub answer_spec : {M : Type 1} → statement M
 answer_spec =

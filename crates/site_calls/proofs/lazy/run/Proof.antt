@@ -29,12 +29,12 @@ used w =
 small : (w : tie.After-wide-k) → let s = start w in 2 * w.wide-k.result * (length s.args.starts.now - 1 + length s.args.neighbours.now) ≤ 32 * (length s.args.starts.now - 1 + length s.args.neighbours.now)
 small w =
     let s = start w in
-    mul-le-mul_right (length s.args.starts.now - 1 + length s.args.neighbours.now) (omega (arith, w.wide-k.ensures, s.pre.query.few))
+    mul-le-mul_right (length s.args.starts.now - 1 + length s.args.neighbours.now) (omega (arith, w.wide-k.ensures, s.requires.query.few))
 
 fits : (w : tie.After-wide-k) → used w ≤ length (start w).args.scratch.now
 fits w =
     let s = start w in
-    let p = s.pre.query in
+    let p = s.requires.query in
     omega (
       arith,
       ap (λ (k : ℕ). 2 * k * (length s.args.starts.now - 1 + length s.args.neighbours.now)) w.wide-k.ensures,
@@ -43,7 +43,7 @@ fits w =
     )
 
 -- the cleared words are as many
-long : (z : tie.After-zero) → length z.zero.new.0 ≡ length (start z.before.before).args.scratch.now
+long : (z : tie.After-zero) → length z.zero.new.s ≡ length (start z.before.before).args.scratch.now
 long z = zero_length (length (start z.before.before).args.scratch.now) z.zero.ensures
 
 overflow_sub-n : tie.Need-overflow_sub-n
@@ -81,7 +81,7 @@ search-requires c κs =
     let z = c.before.before.before.before in
     let w = z.before.before in
     let s = start w in
-    let p = s.pre.query in
+    let p = s.requires.query in
     let blank = part_blank (length s.args.scratch.now) (used w) z.zero.ensures in (
       record {
         accepted = p.accepted;
@@ -92,14 +92,14 @@ search-requires c κs =
         size = simp length-take (omega (arith, fits w, long z, mul-le-mul_left w.wide-k.result p.accepted.some));
       },
       (
-        s.pre.places,
+        s.requires.places,
         record {
           accepted = p.accepted;
           points = p.points;
           site = p.inside;
           blank = blank;
           size = simp length-take (omega (arith, fits w, long z));
-          answers = s.pre.places;
+          answers = s.requires.places;
         },
       ),
     )
@@ -119,7 +119,7 @@ returns c =
     let h = r.search.ensures in
     record {
       sized = h.sized ∙ ap (λ (k : ℕ). length (listed (G s) s.args.points.now s.args.q k)) w.wide-k.ensures;
-      answers = h.answers-1 ∙ ap (λ (k : ℕ). answered (listed (G s) s.args.points.now s.args.q k) s.args.answers.now) w.wide-k.ensures;
+      answers = h.answers ∙ ap (λ (k : ℕ). answered (listed (G s) s.args.points.now s.args.q k) s.args.answers.now) w.wide-k.ensures;
       area = part_wiped s.args.scratch.now (used w) z.zero.ensures (fits w) h.area;
     }
 

@@ -12,7 +12,7 @@ abbrev G : tie.Start → Network
 G s = network s.args.starts.now s.args.neighbours.now s.args.weights.now
 
 abbrev start : tie.After-nearest_number-refusal → tie.Start
-start c = c.before.before.before.before.before.before.before.before.before.before.before
+start c = c.before.before.before.before.before.before.before.before
 
 nearest_number-refusal-requires : tie.Need-nearest_number-refusal-requires
 nearest_number-refusal-requires c κs = search rules

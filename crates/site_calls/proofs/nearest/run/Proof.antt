@@ -25,7 +25,7 @@ G s = network s.args.starts.now s.args.neighbours.now s.args.weights.now
 abbrev start : tie.After-nearest-found → tie.Start
 start c = c.before.before.before.before.before.before.before.before.before.before.before.before.before.before
 
-left : (c : tie.After-nearest-found) → NearestLeft (G (start c)) (start c).args.points.now (start c).args.node (start c).args.e (start c).args.k c.before.before.before.before.zero.new.0 c.nearest-found.new.1.1.1.1.0 c.nearest-found.result
+left : (c : tie.After-nearest-found) → NearestLeft (G (start c)) (start c).args.points.now (start c).args.node (start c).args.e (start c).args.k c.before.before.before.before.zero.new.s c.nearest-found.new.1.1.1.1.0 c.nearest-found.result
 left c = rw c.before.before.before.before.before.before.wide-wanted.ensures at c.nearest-found.ensures
 
 few : (c : tie.After-nearest-found) → c.nearest-found.result ≤ (start c).args.k

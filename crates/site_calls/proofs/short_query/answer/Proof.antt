@@ -15,13 +15,13 @@ use Rattle.site_calls.proofs.short_query.answer.Statement.{statement}
 use Rattle.site_calls.proofs.short_query.answer.Tie as tie
 
 abbrev start : tie.After-limited_number-refusal → tie.Start
-start c = c.before.before.before.before.before.before.before.before.before
+start c = c.before.before.before.before.before.before.before
 
 abbrev G : tie.After-limited_number-refusal → Network
 G n = let a = (start n).args in network a.starts.now a.neighbours.now a.weights.now
 
 -- behind the test no condition is met. The number is the same for any k that 9 lets pass, so a wrong k is first refused where the list is told (`returns-2`).
-none : (e : tie.Else-refusal-ne0) → let a = (start e.before).args in limited_number (G e.before) a.points.now a.q short_k a.scratch-1.now a.answers-1.now ≡ 0
+none : (e : tie.Else-refusal-ne0) → let a = (start e.before).args in limited_number (G e.before) a.points.now a.q short_k a.scratch.now a.answers.now ≡ 0
 unfolding limited_number k_number
 none e = sym e.before.limited_number-refusal.ensures ∙ e.if-refusal-ne0.false
 
@@ -39,8 +39,8 @@ unfolding limited_number k_number
 returns-then-refusal-ne0 c =
     let n = c.before in
     let a = (start n).args in
-    short_is (G n) a.points.now a.q a.scratch-1.now a.answers-1.now
-    (limited_refused (G n) a.points.now a.q short_k 65535 a.scratch-1.now a.answers-1.now n.limited_number-refusal.result n.limited_number-refusal.ensures c.if-refusal-ne0.true)
+    short_is (G n) a.points.now a.q a.scratch.now a.answers.now
+    (limited_refused (G n) a.points.now a.q short_k 65535 a.scratch.now a.answers.now n.limited_number-refusal.result n.limited_number-refusal.ensures c.if-refusal-ne0.true)
 
 zero-requires : tie.Need-zero-requires
 zero-requires c κs = search rules
@@ -54,7 +54,7 @@ without_visits-requires c κs =
     let e = z.before.before in
     let n = e.before in
     let a = (start n).args in
-    let r = limited_ready (G n) a.points.now a.q _ a.scratch-1.now a.answers-1.now (sym n.limited_number-refusal.ensures ∙ e.if-refusal-ne0.false) in
+    let r = limited_ready (G n) a.points.now a.q _ a.scratch.now a.answers.now (sym n.limited_number-refusal.ensures ∙ e.if-refusal-ne0.false) in
     (limited_search r z.zero.ensures, r.places)
 
 listed_of-requires : tie.Need-listed_of-requires
@@ -72,10 +72,10 @@ returns c =
     let z = r.before.before.before.before.before in
     let e = z.before.before in
     let a = (start e.before).args in
-    let long = length a.scratch-1.now in
-    short_is (G e.before) a.points.now a.q a.scratch-1.now a.answers-1.now
+    let long = length a.scratch.now in
+    short_is (G e.before) a.points.now a.q a.scratch.now a.answers.now
     (rw c.listed_of.ensures
-    (limited_outcome_lem (G e.before) a.points.now a.q short_k 65535 a.scratch-1.now a.answers-1.now r.without_visits.result (none e) r.without_visits.ensures
+    (limited_outcome_lem (G e.before) a.points.now a.q short_k 65535 a.scratch.now a.answers.now r.without_visits.result (none e) r.without_visits.ensures
     (λ s. all_zero long (zero_length long z.zero.ensures) s)))
 
 pub answer_spec : {M : Type 1} → statement M

@@ -18,7 +18,7 @@ abbrev G : tie.Start → Network
 G s = network s.args.starts.now s.args.neighbours.now s.args.weights.now
 
 abbrev start : tie.After-verify_number-refusal → tie.Start
-start c = c.before.before.before.before.before.before.before
+start c = c.before.before.before.before.before.before
 
 -- behind the test no condition is met
 ready : (e : tie.Else-refusal-ne0) → let s = start e.before in VerifyReady (G s) s.args.points.now s.args.p s.args.q s.args.k s.args.scratch.now

@@ -14,7 +14,7 @@ abbrev G : tie.Start → Network
 G s = network s.args.starts.now s.args.neighbours.now s.args.weights.now
 
 abbrev start : tie.After-build_number-refusal → tie.Start
-start n = n.before.before.before.before.before.before.before.before.before.before.before
+start n = n.before.before.before.before.before.before.before.before
 
 build_number-refusal-requires : tie.Need-build_number-refusal-requires
 build_number-refusal-requires c κs = search rules

@@ -35,11 +35,11 @@ fits w =
       arith,
       ap (λ (k : ℕ). k * length s.args.neighbours.now) w.wide-row.ensures,
       words_for_build (G s) s.args.places,
-      s.pre.room,
+      s.requires.room,
     )
 
 -- the cleared words are as many
-long : (z : tie.After-zero) → length z.zero.new.0 ≡ length (start z.before.before).args.scratch.now
+long : (z : tie.After-zero) → length z.zero.new.s ≡ length (start z.before.before).args.scratch.now
 long z = zero_length (length (start z.before.before).args.scratch.now) z.zero.ensures
 
 overflow_sub-n : tie.Need-overflow_sub-n
@@ -74,7 +74,7 @@ build-requires c κs =
     let z = c.before.before.before.before.before in
     let w = z.before.before in
     let s = start w in
-    let p = ready_same w.wide-row.ensures s.pre.ready in
+    let p = ready_same w.wide-row.ensures s.requires.ready in
     record {
       accepted = p.accepted;
       points = p.points;

@@ -3,7 +3,7 @@
 use mathlib.Core.Path.{refl, sym, ap, ◌∙◌}
 use lib.ListN.{length}
 use Rattle.network.specs.Network.{Network, network}
-use Rattle.conditions.specs.declared.answers-1.Listed.TheVariants as is
+use Rattle.conditions.specs.declared.answers.Listed.TheVariants as is
 use Rattle.numbers.proofs.Ready.{table_query_ready}
 use Rattle.numbers.proofs.Cleared.{all_zero}
 use borrow.Author.Rules.{rules}
@@ -14,7 +14,7 @@ abbrev G : tie.Start → Network
 G s = network s.args.starts.now s.args.neighbours.now s.args.weights.now
 
 abbrev start : tie.After-table_query_number-refusal → tie.Start
-start n = n.before.before.before.before.before.before.before.before.before.before.before
+start n = n.before.before.before.before.before.before.before.before.before
 
 table_query_number-refusal-requires : tie.Need-table_query_number-refusal-requires
 table_query_number-refusal-requires c κs = search rules
@@ -59,7 +59,7 @@ returns c =
           record {
             found = r.run-length.result;
             answered_so = refl;
-            done = record { zero = all_zero (length (start n).args.scratch.now) refl d.area; any = d.some; sized = d.sized; list = d.answers-1 };
+            done = record { zero = all_zero (length (start n).args.scratch.now) refl d.area; any = d.some; sized = d.sized; list = d.answers };
           };
     }
 

@@ -26,7 +26,7 @@ fits : (s : tie.Start) → used s ≤ length s.args.scratch.now
 fits s = let p = s.requires in omega (arith, words_enough (G s) s.args.k p.some, p.room, p.ready.accepted.some)
 
 -- the cleared words are as many
-long : (z : tie.After-zero) → length z.zero.new.0 ≡ length (start z).args.scratch.now
+long : (z : tie.After-zero) → length z.zero.new.s ≡ length (start z).args.scratch.now
 long z = zero_length (length (start z).args.scratch.now) z.zero.ensures
 
 overflow_sub-used : tie.Need-overflow_sub-used
@@ -55,7 +55,7 @@ query-requires c κs =
     let w = c.before in
     let z = w.before.before.before.before.before in
     let s = start z in
-    let p = s.pre in
+    let p = s.requires in
     let t = ready_same c.wide-2.ensures p.ready in
     record {
       asked =
@@ -89,7 +89,7 @@ returns c =
     let d = rw (w.wide.ensures, v.wide-2.ensures) at r.query.ensures in
     record {
       some = d.some;
-      answers = d.answers-1;
+      answers = d.answers;
       sized = d.sized;
       area = part_wiped s.args.scratch.now (used s) z.zero.ensures (fits s) d.area;
     }

@@ -17,7 +17,7 @@ abbrev G : tie.Start → Network
 G s = network s.args.starts.now s.args.neighbours.now s.args.weights.now
 
 abbrev start : tie.After-change_number-refusal → tie.Start
-start n = n.before.before.before.before.before.before.before.before.before.before.before.before
+start n = n.before.before.before.before.before.before.before.before
 
 -- refused with equal numbers
 same_number : {m n : ℕ} → m ≡ n → ◌≡◌ {A = Updated} (is.Refused m) (is.Refused n)

@@ -8,13 +8,13 @@ enum_told-1 : tie.Need-enum_told-1
 enum_told-1 c = search rules
 
 insert-requires : tie.Need-insert-requires
-insert-requires c κs = rw c.before.before.before.before.enum_told-1.given.1 at c.before.before.before.before.before.before.before.before.before.before.before.before.before.requires
+insert-requires c κs = rw c.in-Insert.is at c.requires
 
 enum_told-in-Remove : tie.Need-enum_told-in-Remove
 enum_told-in-Remove c = search rules
 
 remove-requires : tie.Need-remove-requires
-remove-requires c κs = rw c.before.before.before.before.enum_told-in-Remove-1.given.1 at c.before.before.before.before.before.before.before.before.before.before.before.before.before.requires
+remove-requires c κs = rw c.in-Remove.is at c.requires
 
 shape_of-points-in-Insert : tie.Need-shape_of-points-in-Insert
 shape_of-points-in-Insert c = search rules
@@ -29,7 +29,7 @@ shape_of-distances-in-Insert : tie.Need-shape_of-distances-in-Insert
 shape_of-distances-in-Insert c = search rules
 
 returns-in-Insert : tie.Need-returns-in-Insert
-returns-in-Insert c = let r = c.before.before.before.before.before.before.before.before in rw r.before.before.before.before.before.enum_told-1.given.1 r.insert.ensures
+returns-in-Insert c = rw c.in-Insert.is c.insert.ensures
 
 shape_of-points-in-Remove : tie.Need-shape_of-points-in-Remove
 shape_of-points-in-Remove c = search rules
@@ -44,7 +44,7 @@ shape_of-distances-in-Remove : tie.Need-shape_of-distances-in-Remove
 shape_of-distances-in-Remove c = search rules
 
 returns-in-Remove : tie.Need-returns-in-Remove
-returns-in-Remove c = let r = c.before.before.before.before.before.before.before.before in rw r.before.before.before.before.before.enum_told-in-Remove-1.given.1 r.remove.ensures
+returns-in-Remove c = rw c.in-Remove.is c.remove.ensures
 
 pub change_spec : {M : Type 1} → statement M
 change_spec =

@@ -24,14 +24,14 @@ can-change : (kind : Kind) (g : Network) (P xs ids distances : List ℕ) (node K
 can-change Insert g P xs ids distances node K inside r byte blank room =
     record {
       expand = record { accepted = r.accepted; inside = inside; blank = blank; size = omega arith };
-      points = r.points-1;
+      points = r.points;
       room = byte;
       sized = r.sized;
     }
 can-change Remove g P xs ids distances node K inside r byte blank room =
     record {
       accepted = r.accepted;
-      points = r.points-1;
+      points = r.points;
       inside = inside;
       is_point = byte;
       least = r.least;
@@ -57,7 +57,7 @@ fits s =
     omega (arith, words_enough (G s) s.args.places (omega (arith, p.ready.least)), p.room, p.ready.accepted.some)
 
 -- the cleared words are as many
-long : (z : tie.After-zero) → length z.zero.new.0 ≡ length (start z).args.scratch.now
+long : (z : tie.After-zero) → length z.zero.new.s ≡ length (start z).args.scratch.now
 long z = zero_length (length (start z).args.scratch.now) z.zero.ensures
 
 overflow_sub-used : tie.Need-overflow_sub-used
@@ -88,11 +88,11 @@ change-requires : tie.Need-change-requires
 change-requires c κs =
     let z = c.before.before.before.before.before.before.before in
     let s = start z in
-    let p = s.pre in
+    let p = s.requires in
     can-change s.args.kind (G s) s.args.points.now _ s.args.ids.now s.args.distances.now s.args.node c.wide.result
     p.inside
     (ready_same c.wide.ensures p.ready)
-    s.pre.byte
+    s.requires.byte
     (part_blank (length s.args.scratch.now) (used s) z.zero.ensures)
     (simp length-take (omega (arith, fits s, long z)))
 
