@@ -17,6 +17,7 @@ pub mod answers;
 pub mod kind;
 
 // Of 6: a byte above 15.
+#[tactic(auto, using(crate::proofs::Bytes::no_byte, crate::proofs::Bytes::byte_found, crate::proofs::Bytes::byte_passed))]
 fn bad_byte(points: &[u8]) -> bool
     ensures { result ≡ any (bad_byte_at points.now) (length points.now) }
 {
@@ -70,6 +71,7 @@ pub fn nodes_number(n: usize, route: &[u32]) -> u32
 }
 
 // 8: K is not 2 to 17, or a table array has not n × K entries.
+#[tactic(auto, unfolding(crate::specs::Conditions::table_number))]
 pub fn table_number(n: usize, places: u32, id_count: usize, distance_count: usize) -> u32
     requires { n ≤ 65535 }
     ensures { result ≡ table_number n places id_count distance_count }
@@ -91,6 +93,7 @@ pub fn table_number(n: usize, places: u32, id_count: usize, distance_count: usiz
 }
 
 // 9: k is 0 or above 16.
+#[tactic(auto, unfolding(crate::specs::Conditions::k_number))]
 pub fn k_number(k: u32) -> u32
     ensures { result ≡ k_number k }
 {
@@ -151,6 +154,7 @@ pub fn eager_scratch_number(n: usize, have: usize) -> u32
 }
 
 // 11: insert at 15 lockers.
+#[tactic(auto, unfolding(crate::specs::Conditions::full_number))]
 pub fn full_number(points: &[u8], p: u32) -> u32
     ensures { result ≡ full_number points.now p }
 {
