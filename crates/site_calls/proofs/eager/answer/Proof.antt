@@ -21,7 +21,7 @@ G n = let a = (start n).args in network a.starts.now a.neighbours.now a.weights.
 -- behind the test no condition is met
 none : (e : tie.Else-refusal-ne0)
     → let a = (start e.before).args in
-    eager_number (G e.before) a.points.now a.q a.k a.scratch.now a.answers.now a.visits-1.now ≡ 0
+    eager_number (G e.before) a.points.now a.q a.k a.scratch.now a.answers.now a.visits.now ≡ 0
 none e = sym e.before.eager_number-refusal.ensures ∙ e.if-refusal-ne0.false
 
 eager_number-refusal-requires : tie.Need-eager_number-refusal-requires
@@ -42,9 +42,9 @@ returns-then-refusal-ne0 c =
     let a = (start n).args in
     let r = n.eager_number-refusal.result in
     let h = n.eager_number-refusal.ensures in
-    eager_is (G n) a.points.now a.q a.k a.limit a.scratch.now a.answers.now a.visits-1.now
+    eager_is (G n) a.points.now a.q a.k a.limit a.scratch.now a.answers.now a.visits.now
     (limited_refused (G n) a.points.now a.q a.k a.limit a.scratch.now a.answers.now r h c.if-refusal-ne0.true)
-    (visits_refused (G n) a.points.now a.q a.k a.limit a.visits-1.now r h c.if-refusal-ne0.true)
+    (visits_refused (G n) a.points.now a.q a.k a.limit a.visits.now r h c.if-refusal-ne0.true)
 
 zero-requires : tie.Need-zero-requires
 zero-requires c κs = search rules
@@ -57,7 +57,7 @@ eager-requires c κs =
     let z = c.before.before.before.before.before.before in
     let e = z.before.before in
     let a = (start e.before).args in
-    let r = eager_ready (G e.before) a.points.now a.q a.k a.scratch.now a.answers.now a.visits-1.now (none e) in
+    let r = eager_ready (G e.before) a.points.now a.q a.k a.scratch.now a.answers.now a.visits.now (none e) in
     rw c.wide.ensures (limited_search r.0 z.zero.ensures, (r.0.places, r.1))
 
 listed_of-requires : tie.Need-listed_of-requires
@@ -81,11 +81,11 @@ returns c =
     let a = (start e.before).args in
     let long = length a.scratch.now in
     let h = rw w.wide.ensures at r.eager.ensures in
-    eager_is (G e.before) a.points.now a.q a.k a.limit a.scratch.now a.answers.now a.visits-1.now
+    eager_is (G e.before) a.points.now a.q a.k a.limit a.scratch.now a.answers.now a.visits.now
     (rw c.listed_of.ensures
     (limited_outcome_lem (G e.before) a.points.now a.q a.k a.limit a.scratch.now a.answers.now r.eager.result (none e) h.0
     (λ s. all_zero long (zero_length long z.zero.ensures) s)))
-    (visits_outcome_lem (G e.before) a.points.now a.q a.k a.limit a.visits-1.now _ _ _ _ _ r.eager.result (none e) h.0 h.1)
+    (visits_outcome_lem (G e.before) a.points.now a.q a.k a.limit a.visits.now _ _ _ _ _ r.eager.result (none e) h.0 h.1)
 
 pub answer_spec : {M : Type 1} → statement M
 answer_spec =

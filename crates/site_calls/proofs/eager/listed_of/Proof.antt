@@ -16,7 +16,7 @@ returns-in-Refused : tie.Need-returns-in-Refused
 returns-in-Refused c = cc
 
 returns-in-Listed : tie.Need-returns-in-Listed
-returns-in-Listed c = ap limited_listed (sym c.before.answer-1.given.1)
+returns-in-Listed c = ap limited_listed (sym c.in-Listed.is)
 
 pub listed_of_spec : {M : Type 1} → statement M
 listed_of_spec = tie.close (tie.spec enum_told-1 enum_known-answer returns-in-Refused returns-in-Listed)

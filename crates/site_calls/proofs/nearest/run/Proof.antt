@@ -15,8 +15,8 @@ use Rattle.site_calls.proofs.Copied.{copied_ids, copied_distances}
 use Rattle.numbers.proofs.Cleared.{zero_length, joined_wiped, all_zero}
 use Rattle.numbers.proofs.Words.{words_for_search}
 use borrow.Author.Rules.{rules}
-use Rattle.site_calls.proofs.nearest-found.run.Statement.{statement}
-use Rattle.site_calls.proofs.nearest-found.run.Tie as tie
+use Rattle.site_calls.proofs.nearest.run.Statement.{statement}
+use Rattle.site_calls.proofs.nearest.run.Tie as tie
 
 abbrev G : tie.Start → Network
 G s = network s.args.starts.now s.args.neighbours.now s.args.weights.now
@@ -25,7 +25,7 @@ G s = network s.args.starts.now s.args.neighbours.now s.args.weights.now
 abbrev start : tie.After-nearest-found → tie.Start
 start c = c.before.before.before.before.before.before.before.before.before.before.before.before.before.before
 
-left : (c : tie.After-nearest-found) → NearestLeft (G (start c)) (start c).args.points.now (start c).args.node (start c).args.e (start c).args.k c.before.before.before.before.zero.new.s c.nearest-found.new.1.1.1.1.0 c.nearest-found.result
+left : (c : tie.After-nearest-found) → NearestLeft (G (start c)) (start c).args.points.now (start c).args.node (start c).args.e (start c).args.k c.before.before.before.before.zero.new.s c.nearest-found.new.s c.nearest-found.result
 left c = rw c.before.before.before.before.before.before.wide-wanted.ensures at c.nearest-found.ensures
 
 few : (c : tie.After-nearest-found) → c.nearest-found.result ≤ (start c).args.k
@@ -33,7 +33,7 @@ few c =
     let s = start c in
     omega (arith, (left c).count, nearest_length (G s) s.args.points.now s.args.node s.args.e s.args.k)
 
-long : (c : tie.After-nearest-found) → length c.nearest-found.new.1.1.1.1.0 ≡ length (start c).args.scratch.now
+long : (c : tie.After-nearest-found) → length c.nearest-found.new.s ≡ length (start c).args.scratch.now
 long c = (left c).size ∙ zero_length (length (start c).args.scratch.now) c.before.before.before.before.zero.ensures
 
 -- the places of what was found are there
@@ -75,7 +75,7 @@ nearest-found-requires c κs =
 
 copy-requires : tie.Need-copy-requires
 copy-requires c κs =
-    let n = c.before.before.before.before in
+    let n = c.before.before.before in
     let w = n.before.before.before.before.before.before in
     (omega (arith, few n, long n, room (start n), w.wide-wanted.ensures), omega (arith, few n, (start n).requires.id_places))
 
@@ -84,7 +84,7 @@ overflow_mul-behind c = search rules
 
 copy-requires-2 : tie.Need-copy-requires-2
 copy-requires-2 c κs =
-    let n = c.before.before.before.before.before.before.before.before.before in
+    let n = c.before.before.before.before.before.before.before in
     let w = n.before.before.before.before.before.before in
     (omega (arith, few n, long n, room (start n), w.wide-wanted.ensures), omega (arith, few n, (start n).requires.distance_places))
 
@@ -92,10 +92,10 @@ overflow_mul-end : tie.Need-overflow_mul-end
 overflow_mul-end c = search rules
 
 slice_bounds-zero-end : tie.Need-slice_bounds-zero-end
-slice_bounds-zero-end c = let n = c.before.before.before.before.before.before.before.before.before.before.before.before in omega (arith, long n, room (start n), n.before.before.before.before.before.before.wide-wanted.ensures)
+slice_bounds-zero-end c = let n = c.before.before.before.before.before.before.before.before.before.before in omega (arith, long n, room (start n), n.before.before.before.before.before.before.wide-wanted.ensures)
 
 slice_bounds-zero-end-2 : tie.Need-slice_bounds-zero-end-2
-slice_bounds-zero-end-2 c = let n = c.before.before.before.before.before.before.before.before.before.before.before.before.before in simp length-take (omega (arith, long n, room (start n), n.before.before.before.before.before.before.wide-wanted.ensures))
+slice_bounds-zero-end-2 c = let n = c.before.before.before.before.before.before.before.before.before.before.before in simp length-take (omega (arith, long n, room (start n), n.before.before.before.before.before.before.wide-wanted.ensures))
 
 zero-requires-2 : tie.Need-zero-requires-2
 zero-requires-2 c κs = search rules
@@ -113,11 +113,11 @@ returns : tie.Need-returns
 returns c =
     let z = c.before.before in
     let q = z.before.before.before.before in
-    let p = q.before.before.before.before.before in
-    let n = p.before.before.before.before.before in
+    let p = q.before.before.before.before in
+    let n = p.before.before.before.before in
     let s = start n in
     let w = n.before.before.before.before.before.before in
-    let ys = n.nearest-found.new.1.1.1.1.0 in
+    let ys = n.nearest-found.new.s in
     let end = 3 * w.wide-wanted.result in (
       all_zero (length s.args.scratch.now) refl
           (joined_wiped s.args.scratch.now ys _ end (long n) (omega (arith, room s, w.wide-wanted.ensures)) (zero_length (length (take end ys)) z.zero-2.ensures)

@@ -11,8 +11,8 @@ use Rattle.numbers.proofs.Ready.{verify_ready}
 use Rattle.numbers.proofs.Cleared.{zero_length, all_zero}
 use Rattle.site_calls.proofs.Outcomes.{verify_refused, verify_done}
 use borrow.Author.Rules.{rules}
-use Rattle.site_calls.proofs.verify-yes.answer.Statement.{statement}
-use Rattle.site_calls.proofs.verify-yes.answer.Tie as tie
+use Rattle.site_calls.proofs.verify.answer.Statement.{statement}
+use Rattle.site_calls.proofs.verify.answer.Tie as tie
 
 abbrev G : tie.Start → Network
 G s = network s.args.starts.now s.args.neighbours.now s.args.weights.now
