@@ -3,7 +3,7 @@
 -- Word of a place: 0 while it is empty, else its distance plus one. An entry of the queue: a distance, and as its tag the point and the node.
 -- (No sentence of document 01: rows only hold sums of walks, and nothing is promised of how many there are.)
 -- Assumes nothing.
-use Rattle.std.specs.Prelude.{ℕ, suc, ◌+◌, ◌*◌, ◌/◌, ◌%◌, ◌≤◌, ◌<◌, ◌≡◌, ◌≢◌, Bool, true, List, ltb, length, get_or, drop}
+use Rattle.std.specs.Prelude.{ℕ, suc, ◌+◌, ◌*◌, ◌%◌, ◌≤◌, ◌<◌, ◌≡◌, ◌≢◌, Bool, true, List, ltb, length, get_or, drop}
 use Rattle.network.specs.Network.{Network, node_count, arc_count}
 use Rattle.network.specs.Accepted.{Accepted}
 use Rattle.network.specs.Walk.{Walk}
