@@ -1,5 +1,6 @@
 // Replays a list of calls: build, then insert and remove, each with its own node, K and scratch length. What comes out is the plain book's.
 #![tactic(auto)]
+
 ghost use Rattle.std.specs.Prelude.{◌≡◌, length};
 ghost use Rattle.network.specs.Count.{any};
 ghost use Rattle.network.specs.Network.{network};
