@@ -14,7 +14,8 @@ use Rattle.network.specs.Network.{Network, neighbours_of, weights_of}
 use Rattle.network.specs.Parts.{LowerBound}
 use Rattle.network.specs.Answers.{Ascending}
 use Rattle.network.specs.Check.{bad_neighbour_at, bad_weight_at, is_arc_at, has_arc}
-use Rattle.network.proofs.Tests.{and_intro, and_left, and_right, or_left, or_right, or_intro, one_any, none_any}
+use Rattle.network.specs.Count.{any}
+use Rattle.network.proofs.Tests.{and_intro, and_left, and_right, or_left, or_right, or_intro, one_any, none_any, any_start, any_more, found}
 
 -- 3, at place j of node a's neighbours
 module _ (n a : ℕ) (xs : List ℕ) (j : ℕ) where
@@ -55,6 +56,20 @@ module _ (xs : List ℕ) (e : ℕ) where
   pub weight_good : get_or xs e 0 ≢ 0 → get_or xs e 0 ≤ 65535 → bad_weight_at xs e ≡ false
   unfolding bad_weight_at
   weight_good h l = or_intro (eqb (get_or xs e 0) 0) _ (ne_eqb (get_or xs e 0) 0 h) (le-ltb 65535 (get_or xs e 0) l)
+
+-- and of the weights before e, as the check comes to it
+pub no_weight : (W : List ℕ) → any (bad_weight_at W) 0 ≡ false
+no_weight W = any_start (bad_weight_at W)
+
+module _ (W : List ℕ) (e : ℕ) where
+  pub weight_none_found : e < length W → get_or W e 0 ≡ 0 → true ≡ any (bad_weight_at W) (length W)
+  weight_none_found l h = found _ _ _ l (weight_none W e h)
+
+  pub weight_high_found : e < length W → 65535 < get_or W e 0 → true ≡ any (bad_weight_at W) (length W)
+  weight_high_found l h = found _ _ _ l (weight_high W e h)
+
+  pub weight_passed : any (bad_weight_at W) e ≡ false → get_or W e 0 ≢ 0 → get_or W e 0 ≤ 65535 → any (bad_weight_at W) (e + 1) ≡ false
+  weight_passed f h l = any_more _ _ f (weight_good W e h l)
 
 -- a rising list holds x at its lower bound or nowhere
 pub rises : (xs : List ℕ) → Ascending xs → (i j : ℕ) → i < j → j < length xs → get_or xs i 0 < get_or xs j 0

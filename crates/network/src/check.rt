@@ -9,6 +9,7 @@ use crate::arcs;
 use crate::arcs::wide;
 
 // 1: starts has fewer than 2 or more than 65,536 entries.
+#[tactic(auto, unfolding(crate::specs::Check::bad_size))]
 fn bad_size(starts: &[u32]) -> bool
     ensures { result ≡ bad_size starts.now }
 {
@@ -40,6 +41,7 @@ fn starts_fall(starts: &[u32]) -> bool
 }
 
 // 2: starts doesn't begin with 0, falls, or doesn't end with A; neighbours and weights differ in length; A is above 524,288.
+#[tactic(auto, unfolding(crate::specs::Check::bad_starts))]
 fn bad_starts(starts: &[u32], neighbours: &[u32], weights: &[u32]) -> bool
     requires { 1 ≤ length starts.now }
     ensures { result ≡ bad_starts (network starts.now neighbours.now weights.now) }
@@ -107,6 +109,7 @@ fn bad_neighbours(starts: &[u32], neighbours: &[u32]) -> bool
 }
 
 // 4: a weight is 0 or above 65,535.
+#[tactic(auto, using(crate::proofs::CheckTests::no_weight, crate::proofs::CheckTests::weight_none_found, crate::proofs::CheckTests::weight_high_found, crate::proofs::CheckTests::weight_passed), unfolding(crate::specs::Check::bad_weights))]
 fn bad_weights(weights: &[u32]) -> bool
     ensures { result ≡ bad_weights weights.now }
 {
