@@ -186,16 +186,19 @@ fn edit(path: &Path) -> String {
     format!("{}/{name}", of.to_str().unwrap())
 }
 
-/// A type and the function of its values, and an answer of `src/` with what it answers: pairs that may
-/// differ in case and underscores only.
-const PAIRS: [[&str; 2]; 7] = [
+/// A type and the function of its values, a statement and its theorem or law, and an answer of `src/`
+/// with what it answers: pairs that may differ in case and underscores only.
+const PAIRS: [[&str; 2]; 10] = [
     ["BuildOutcome", "build_outcome"],
+    ["Demand2", "demand_2"],
+    ["Demand3", "demand_3"],
     ["EntriesOutcome", "entries_outcome"],
     ["EagerOutcome", "eager_outcome"],
     ["Listed", "listed"],
     ["NearestOutcome", "nearest_outcome"],
     ["Network", "network"],
     ["VerifyOutcome", "verify_outcome"],
+    ["VisitsLaw", "visits_law"],
 ];
 
 #[test]

@@ -1,6 +1,6 @@
 // The cases P1 to P10 of document 01.
 use network::arcs::wide;
-use network_n::rows::put_row;
+use network_n::table_rows::put_row;
 use network_n::text::{put, put_answer, put_list, put_number};
 use network_n::{POINTS, WEIGHTS};
 use overlap::Listing;

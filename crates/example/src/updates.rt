@@ -1,7 +1,7 @@
 // The table of network N, K = 2: build, insert, remove and the table check.
 use network_n::POINTS;
-use network_n::rows::show_rows;
 use network_n::same::same;
+use network_n::table_rows::show_rows;
 use network_n::text::{put, put_number, put_refusal, put_verdict};
 use overlap::Update;
 use std::io;

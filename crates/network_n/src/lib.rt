@@ -6,8 +6,8 @@
 use overlap::{Listing, RowPart, Update, Verdict};
 
 pub mod refusals;
-pub mod rows;
 pub mod same;
+pub mod table_rows;
 pub mod text;
 
 // Six nodes, roads 0-1 of 4, 0-3 of 5, 1-2 of 3, 2-4 of 7, 3-4 of 3; node 5 alone.
