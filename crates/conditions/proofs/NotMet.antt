@@ -13,7 +13,7 @@ use borrow.Author.Tests.{eq-eqb, ne_eqb, eqb-true, eqb-false, leb-false, ltb-fal
 use Rattle.network.specs.Count.{any}
 use Rattle.network.specs.Routes.{on_route}
 use Rattle.network.proofs.Tests.{or_parts, or_cases}
-use Rattle.conditions.specs.Conditions.{first_number, bad_byte_at, points_number, node_number, nodes_number, table_number, k_number, tableKNumber, short_number}
+use Rattle.conditions.specs.Conditions.{first_number, bad_byte_at, points_number, node_number, nodes_number, table_number, k_number, table_k_number, short_number}
 
 -- the clauses of `first_number`: the first number is not 0; it is
 pub first_is : (x : ℕ) (xs : List ℕ) (r : ℕ) → r ≡ x → r ≢ 0 → r ≡ first_number (x ∷ xs)
@@ -106,8 +106,8 @@ pub short_ready : (have need : ℕ) → short_number have need ≡ 0 → need �
 unfolding short_number
 short_ready have need e = ltb-false have need (number_none (ltb have need) 10 (omega arith) e)
 
-pub table_k_ready : (k K : ℕ) → tableKNumber k K ≡ 0 → (1 ≤ k) × (k < K)
-unfolding tableKNumber
+pub table_k_ready : (k K : ℕ) → table_k_number k K ≡ 0 → (1 ≤ k) × (k < K)
+unfolding table_k_number
 table_k_ready k K e =
     let r = or_parts (eqb k 0) _ (number_none (eqb k 0 || leb K k) 9 (omega arith) e) in
     let n = eqb-false k 0 r.0 in

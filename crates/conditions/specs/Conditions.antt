@@ -42,8 +42,8 @@ unfoldable pub k_number : ℕ → ℕ
 k_number k = cond (eqb k 0 || ltb 16 k) 9 0
 
 -- 9: 'by table, above K - 1'
-unfoldable pub tableKNumber : ℕ → ℕ → ℕ
-tableKNumber k K = cond (eqb k 0 || leb K k) 9 0
+unfoldable pub table_k_number : ℕ → ℕ → ℕ
+table_k_number k K = cond (eqb k 0 || leb K k) 9 0
 
 -- 10: 'scratch shorter than S, or an array for answers shorter than n (nearest: than k)'; 'compares with 12 × n for' eager, verify and the short query
 -- (Ask 5): an array of `have` entries where `need` are asked

@@ -7,7 +7,7 @@ ghost use Rattle.network.specs.Count.{any};
 ghost use Rattle.network.specs.Network.{network};
 ghost use Rattle.network.specs.Routes.{has_road, bad_route};
 ghost use Rattle.conditions.specs.Roads.{RisingPart, RisingParts};
-ghost use Rattle.conditions.specs.Conditions.{bad_byte_at, points_number, node_number, nodes_number, table_number, k_number, tableKNumber, short_number, full_number, unmarked_number, route_number};
+ghost use Rattle.conditions.specs.Conditions.{bad_byte_at, points_number, node_number, nodes_number, table_number, k_number, table_k_number, short_number, full_number, unmarked_number, route_number};
 
 use network::arcs;
 use network::arcs::wide;
@@ -108,7 +108,7 @@ pub fn k_number(k: u32) -> u32
 
 // 9, by table: k is 0 or above K - 1.
 pub fn table_k_number(k: u32, places: u32) -> u32
-    ensures { result ≡ tableKNumber k places }
+    ensures { result ≡ table_k_number k places }
 {
     if k == 0 {
         return 9;

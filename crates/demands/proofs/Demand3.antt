@@ -31,7 +31,7 @@ use Rattle.conditions.specs.declared.answers.Update.{Update}
 use Rattle.conditions.specs.declared.answers.Listing.{Listing}
 use Rattle.conditions.specs.declared.kind.Kind.{Kind}
 use Rattle.conditions.specs.declared.kind.Kind.TheVariants.{Insert, Remove}
-use Rattle.conditions.specs.Conditions.{first_number, bad_byte_at, points_number, node_number, k_number, table_number, tableKNumber, short_number, kind_number}
+use Rattle.conditions.specs.Conditions.{first_number, bad_byte_at, points_number, node_number, k_number, table_number, table_k_number, short_number, kind_number}
 use Rattle.numbers.specs.Numbers.{network_points_number, site_number, query_number, table_check_number, table_node_number, build_number, table_query_number, search_number, limited_number, eager_number, change_number}
 use Rattle.site_calls.specs.Eager.{limited_outcome, short_outcome}
 use Rattle.site_calls.specs.Exported.{SearchExported}
@@ -204,8 +204,8 @@ module _ (g : Network) (net : network_number g ≡ 0) (K : ℕ) where
     unfolding k_number
     k_zero = rw (ne_eqb k 0 (omega arith), le-ltb 16 k (omega arith))
 
-    table_k_zero : k < K → tableKNumber k K ≡ 0
-    unfolding tableKNumber
+    table_k_zero : k < K → table_k_number k K ≡ 0
+    unfolding table_k_number
     table_k_zero fewer = rw (ne_eqb k 0 (omega arith), lt-leb K k fewer)
 
     table_zero : 2 ≤ K → table_number (node_count g) K (length ids) (length distances) ≡ 0
@@ -238,7 +238,7 @@ module _ (g : Network) (net : network_number g ≡ 0) (K : ℕ) where
     query_zero room least fewer =
         first_skip (table_node_number g P q K ids distances) _
         (first_skip (site_number g P q) _ site_zero ∙ first_skip (table_number (node_count g) K (length ids) (length distances)) [] (table_zero least) ∙ sym first_none)
-        ∙ first_skip (tableKNumber k K) _ (table_k_zero fewer) ∙ first_skip (short_number (length scratch) (scratch_words g k)) _ (scratch_zero (scratch_words g k) room)
+        ∙ first_skip (table_k_number k K) _ (table_k_zero fewer) ∙ first_skip (short_number (length scratch) (scratch_words g k)) _ (scratch_zero (scratch_words g k) room)
         ∙ first_skip (short_number (length old) (node_count g)) [] answers_zero ∙ sym first_none
 
     limited_zero : eager_words g ≤ length scratch → limited_number g P q k scratch old ≡ 0

@@ -9,7 +9,7 @@ use Rattle.network.specs.Cases.{roads, points}
 use Rattle.conditions.specs.declared.answers.Listed.TheVariants as is
 use Rattle.conditions.specs.declared.answers.Rule.TheVariants as rule
 use Rattle.conditions.specs.declared.kind.Kind.TheVariants.{Insert, Remove}
-use Rattle.conditions.specs.Conditions.{tableKNumber}
+use Rattle.conditions.specs.Conditions.{table_k_number}
 use Rattle.numbers.specs.Numbers.{build_number, table_query_number, change_number}
 use Rattle.site_calls.specs.Distances.{distances_outcome}
 use Rattle.site_calls.specs.Nearest.{nearest_outcome}
@@ -142,8 +142,8 @@ pub record Examples : Type 0 where
   pub lone_built : build_outcome lone (1 ∷ []) 2 (replicate 32 9) (9 ∷ 9 ∷ []) (9 ∷ 9 ∷ [])
       ≡ record { number = 0; scratch = replicate 32 0; ids = 0 ∷ NONE ∷ []; distances = 0 ∷ NONE ∷ [] }
   -- 'k from 1 to K - 1', with K = 17
-  pub k_16 : tableKNumber 16 17 ≡ 0
-  pub k_17 : tableKNumber 17 17 ≡ 9
+  pub k_16 : table_k_number 16 17 ≡ 0
+  pub k_17 : table_k_number 17 17 ≡ 9
   -- the plain book 'tries 7, 8, 10 and 11 in this order': another K, a scratch that is one short, node 1; one more, one less twice, and none left
   pub book : book_answers lone 2 (1 ∷ [])
       (record { kind = Remove; node = 0; places = 3; scratch_length = 40 }

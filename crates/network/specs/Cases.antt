@@ -56,33 +56,33 @@ pub record Cases : Type 0 where
   pub accepted_P7 : Accepted (roads 6)
   -- P1: q 0, k 1
   pub P1 : listed (roads 7) points 0 1 ≡ 2 ∷ []
-  pub P1-expanded : expanded (roads 7) points 0 1 ≡ 1
-  pub P1-visits : visits (roads 7) points 0 1 ≡ 0 ∷ []
+  pub P1_expanded : expanded (roads 7) points 0 1 ≡ 1
+  pub P1_visits : visits (roads 7) points 0 1 ≡ 0 ∷ []
   -- 'P1 as a short query gives 2, 4' (Ask 10), with its count
-  pub P1-short : listed (roads 7) points 0 short_k ≡ 2 ∷ 4 ∷ []
-  pub P1-short-expanded : expanded (roads 7) points 0 short_k ≡ 4
+  pub P1_short : listed (roads 7) points 0 short_k ≡ 2 ∷ 4 ∷ []
+  pub P1_short_expanded : expanded (roads 7) points 0 short_k ≡ 4
   -- P2: q 0, k 2; 'Limit 4 answers P2, limit 3 refuses.'
   pub P2 : listed (roads 7) points 0 2 ≡ 2 ∷ 4 ∷ []
-  pub P2-expanded : expanded (roads 7) points 0 2 ≡ 4
-  pub P2-visits : visits (roads 7) points 0 2 ≡ 0 ∷ 1 ∷ 3 ∷ 2 ∷ []
-  pub P2-limit-4 : exceeds_limit (roads 7) points 0 2 4 ≡ false
-  pub P2-limit-3 : exceeds_limit (roads 7) points 0 2 3 ≡ true
+  pub P2_expanded : expanded (roads 7) points 0 2 ≡ 4
+  pub P2_visits : visits (roads 7) points 0 2 ≡ 0 ∷ 1 ∷ 3 ∷ 2 ∷ []
+  pub P2_limit_4 : exceeds_limit (roads 7) points 0 2 4 ≡ false
+  pub P2_limit_3 : exceeds_limit (roads 7) points 0 2 3 ≡ true
   -- P3: q 1, k 1
   pub P3 : listed (roads 7) points 1 1 ≡ 2 ∷ []
-  pub P3-expanded : expanded (roads 7) points 1 1 ≡ 2
-  pub P3-visits : visits (roads 7) points 1 1 ≡ 1 ∷ 0 ∷ []
+  pub P3_expanded : expanded (roads 7) points 1 1 ≡ 2
+  pub P3_visits : visits (roads 7) points 1 1 ≡ 1 ∷ 0 ∷ []
   -- P4: q 2, k 1; 'In P4 the list becomes 4, in P5 it becomes empty. Expanded counts are untouched' (Ask 6)
   pub P4 : listed (roads 7) points 2 1 ≡ 4 ∷ []
-  pub P4-expanded : expanded (roads 7) points 2 1 ≡ 3
-  pub P4-visits : visits (roads 7) points 2 1 ≡ 2 ∷ 1 ∷ 0 ∷ []
+  pub P4_expanded : expanded (roads 7) points 2 1 ≡ 3
+  pub P4_visits : visits (roads 7) points 2 1 ≡ 2 ∷ 1 ∷ 0 ∷ []
   -- P5: q 5, k 1
   pub P5 : listed (roads 7) points 5 1 ≡ []
-  pub P5-expanded : expanded (roads 7) points 5 1 ≡ 1
-  pub P5-visits : visits (roads 7) points 5 1 ≡ 5 ∷ []
+  pub P5_expanded : expanded (roads 7) points 5 1 ≡ 1
+  pub P5_visits : visits (roads 7) points 5 1 ≡ 5 ∷ []
   -- P6: q 0, k 1, no points
   pub P6 : listed (roads 7) no_points 0 1 ≡ []
-  pub P6-expanded : expanded (roads 7) no_points 0 1 ≡ 5
-  pub P6-visits : visits (roads 7) no_points 0 1 ≡ 0 ∷ 1 ∷ 3 ∷ 2 ∷ 4 ∷ []
+  pub P6_expanded : expanded (roads 7) no_points 0 1 ≡ 5
+  pub P6_visits : visits (roads 7) no_points 0 1 ≡ 0 ∷ 1 ∷ 3 ∷ 2 ∷ 4 ∷ []
   -- Ask 4, a tie: 0 and 4 are both 7 from 2
   pub tie_visits : visits (roads 7) no_points 2 1 ≡ 2 ∷ 1 ∷ 0 ∷ 4 ∷ 3 ∷ []
   -- P7: as P1, road 2-4 of 6
@@ -93,7 +93,7 @@ pub record Cases : Type 0 where
   pub P9 : row (roads 7) points 2 5 ≡ (5, 0) ∷ (NONE, NONE) ∷ []
   -- P10: row 2 after insert 0, K 2
   pub P10 : row (roads 7) (set points 0 1) 2 2 ≡ (2, 0) ∷ (0, 7) ∷ []
-  pub P10-changed : rows_changed (roads 7) points (set points 0 1) 2 ≡ 4
+  pub P10_changed : rows_changed (roads 7) points (set points 0 1) 2 ≡ 4
   -- Ask 8 on N, worked out by hand from the distances of N. Two lockers at 2: 'a locker has its companions on the node as others at distance 0'; both
   -- are nearer to 4 than 0 is
   pub two_k1 : listed (roads 7) two_at2 0 1 ≡ []

@@ -16,7 +16,7 @@ use Rattle.network.proofs.NumberZero.{number_zero}
 use Rattle.network.specs.Scratch.{eager_words, scratch_words}
 use Rattle.conditions.specs.declared.kind.Kind.{Kind}
 use Rattle.conditions.specs.declared.kind.Kind.TheVariants.{Insert, Remove}
-use Rattle.conditions.specs.Conditions.{points_number, node_number, table_number, k_number, tableKNumber, short_number, full_number, unmarked_number, kind_number}
+use Rattle.conditions.specs.Conditions.{points_number, node_number, table_number, k_number, table_k_number, short_number, full_number, unmarked_number, kind_number}
 use Rattle.numbers.specs.Numbers.{network_points_number, site_number, query_number, distances_number, nearest_number, verify_number, search_number, limited_number, eager_number, table_check_number, build_number, table_node_number, change_number, table_query_number}
 use Rattle.conditions.proofs.NotMet.{first_zero, number_none, points_ready, node_ready, k_ready, table_ready, short_ready, table_k_ready}
 use Rattle.numbers.specs.Ready.{DistancesReady, QueryReady, NearestReady, SearchReady, LimitedReady, VerifyReady, TableReady, BuildReady, KindReady, ChangeReady, TableQueryReady}
@@ -198,7 +198,7 @@ pub table_query_ready : (g : Network) (P : List ℕ) (q k K : ℕ) (ids distance
 unfolding table_query_number
 table_query_ready g P q k K ids distances scratch answers e =
     let a = first_zero (table_node_number g P q K ids distances) _ e in
-    let b = first_zero (tableKNumber k K) _ a.1 in
+    let b = first_zero (table_k_number k K) _ a.1 in
     let c = first_zero (short_number (length scratch) (scratch_words g k)) _ b.1 in
     let d = first_zero (short_number (length answers) (node_count g)) [] c.1 in
     let t = table_node_ready g P q K ids distances a.0 in

@@ -5,7 +5,7 @@ use Rattle.std.specs.Prelude.{ℕ, List, [], ◌∷◌, length}
 use Rattle.network.specs.Network.{Network, node_count}
 use Rattle.network.specs.Check.{network_number}
 use Rattle.network.specs.Scratch.{eager_words, scratch_words}
-use Rattle.conditions.specs.Conditions.{first_number, points_number, node_number, table_number, k_number, tableKNumber, short_number, unmarked_number, kind_number}
+use Rattle.conditions.specs.Conditions.{first_number, points_number, node_number, table_number, k_number, table_k_number, short_number, unmarked_number, kind_number}
 use Rattle.conditions.specs.declared.kind.Kind.{Kind}
 
 -- what every call with points tests first: 1 to 5, 6
@@ -127,7 +127,7 @@ unfoldable pub table_query_number : Network → List ℕ → ℕ → ℕ → ℕ
 table_query_number g P q k K ids distances scratch answers =
     first_number
     (table_node_number g P q K ids distances
-    ∷ tableKNumber k K
+    ∷ table_k_number k K
     ∷ short_number (length scratch) (scratch_words g k)
     ∷ short_number (length answers) (node_count g)
     ∷ [])

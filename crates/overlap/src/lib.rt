@@ -245,8 +245,8 @@ pub fn overlap_insert(
     distances: &mut [u32],
 ) -> Update
     ensures { let g = network starts.now neighbours.now weights.now in
-        let old : Arrays = record { points = points.entry.now; scratch = scratch.old; ids = ids.old; distances = distances.old } in
-        let new : Arrays = record { points = points.exit.now; scratch = scratch.new; ids = ids.new; distances = distances.new } in
+        let old : Arrays = record { points = points.old; scratch = scratch.old; ids = ids.old; distances = distances.old } in
+        let new : Arrays = record { points = points.new; scratch = scratch.new; ids = ids.new; distances = distances.new } in
         ChangeExported Insert g node places old new result }
 {
     update_of(updated::answer(
@@ -276,8 +276,8 @@ pub fn overlap_remove(
     distances: &mut [u32],
 ) -> Update
     ensures { let g = network starts.now neighbours.now weights.now in
-        let old : Arrays = record { points = points.entry.now; scratch = scratch.old; ids = ids.old; distances = distances.old } in
-        let new : Arrays = record { points = points.exit.now; scratch = scratch.new; ids = ids.new; distances = distances.new } in
+        let old : Arrays = record { points = points.old; scratch = scratch.old; ids = ids.old; distances = distances.old } in
+        let new : Arrays = record { points = points.new; scratch = scratch.new; ids = ids.new; distances = distances.new } in
         ChangeExported Remove g node places old new result }
 {
     update_of(updated::answer(
@@ -329,7 +329,7 @@ pub fn overlap_table_query(
     answers: &mut [u32],
 ) -> Listing
     ensures { let g = network starts.now neighbours.now weights.now in
-        let lent : QueryArrays = record { ids = ids.entry.now; distances = distances.now; scratch = scratch.old; answers = answers.old } in
+        let lent : QueryArrays = record { ids = ids.now; distances = distances.now; scratch = scratch.old; answers = answers.old } in
         TableQueryExported g points.now q k places lent scratch.new answers.new result }
 {
     listing_of(table_query::answer(

@@ -53,7 +53,7 @@ fn unfit(
     numbers: &[u32],
     counts: &[u32],
 ) -> bool
-    ensures { let list : CallArrays = record { kinds = kinds.entry.now; nodes = nodes.now; places = each_places.now; lengths = lengths.now } in
+    ensures { let list : CallArrays = record { kinds = kinds.now; nodes = nodes.now; places = each_places.now; lengths = lengths.now } in
         result ≡ is_unfit list (length scratch.now) (length numbers.now) (length counts.now) }
 {
     let calls = kinds.len();
@@ -84,7 +84,7 @@ fn call_at(
     j: usize,
 ) -> CallWords
     requires { HasCall (record { kinds = kinds.now; nodes = nodes.now; places = each_places.now; lengths = lengths.now }) j }
-    ensures { result ≡ words_at (record { kinds = kinds.entry.now; nodes = nodes.now; places = each_places.now; lengths = lengths.now }) j }
+    ensures { result ≡ words_at (record { kinds = kinds.now; nodes = nodes.now; places = each_places.now; lengths = lengths.now }) j }
 {
     CallWords {
         kind: kinds[j],
@@ -108,8 +108,8 @@ fn one(
     distances: &mut [u32],
 ) -> Update
     ensures { let g = network starts.now neighbours.now weights.now in
-        let old : Arrays = record { points = points.entry.now; scratch = scratch.old; ids = ids.old; distances = distances.old } in
-        let new : Arrays = record { points = points.exit.now; scratch = scratch.new; ids = ids.new; distances = distances.new } in
+        let old : Arrays = record { points = points.old; scratch = scratch.old; ids = ids.old; distances = distances.old } in
+        let new : Arrays = record { points = points.new; scratch = scratch.new; ids = ids.new; distances = distances.new } in
         ChangeExported (kind_of kind) g node places old new result }
 {
     if kind == 0 {
@@ -139,13 +139,13 @@ fn follow(
     counts: &mut [u32],
 )
     requires { let list : CallArrays = record { kinds = kinds.now; nodes = nodes.now; places = each_places.now; lengths = lengths.now } in
-        let old : Lent = record { points = points.now; scratch = scratch.old; ids = ids.old; distances = distances.old; numbers = numbers.old; counts = counts.old } in
+        let old : Lent = record { points = points.old; scratch = scratch.old; ids = ids.old; distances = distances.old; numbers = numbers.old; counts = counts.old } in
         ListFits list old }
     ensures { let g = network starts.now neighbours.now weights.now in
-        let list : CallArrays = record { kinds = kinds.entry.now; nodes = nodes.now; places = each_places.now; lengths = lengths.now } in
-        let old : Lent = record { points = points.entry.now; scratch = scratch.old; ids = ids.old; distances = distances.old; numbers = numbers.old; counts = counts.old } in
-        let new : Lent = record { points = points.exit.now; scratch = scratch.new; ids = ids.new; distances = distances.new; numbers = numbers.new; counts = counts.new } in
-        CallsFollowed g list (length kinds.entry.now) old new }
+        let list : CallArrays = record { kinds = kinds.now; nodes = nodes.now; places = each_places.now; lengths = lengths.now } in
+        let old : Lent = record { points = points.old; scratch = scratch.old; ids = ids.old; distances = distances.old; numbers = numbers.old; counts = counts.old } in
+        let new : Lent = record { points = points.new; scratch = scratch.new; ids = ids.new; distances = distances.new; numbers = numbers.new; counts = counts.new } in
+        CallsFollowed g list (length kinds.now) old new }
 {
     let mut j = 0;
     while j < kinds.len() {
@@ -190,9 +190,9 @@ pub fn replay(
     counts: &mut [u32],
 ) -> ReplayAnswer
     ensures { let g = network starts.now neighbours.now weights.now in
-        let list : CallArrays = record { kinds = kinds.entry.now; nodes = nodes.now; places = each_places.now; lengths = lengths.now } in
-        let old : Lent = record { points = points.entry.now; scratch = scratch.old; ids = ids.old; distances = distances.old; numbers = numbers.old; counts = counts.old } in
-        let new : Lent = record { points = points.exit.now; scratch = scratch.new; ids = ids.new; distances = distances.new; numbers = numbers.new; counts = counts.new } in
+        let list : CallArrays = record { kinds = kinds.now; nodes = nodes.now; places = each_places.now; lengths = lengths.now } in
+        let old : Lent = record { points = points.old; scratch = scratch.old; ids = ids.old; distances = distances.old; numbers = numbers.old; counts = counts.old } in
+        let new : Lent = record { points = points.new; scratch = scratch.new; ids = ids.new; distances = distances.new; numbers = numbers.new; counts = counts.new } in
         record { answer = result; left = new } ≡ replay_outcome g places list old }
 {
     if unfit(kinds, nodes, each_places, lengths, scratch, numbers, counts) {

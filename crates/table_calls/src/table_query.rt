@@ -58,7 +58,7 @@ pub fn answer(
     answers: &mut [u32],
 ) -> Listed
     ensures { let g = network starts.now neighbours.now weights.now in
-        let lent : QueryArrays = record { ids = ids.entry.now; distances = distances.now; scratch = scratch.old; answers = answers.old } in
+        let lent : QueryArrays = record { ids = ids.now; distances = distances.now; scratch = scratch.old; answers = answers.old } in
         TableQueryLeft g points.now q k places lent scratch.new answers.new result }
 {
     let refusal = numbers::table_query_number(

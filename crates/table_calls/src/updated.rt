@@ -85,8 +85,8 @@ pub fn answer(
     distances: &mut [u32],
 ) -> Updated
     ensures { let g = network starts.now neighbours.now weights.now in
-        let old : Arrays = record { points = points.entry.now; scratch = scratch.old; ids = ids.old; distances = distances.old } in
-        let new : Arrays = record { points = points.exit.now; scratch = scratch.new; ids = ids.new; distances = distances.new } in
+        let old : Arrays = record { points = points.old; scratch = scratch.old; ids = ids.old; distances = distances.old } in
+        let new : Arrays = record { points = points.new; scratch = scratch.new; ids = ids.new; distances = distances.new } in
         ChangeLeft kind g node places old new result }
 {
     let refusal = numbers::change_number(
