@@ -5,24 +5,30 @@ use mathlib.Core.Path.{◌≡◌, refl, sym, ◌∙◌}
 use mathlib.Core.Bool.{Bool, true, false, false≢true}
 use mathlib.Core.Logic.{◌≢◌}
 use mathlib.Core.List.{List, [], ◌∷◌, map}
-use native.Mathlib.Decide.{ℕ_discrete}
 use native.Mathlib.Numerals.{add-one}
+use native.Mathlib.Decide.{ℕ_discrete, dec_lt}
 use native.Mathlib.Omega.{arith}
 use lib.Dec.{eqb}
 use lib.ListN.{length, get_or, drop, drop_of_length-le}
 use lib.Seq.{drop-cons}
-use borrow.Author.Tests.{ne_eqb}
-use Rattle.network.specs.Network.{Network, node_count, neighbours_of}
+use Rattle.std.proofs.Common.{Result, Ok, Err, is_ok}
+use Rattle.std.specs.Ordering.{nat_cmp}
+use Rattle.std.specs.List.Sorted.{IsBinarySearchResult}
+use Rattle.std.proofs.lemmas.List.{nil_from_length}
+use borrow.Author.Tests.{eq-eqb, ne_eqb}
+use Rattle.network.specs.Network.{Network, network, node_count, neighbours_of}
 use Rattle.network.specs.Accepted.{Accepted}
-use Rattle.network.specs.Parts.{LowerBound}
+use Rattle.network.specs.Refusal.{number_of}
+use Rattle.network.specs.declared.refusal.Refusal.{Refusal}
 use Rattle.network.specs.Answers.{Ascending}
 use Rattle.network.specs.Routes.{has_road, breaks_from, bad_route, on_route}
+use Rattle.network.proofs.Routes.{on_place}
 use Rattle.network.proofs.Tests.{alike, one_any, none_any, any_passes}
-use Rattle.network.proofs.CheckTests.{elsewhere}
+use Rattle.network.proofs.CheckTests.{rises, halved, halved_none}
 use Rattle.network.proofs.NumberZero.{accepted_searchable}
 use Rattle.conditions.specs.Conditions.{first_number, node_number, nodes_number}
-use Rattle.conditions.specs.Roads.{RisingParts}
-use Rattle.conditions.proofs.NotMet.{first_is, first_none, first_skip}
+use Rattle.conditions.specs.Roads.{RisingPart, RisingParts}
+use Rattle.conditions.proofs.NotMet.{first_refused, first_none, first_skip}
 
 -- 7 of the nodes from place i on
 abbrev pub nodes_from : ℕ → List ℕ → ℕ → ℕ
@@ -33,21 +39,32 @@ module _ (n : ℕ) (R : List ℕ) where
   unfolding nodes_number
   nodes_start = refl
 
-  -- the node at i meets it; it does not; no node is left
-  pub nodes_here : (i r : ℕ) → i < length R → r ≡ node_number n (get_or R i 0) → r ≢ 0 → r ≡ nodes_from n R i
-  nodes_here i r h e z = rw (drop-cons R i 0 h) (first_is (node_number n (get_or R i 0)) (map (node_number n) (drop (suc i) R)) r e z)
+  module _ (i : ℕ) (so-far : nodes_from n R i ≡ nodes_number n R) where
+    -- the node at i meets it; it does not; no node is left
+    pub nodes_here : (r : Refusal) → i < length R → number_of r ≡ node_number n (get_or R i 0) → number_of r ≡ nodes_number n R
+    nodes_here r h e = rw (drop-cons R i 0 h) (first_refused r (node_number n (get_or R i 0)) (map (node_number n) (drop (suc i) R)) e) ∙ so-far
 
-  pub nodes_next : (i r : ℕ) → i < length R → r ≡ node_number n (get_or R i 0) → r ≡ 0 → nodes_from n R (i + 1) ≡ nodes_from n R i
-  nodes_next i r h e z =
-      rw (add-one, drop-cons R i 0 h) (sym (first_skip (node_number n (get_or R i 0)) (map (node_number n) (drop (suc i) R)) (sym e ∙ z)))
+    pub nodes_next : i < length R → 0 ≡ node_number n (get_or R i 0) → nodes_from n R (i + 1) ≡ nodes_number n R
+    nodes_next h e =
+        rw (add-one, drop-cons R i 0 h) (sym (first_skip (node_number n (get_or R i 0)) (map (node_number n) (drop (suc i) R)) (sym e))) ∙ so-far
 
-  pub nodes_end : (i : ℕ) → length R ≤ i → 0 ≡ nodes_from n R i
-  nodes_end i h = rw (drop_of_length-le R h) first_none
+    pub nodes_end : length R ≤ i → 0 ≡ nodes_number n R
+    nodes_end h = rw (drop_of_length-le R h) first_none ∙ so-far
 
--- b stands at its place among a's neighbours, or nowhere
-module _ (g : Network) (a b place : ℕ) (up : Ascending (neighbours_of g a)) (bound : LowerBound (neighbours_of g a) b place) where
+pub ruleset nodes_steps = (nodes_start, nodes_here, nodes_next, nodes_end)
+
+-- b stands at its place among a's neighbours, what is before it is less and what is from it on is not, or nowhere
+module _ (g : Network) (a b place : ℕ) (up : Ascending (neighbours_of g a))
+    (less : (j : ℕ) → j < place → get_or (neighbours_of g a) j 0 < b)
+    (rest : (j : ℕ) → place ≤ j → j < length (neighbours_of g a) → b ≤ get_or (neighbours_of g a) j 0) where
   other : (j : ℕ) → j < length (neighbours_of g a) → j ≢ place → eqb (get_or (neighbours_of g a) j 0) b ≡ false
-  other j l n = ne_eqb (get_or (neighbours_of g a) j 0) b (elsewhere up bound j l n)
+  other j l n =
+      ne_eqb (get_or (neighbours_of g a) j 0) b
+      (λ e.
+      elim (dec_lt j place) [
+        | yes s ↦ omega (arith, less j s)
+        | no s ↦ omega (arith, rises (neighbours_of g a) up place j (omega arith) l, rest place (omega arith) (omega arith))
+      ])
 
   pub road_past : length (neighbours_of g a) ≤ place → false ≡ has_road g a b
   unfolding has_road
@@ -66,6 +83,32 @@ module _ (g : Network) (a b place : ℕ) (up : Ascending (neighbours_of g a)) (b
         | no n ↦ absurd (false≢true (sym (other p.at p.low n) ∙ p.passes))
       ])
 
+-- the same of the place that halving a's neighbours finds
+pub road_halved : (g : Network) (a b : ℕ) (r : Result ℕ ℕ) → Ascending (neighbours_of g a) → IsBinarySearchResult (λ y. nat_cmp y b) (neighbours_of g a) r → is_ok r ≡ has_road g a b
+unfolding has_road
+road_halved g a b (Ok i) up h =
+    let f = halved up h in
+    sym (one_any (λ j. eqb (get_or (neighbours_of g a) j 0) b) (length (neighbours_of g a)) i f.0 (eq-eqb (get_or (neighbours_of g a) i 0) b f.1))
+road_halved g a b (Err i) up h =
+    sym
+    (none_any (λ j. eqb (get_or (neighbours_of g a) j 0) b) (length (neighbours_of g a))
+    (λ j l. ne_eqb (get_or (neighbours_of g a) j 0) b (halved_none up h j l)))
+
+-- no road depends on a weight
+pub road_weights : (starts neighbours v w : List ℕ) (a b : ℕ) → has_road (network starts neighbours v) a b ≡ has_road (network starts neighbours w) a b
+unfolding has_road
+road_weights starts neighbours v w a b = refl
+
+pub breaks_weights : (starts neighbours v w : List ℕ) (a : ℕ) (R : List ℕ) → breaks_from (network starts neighbours v) a R ≡ breaks_from (network starts neighbours w) a R
+unfolding breaks_from
+breaks_weights starts neighbours v w a [] = refl
+breaks_weights starts neighbours v w a (b ∷ bs) = rw (road_weights starts neighbours v w a b, breaks_weights starts neighbours v w b bs) refl
+
+pub route_weights : (starts neighbours v w : List ℕ) (R : List ℕ) → bad_route (network starts neighbours v) R ≡ bad_route (network starts neighbours w) R
+unfolding bad_route
+route_weights starts neighbours v w [] = refl
+route_weights starts neighbours v w (a ∷ rest) = breaks_weights starts neighbours v w a rest
+
 -- each node of a list on an accepted network
 pub accepted_along : {g : Network} → Accepted g → (R : List ℕ) → ((v : ℕ) → on_route R v ≡ true → v < node_count g) → RisingParts g.starts g.neighbours R
 accepted_along ok R inside v e =
@@ -77,29 +120,35 @@ accepted_along ok R inside v e =
 abbrev pub breaks_at : Network → List ℕ → ℕ → Bool
 breaks_at g R i = breaks_from g (get_or R (i - 1) 0) (drop i R)
 
-module _ (g : Network) where
-  pub no_node : (R : List ℕ) → length R ≡ 0 → true ≡ bad_route g R
-  unfolding bad_route
-  no_node [] e = refl
-  no_node (r ∷ rs) e = absurd (omega arith)
+-- what each node of a list has, the one at a place has
+pub rising_at : (starts neighbours R : List ℕ) → RisingParts starts neighbours R → (i : ℕ) → i < length R → RisingPart starts neighbours (get_or R i 0)
+rising_at starts neighbours R h i l = h (get_or R i 0) (on_place R i l)
 
-  pub breaks_start : (R : List ℕ) → length R ≢ 0 → breaks_at g R 1 ≡ bad_route g R
-  unfolding bad_route
-  breaks_start [] n = absurd (n refl)
-  breaks_start (r ∷ rs) n = refl
+pub breaks_start : (g : Network) (R : List ℕ) → length R ≢ 0 → breaks_at g R 1 ≡ bad_route g R
+unfolding bad_route
+breaks_start g [] n = absurd (n refl)
+breaks_start g (r ∷ rs) n = refl
 
-  module _ (R : List ℕ) (i : ℕ) where
+module _ (g : Network) (R : List ℕ) where
+  pub no_node : length R ≡ 0 → true ≡ bad_route g R
+  unfolding bad_route
+  no_node e = rw (nil_from_length R e)
+
+  module _ (i : ℕ) (so-far : breaks_at g R i ≡ bad_route g R) where
     -- the road to the node at i is missing; it is there; no node is left
-    pub breaks_here : i < length R → has_road g (get_or R (i - 1) 0) (get_or R i 0) ≡ false → breaks_at g R i ≡ true
+    pub breaks_here : i < length R → has_road g (get_or R (i - 1) 0) (get_or R i 0) ≡ false → true ≡ bad_route g R
     unfolding breaks_from
-    breaks_here h e = rw (drop-cons R i 0 h, e)
+    breaks_here h e = sym (rw (drop-cons R i 0 h, e)) ∙ so-far
 
-    pub breaks_next : i < length R → has_road g (get_or R (i - 1) 0) (get_or R i 0) ≡ true → breaks_at g R (i + 1) ≡ breaks_at g R i
+    pub breaks_next : i < length R → has_road g (get_or R (i - 1) 0) (get_or R i 0) ≡ true → breaks_at g R (i + 1) ≡ bad_route g R
     unfolding breaks_from
     breaks_next h e =
         let q : i + 1 - 1 ≡ i = omega arith in
-        rw (q, add-one, drop-cons R i 0 h, e)
+        let step : breaks_at g R (i + 1) ≡ breaks_at g R i = rw (q, add-one, drop-cons R i 0 h, e) in
+        step ∙ so-far
 
-    pub breaks_end : length R ≤ i → breaks_at g R i ≡ false
+    pub breaks_end : length R ≤ i → false ≡ bad_route g R
     unfolding breaks_from
-    breaks_end h = rw (drop_of_length-le R h)
+    breaks_end h = sym (rw (drop_of_length-le R h)) ∙ so-far
+
+pub ruleset breaks_steps = (no_node, breaks_start, breaks_here, breaks_next, breaks_end)

@@ -20,3 +20,5 @@ byte_found P i l h = found _ _ _ l (lt-ltb 15 (get_or P i 0) h)
 pub byte_passed : (P : List ℕ) (i : ℕ) → any (bad_byte_at P) i ≡ false → get_or P i 0 ≤ 15 → any (bad_byte_at P) (i + 1) ≡ false
 unfolding bad_byte_at
 byte_passed P i e h = any_more _ _ e (le-ltb 15 (get_or P i 0) h)
+
+pub ruleset byte_steps = (no_byte, byte_found, byte_passed)

@@ -12,6 +12,9 @@ use lib.ListN.{length}
 use borrow.Author.Tests.{eq-eqb, ne_eqb, eqb-true, eqb-false, leb-false, ltb-false, not-false}
 use Rattle.network.specs.Count.{any}
 use Rattle.network.specs.Routes.{on_route}
+use Rattle.network.specs.Refusal.{number_of}
+use Rattle.network.specs.declared.refusal.Refusal.{Refusal}
+use Rattle.network.specs.declared.refusal.Refusal.TheVariants.{Size, Starts, Neighbours, Weights, Returns, Points, Node, Table, Nearest, Short, Lockers, Limit, Route}
 use Rattle.network.proofs.Tests.{or_parts, or_cases}
 use Rattle.conditions.specs.Conditions.{first_number, bad_byte_at, points_number, node_number, nodes_number, table_number, k_number, table_k_number, short_number}
 
@@ -34,6 +37,31 @@ first_last x r e =
       | yes z ↦ first_later x [] r r e z (z ∙ first_none)
       | no n ↦ first_is x [] r e n
     ]
+
+-- a condition met is a refusal, whose number is not 0
+pub number_some : (r : Refusal) → 1 ≤ number_of r
+number_some Size = omega arith
+number_some Starts = omega arith
+number_some Neighbours = omega arith
+number_some Weights = omega arith
+number_some Returns = omega arith
+number_some Points = omega arith
+number_some Node = omega arith
+number_some Table = omega arith
+number_some Nearest = omega arith
+number_some Short = omega arith
+number_some Lockers = omega arith
+number_some Limit = omega arith
+number_some Route = omega arith
+
+-- the first condition is met; it is not; the last one alone is left
+pub first_refused : (r : Refusal) (x : ℕ) (xs : List ℕ) → number_of r ≡ x → number_of r ≡ first_number (x ∷ xs)
+first_refused r x xs e = first_is x xs (number_of r) e (λ z. omega (arith, number_some r))
+
+pub first_passed : {y : ℕ} (x : ℕ) (xs : List ℕ) → 0 ≡ x → y ≡ first_number xs → y ≡ first_number (x ∷ xs)
+first_passed {y} x xs e h = first_later x xs 0 y e refl h
+
+pub ruleset first_met = (first_refused, first_passed, first_last)
 
 -- a number of 0 is passed over; the first number of several stands for them
 pub first_skip : (x : ℕ) (xs : List ℕ) → x ≡ 0 → first_number (x ∷ xs) ≡ first_number xs

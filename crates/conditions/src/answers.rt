@@ -1,11 +1,13 @@
-// The answers of the calls: each as an enum, refused with a number or what the call found, and as overlap.h's struct of number and values. The nearer
-// row's is a struct alone.
+// The answers of the calls as overlap.h's structs of number and values: what a call found, or its refusal. The nearer row's is a struct alone.
 ghost use Rattle.std.specs.Prelude.{◌≡◌};
+ghost use Rattle.network.specs.Refusal.{numbered};
 ghost use Rattle.conditions.specs.Values.{listed_listing, rule_verdict, updated_update};
+
+use network::Refusal;
 
 // Number 0 and the length of a list; the count is 0 but for eager and the short query, which is eager.
 #[repr(C)]
-#[derive(Clone, Copy)]
+#[derive(Clone, Copy, Debug, PartialEq, Eq)]
 pub struct Listing {
     pub number: u32,
     pub count: u32,
@@ -14,7 +16,7 @@ pub struct Listing {
 
 // Number 0 and yes (1) or no (0).
 #[repr(C)]
-#[derive(Clone, Copy)]
+#[derive(Clone, Copy, Debug, PartialEq, Eq)]
 pub struct Verdict {
     pub number: u32,
     pub yes: u32,
@@ -22,7 +24,7 @@ pub struct Verdict {
 
 // Number 0 and how many rows changed.
 #[repr(C)]
-#[derive(Clone, Copy)]
+#[derive(Clone, Copy, Debug, PartialEq, Eq)]
 pub struct Update {
     pub number: u32,
     pub changed: u32,
@@ -31,7 +33,7 @@ pub struct Update {
 // Of the nearer row (Ask 1): which part of which lent array its distances are: of the own ones (rival 0) or the rival's (1), from the start on. All 0 on a
 // refusal but the number.
 #[repr(C)]
-#[derive(Clone, Copy)]
+#[derive(Clone, Copy, Debug, PartialEq, Eq)]
 pub struct RowPart {
     pub number: u32,
     pub rival: u32,
@@ -39,67 +41,63 @@ pub struct RowPart {
     pub length: usize,
 }
 
-// A search or nearest: refused, or the length of the list and the nodes expanded (0 but for eager and the short query).
-#[derive(Clone, Copy)]
-pub enum Listed {
-    Refused(u32),
-    Points { length: usize, count: u32 },
-}
-
-// Verify or the table check: refused, or yes or no.
-#[derive(Clone, Copy)]
-pub enum Rule {
-    Refused(u32),
-    Answer(bool),
-}
-
-// Insert or remove: refused, or how many rows changed.
-#[derive(Clone, Copy)]
-pub enum Updated {
-    Refused(u32),
-    Changed(u32),
+// What a search or nearest found: the length of the list and the nodes expanded (0 but for eager and the short query, as in
+// overlap.h's struct, so that each search answers one type).
+#[derive(Clone, Copy, Debug, PartialEq, Eq)]
+pub struct Listed {
+    pub length: usize,
+    pub count: u32,
 }
 
 // The struct of a search's answer.
-pub fn listing_of(answer: Listed) -> Listing
-    ensures { result ≡ listed_listing answer }
-{
-    match answer {
-        Listed::Refused(number) => Listing {
-            number,
-            count: 0,
-            length: 0,
-        },
-        Listed::Points { length, count } => Listing {
-            number: 0,
-            count,
-            length,
-        },
-    }
-}
+impl From<Result<Listed, Refusal>> for Listing {
+    ghost from_gives = { λ answer listing. listing ≡ listed_listing (numbered answer) };
 
-// The struct of an answer yes or no.
-pub fn verdict_of(rule: Rule) -> Verdict
-    ensures { result ≡ rule_verdict rule }
-{
-    match rule {
-        Rule::Refused(number) => Verdict { number, yes: 0 },
-        Rule::Answer(yes) => {
-            if yes {
-                Verdict { number: 0, yes: 1 }
-            } else {
-                Verdict { number: 0, yes: 0 }
-            }
+    fn from(answer: Result<Listed, Refusal>) -> Listing {
+        match answer {
+            Ok(Listed { length, count }) => Listing {
+                number: 0,
+                count,
+                length,
+            },
+            Err(refusal) => Listing {
+                number: refusal.into(),
+                count: 0,
+                length: 0,
+            },
         }
     }
 }
 
-// The struct of an update's answer.
-pub fn update_of(answer: Updated) -> Update
-    ensures { result ≡ updated_update answer }
-{
-    match answer {
-        Updated::Refused(number) => Update { number, changed: 0 },
-        Updated::Changed(changed) => Update { number: 0, changed },
+// The struct of an answer yes or no: of verify or the table check.
+impl From<Result<bool, Refusal>> for Verdict {
+    ghost from_gives = { λ answer verdict. verdict ≡ rule_verdict (numbered answer) };
+
+    fn from(answer: Result<bool, Refusal>) -> Verdict {
+        match answer {
+            Ok(yes) => Verdict {
+                number: 0,
+                yes: u32::from(yes),
+            },
+            Err(refusal) => Verdict {
+                number: refusal.into(),
+                yes: 0,
+            },
+        }
+    }
+}
+
+// The struct of an update's answer: how many rows an insert or a remove changed.
+impl From<Result<u32, Refusal>> for Update {
+    ghost from_gives = { λ answer update. update ≡ updated_update (numbered answer) };
+
+    fn from(answer: Result<u32, Refusal>) -> Update {
+        match answer {
+            Ok(changed) => Update { number: 0, changed },
+            Err(refusal) => Update {
+                number: refusal.into(),
+                changed: 0,
+            },
+        }
     }
 }

@@ -1,6 +1,7 @@
 -- The hypotheses of demand 3 can be met: for every list of calls there is a run that the contracts allow; and network N with an insertion, a removal,
 -- a refused call, and a refused call that is lent another network and another table, is one.
 -- Assumes nothing.
+use Rattle.std.specs.Prelude.{Ok, Err}
 use Prim.Native.Nat.{ℕ, ◌≤◌}
 use mathlib.Core.Path.{◌≡◌, refl}
 use mathlib.Core.Bool.{not}
@@ -22,7 +23,6 @@ use Rattle.rows.proofs.Laid.{table_sized}
 use Rattle.conditions.specs.declared.kind.Kind.{Kind}
 use Rattle.conditions.specs.declared.kind.Kind.TheVariants.{Insert, Remove}
 use Rattle.conditions.specs.declared.answers.Update.{Update}
-use Rattle.conditions.specs.declared.answers.Updated.TheVariants as is
 use Rattle.conditions.specs.Conditions.{first_number, bad_byte_at, points_number, node_number, table_number, short_number, full_number, unmarked_number}
 use Rattle.numbers.specs.Numbers.{network_points_number, site_number, table_check_number, table_node_number, build_number, change_number}
 use Rattle.table_calls.specs.Build.{build_outcome}
@@ -58,7 +58,7 @@ leaves kind g node K old =
             answer = record { number = 0; changed = rows_changed g old.points Q K };
             left =
                 record {
-                  answer = is.Changed (rows_changed g old.points Q K);
+                  answer = Ok (rows_changed g old.points Q K);
                   values = refl;
                   left =
                       record {
@@ -91,7 +91,7 @@ leaves kind g node K old =
                 };
             left =
                 record {
-                  answer = is.Refused (change_number kind g old.points node K old.scratch old.ids old.distances);
+                  answer = Err (change_number kind g old.points node K old.scratch old.ids old.distances);
                   values = refl;
                   left = record { refused = λ _. (refl, refl); accepted = λ z. absurd (n z) };
                 };
@@ -171,7 +171,7 @@ run =
     foreign Remove (roads 6) 0 2 lent lent
     (record { number = change_number Remove (roads 6) points 0 2 (replicate 352 0) (replicate 12 0) (replicate 12 0); changed = 0 })
     (record {
-      answer = is.Refused (change_number Remove (roads 6) points 0 2 (replicate 352 0) (replicate 12 0) (replicate 12 0));
+      answer = Err (change_number Remove (roads 6) points 0 2 (replicate 352 0) (replicate 12 0) (replicate 12 0));
       values = refl;
       left = record { refused = λ _. (refl, refl); accepted = λ z. absurd (refused z) };
     })

@@ -3,7 +3,6 @@
 #![tactic(auto)]
 
 use network_n::refusals;
-use network_n::text::put;
 use std::io;
 
 mod cases;
@@ -14,9 +13,8 @@ mod streets;
 mod updates;
 
 fn show_network(rt: &impl Print) -> io::Result<()> {
-    put(
-        rt,
-        b"Network N of document 01: 6 junctions, 5 roads. A star marks a locker.
+    rt.print(
+        "Network N of document 01: 6 junctions, 5 roads. A star marks a locker.
 
          4         3
     0 ------- 1 ------- 2*

@@ -177,8 +177,8 @@ module _ (ws : List ℕ) (b found v : ℕ) (h : found < b) (size : b ≤ length 
   point_beside : Beside ws (set ws found v) b
   point_beside = record { size = length-set ws found v; words = λ i a. point_other i (omega arith) }
 
-  pub noted_beside : {P zs : List ℕ} {r : ℕ} → Noted P ws zs found v r → Beside ws zs b
-  noted_beside {P} {zs} n =
+  noted_within : {P zs : List ℕ} {r : ℕ} → Noted P ws zs found v r → Beside ws zs b
+  noted_within {P} {zs} n =
       elim (dec_lt 0 (lockers P v)) [
         | yes m ↦ rw (n.point m).0 point_beside
         | no m ↦ rw (n.other (omega arith)).0 (record { size = refl; words = λ i a. refl })
@@ -224,12 +224,19 @@ module _ {g : Network} (ok : Accepted g) {P : List ℕ} {s e k b found tally : �
       frame : Kept xs ws b
       frame = frame_settled ok p t (all_leads ok s) f
 
-      pub noted_size : b ≤ length ws
+      noted_size : b ≤ length ws
       noted_size = omega (arith, p.area.queue.room, frame.size)
 
       -- a word is left for it
-      pub noted_place : found < b
+      noted_place : found < b
       noted_place = omega (arith, w.few, place, many, took_place ok p t, few)
+
+      pub noted_fits : found < length ws
+      noted_fits = omega (arith, noted_place, noted_size)
+
+      -- where it is noted, only words before the area change
+      pub noted_beside : {zs : List ℕ} {r : ℕ} → Noted P ws zs found v r → Beside ws zs b
+      noted_beside n = noted_within ws b found v noted_place noted_size n
 
       word : (i : ℕ) → i < found → get_or ws i 0 ≡ get_or xs i 0
       word i h = frame.words i (omega (arith, noted_place))

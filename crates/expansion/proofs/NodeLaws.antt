@@ -17,7 +17,7 @@ use Rattle.network.proofs.Counts.{count_mono, count_few, count_all, without, wit
 use Rattle.expansion.specs.Queue.{key_at, Holds, Queue, Pushed, Popped, CanSink, CanRise}
 use Rattle.expansion.specs.Tags.{node_of}
 use Rattle.expansion.proofs.QueueLaws.{key_of_words, words_key, push_rises, pushed, pop_sinks, popped_one, popped_more}
-use Rattle.expansion.specs.NodeQueue.{node_at, Free, NodeQueue, Unmoved, PushedNode, LoweredNode, PoppedNode, ClearedNodes, OfferedNode, Vacated, Seats, FilledAt}
+use Rattle.expansion.specs.NodeQueue.{node_at, Free, NodeQueue, Unmoved, CanLower, PushedNode, LoweredNode, PoppedNode, ClearedNodes, OfferedNode, Vacated, Seats, FilledAt}
 
 -- ---- No more entries than nodes: each entry's node has the entry's seat.
 module _ (n : ℕ) (xs : List ℕ) (b : ℕ) where
@@ -194,34 +194,8 @@ module _ {n : ℕ} {xs : List ℕ} {b at len : ℕ} (q : NodeQueue n xs b at len
 
 -- ---- Lower: the entry of the node rises from where it stands.
 module _ {n : ℕ} {xs : List ℕ} {b at len : ℕ} (q : NodeQueue n xs b at len) (i key : ℕ) (here : i < len) (node : node_at (drop at xs) i ≡ node_of key) (lt : key < key_at (drop at xs) i) where
-  pub lower_can : CanRise (drop at xs) len i key
-  lower_can =
-      record {
-        is_hole =
-            record {
-              fits = q.queue.room;
-              inside = here;
-              order = λ j pos h m o. q.queue.ordered j pos h;
-              across =
-                  λ j pos h e.
-                  omega (arith, q.queue.ordered i pos here, q.queue.ordered j (omega arith) h, ap (key_at (drop at xs)) e);
-            };
-        at_most = λ j pos h e. omega (arith, q.queue.ordered j pos h, ap (key_at (drop at xs)) e);
-      }
-
   inside : node_of key < n
   inside = omega (arith, q.inside i here)
-
-  pub lower_seats : Seats xs b at len i key
-  lower_seats =
-      record {
-        few = omega (arith, q.fits, q.few);
-        room = omega (arith, q.fits, q.room);
-        own = omega (arith, q.low, inside);
-        low = λ j h m. omega (arith, q.inside j h, q.low);
-        seat = λ j h m. q.seat j h;
-        other = λ j h m e. m (alike q j i h here (e ∙ sym node));
-      }
 
   pub lowered_node : (ys : List ℕ) → FilledAt xs ys b at len i key → LoweredNode n xs ys b at len key
   lowered_node ys f = record { queue = queue; frame = frame; here = held; old = old; kept = kept }
@@ -341,34 +315,13 @@ module _ {n : ℕ} {xs : List ℕ} {b at len : ℕ} (q : NodeQueue n xs b at len
   unmoved : Unmoved n xs xs b at (node_of key)
   unmoved = record { size = refl; before = λ j h. refl; between = λ j h l. refl; free = λ u h m f. refl }
 
-  -- the node is settled
-  pub offered_settled : n < get_or xs (b + node_of key) 0 → OfferedNode n xs xs b at len len key
-  offered_settled h =
-      record {
-        queue = q;
-        frame = unmoved;
-        settled = λ l. refl;
-        waiting = λ l. absurd (omega arith);
-        old = λ k a. inl a;
-        kept = λ k a. inl a;
-      }
-
-  -- the node did not wait
-  pub offered_pushed : (ys : List ℕ) → get_or xs (b + node_of key) 0 ≡ 0 → PushedNode n xs ys b at len key → OfferedNode n xs ys b at len (len + 1) key
-  offered_pushed ys z p =
-      record {
-        queue = p.queue;
-        frame = p.frame;
-        settled = λ l. absurd (omega arith);
-        waiting = λ l. (key, (p.holds key).1 (inr refl), refl, omega arith);
-        old = λ k a. ⊎_elim (λ c. inl c) (λ e. inr (e, omega arith)) ((p.holds k).0 a);
-        kept = λ k a. inl ((p.holds k).1 (inl a));
-      }
-
   -- the node waits as entry i
   module _ (i : ℕ) (w : get_or xs (b + node_of key) 0 ≡ suc i) (low : i < n) (inside : node_of key < n) where
-    pub waits_here : (i < len) × (node_at (drop at xs) i ≡ node_of key)
+    waits_here : (i < len) × (node_at (drop at xs) i ≡ node_of key)
     waits_here = q.waits (node_of key) i inside w low
+
+    pub can_lower : key < key_at (drop at xs) i → CanLower (drop at xs) len i key
+    can_lower less = record { inside = waits_here.0; node = waits_here.1; less = less }
 
     pub offered_kept : key_at (drop at xs) i ≤ key → OfferedNode n xs xs b at len len key
     offered_kept h =
@@ -379,17 +332,6 @@ module _ {n : ℕ} {xs : List ℕ} {b at len : ℕ} (q : NodeQueue n xs b at len
           waiting = λ l. (key_at (drop at xs) i, record { index = i; inside = waits_here.0; is = refl }, waits_here.1, h);
           old = λ k a. inl a;
           kept = λ k a. inl a;
-        }
-
-    pub offered_lowered : (ys : List ℕ) → LoweredNode n xs ys b at len key → OfferedNode n xs ys b at len len key
-    offered_lowered ys p =
-        record {
-          queue = p.queue;
-          frame = p.frame;
-          settled = λ l. absurd (omega arith);
-          waiting = λ l. (key, p.here, refl, omega arith);
-          old = λ k a. ⊎_elim (λ c. inl c) (λ e. inr (e, omega arith)) (p.old k a);
-          kept = p.kept;
         }
 
 -- ---- Clear: the first i entries are gone, with their nodes' seats.

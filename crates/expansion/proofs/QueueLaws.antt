@@ -8,9 +8,7 @@ use native.Mathlib.Omega.{arith}
 use native.Mathlib.Decide.{ℕ_discrete, dec_lt}
 use lib.ListN.{length, get_or, set, drop, length-set, length-drop}
 use lib.Seq.{get_or-set_same, get_or-set_other}
-use borrow.Rule.Slice.PartMut.{mid_of, put_mid}
-use Rattle.expansion.specs.Queue.{key_of, key_at, parent_of, Holds, HoldsBeside, HeapOrdered, ZeroFrom, Put, Hole, AtLeastParent, AtMostChildren, CanSink, CanRise, Filled, LeastChild, Children, Chosen, Queue, Pushed, Popped, LeastDistance, PushedAt, PoppedAt, NoLater}
-use Rattle.expansion.proofs.LentParts.{lent_part, rejoined}
+use Rattle.expansion.specs.Queue.{key_of, key_at, parent_of, Holds, HoldsBeside, HeapOrdered, ZeroFrom, Put, Hole, AtLeastParent, AtMostChildren, CanSink, CanRise, Filled, LeastChild, Children, Chosen, Queue, Pushed, Popped, LeastDistance, NoLater}
 use Rattle.expansion.proofs.TagLaws.{at_most_no_later}
 
 -- ---- An entry is stored.
@@ -108,14 +106,6 @@ module _ (xs : List ℕ) (len i a b c : ℕ) (ch : Children xs len i a b) (is : 
             }
       ]
 
--- the lesser of two keys is at most both
-lesser_key : (a b k : ℕ) → Chosen a b a b k → (k ≤ a) × (k ≤ b)
-lesser_key a b k ck =
-    elim (dec_lt b a) [
-      | yes lt ↦ (omega (arith, ck.second lt), omega (arith, ck.second lt))
-      | no n ↦ let le : a ≤ b = omega arith in (omega (arith, ck.first le), omega (arith, ck.first le))
-    ]
-
 -- the lesser of two keys that are chosen is the chosen one of the lesser keys
 pub chosen_least : {a b l r l' r' a' b' m m' k : ℕ} → Chosen a b l l' a' → Chosen a b r r' b' → Chosen l r l r m → Chosen l' r' l' r' m' → Chosen a b m m' k
     → Chosen a' b' a' b' k
@@ -136,14 +126,6 @@ chosen_least {a} {b} ca cb cm cm' ck =
             first = λ h. omega (arith, ck.first le, cm.first (omega (arith, x, y)), x);
             second = λ h. omega (arith, ck.first le, cm.second (omega (arith, x, y)), y);
           }
-    ]
-
--- a key that is at most the lesser child's is at most each child's
-pub at_most_children : (xs : List ℕ) (len i a b k key : ℕ) → Children xs len i a b → Chosen a b a b k → key ≤ k → AtMostChildren xs len i key
-at_most_children xs len i a b k key ch ck le j pos lt e =
-    elim (ℕ_discrete j (2 * i + 1)) [
-      | yes q ↦ omega (arith, ap (key_at xs) q, ch.left, (lesser_key a b k ck).0)
-      | no n ↦ let q : j ≡ 2 * i + 2 = omega arith in omega (arith, ap (key_at xs) q, ch.right, (lesser_key a b k ck).1)
     ]
 
 -- ---- A hole is filled where it is.
@@ -436,29 +418,6 @@ module _ (xs ys : List ℕ) (len : ℕ) (q : Queue xs len) (some : 0 < len) (p :
           kept = pop_kept;
         }
 
--- ---- A queue from the word `at` on, which is lent and comes back as zs.
-module _ (xs : List ℕ) (at : ℕ) where
-  pub lent_queue : (len : ℕ) → Queue (drop at xs) len → Queue (mid_of at (length xs - at) xs) len
-  lent_queue len q = rw (lent_part at xs) q
-
-  -- a queue with an entry starts inside the list
-  pub first_inside : (len : ℕ) → Queue (drop at xs) len → 0 < len → at + 2 ≤ length xs
-  first_inside len q some = omega (arith, q.room, length-drop at xs)
-
-  pub starts_inside : (len : ℕ) → Queue (drop at xs) len → 0 < len → at < length xs
-  starts_inside len q some = omega (arith, q.room, length-drop at xs)
-
-  module _ (zs : List ℕ) (fits : at ≤ length xs) where
-    -- what is said of the part before and after
-    part_says : (P : List ℕ → List ℕ → Type 0) → length zs ≡ length (mid_of at (length xs - at) xs) → P (mid_of at (length xs - at) xs) zs → P (drop at xs) (drop at (put_mid at (length xs - at) xs zs))
-    part_says P size p = rw (rejoined at xs zs fits size).part (rw (lent_part at xs) at p)
-
-    pub pushed_at : (len key : ℕ) → Pushed (mid_of at (length xs - at) xs) zs len key → PushedAt xs (put_mid at (length xs - at) xs zs) at len key
-    pushed_at len key p =
-        let r = rejoined at xs zs fits p.size in
-        record { size = r.size; before = r.before; queue = part_says (λ x y. Pushed x y len key) p.size p }
-
-    pub popped_at : (len key : ℕ) → Popped (mid_of at (length xs - at) xs) zs len key → PoppedAt xs (put_mid at (length xs - at) xs zs) at len key
-    popped_at len key p =
-        let r = rejoined at xs zs fits p.size in
-        record { size = r.size; before = r.before; queue = part_says (λ x y. Popped x y len key) p.size p }
+-- a queue with an entry, from the word `at` of a list on, starts inside the list
+pub first_inside : (xs : List ℕ) (at len : ℕ) → Queue (drop at xs) len → 0 < len → at + 2 ≤ length xs
+first_inside xs at len q some = omega (arith, q.room, length-drop at xs)

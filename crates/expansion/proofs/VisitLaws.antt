@@ -2,10 +2,10 @@
 -- label l is taken, every node nearer than l is settled, so the count below l is the rule's count of other lockers nearer than l. The site is a list of
 -- nodes S, one or those of a route.
 -- Assumes nothing.
-use Prim.Native.Nat.{ℕ, suc, ◌+◌, ◌-◌, ◌≤◌, ◌<◌}
+use Prim.Native.Nat.{ℕ, suc, ◌+◌, ◌≤◌, ◌<◌}
 use mathlib.Core.Path.{◌≡◌, refl, sym, ap, ◌∙◌}
-use mathlib.Core.Bool.{Bool, true, false, not, ◌&&◌, ◌||◌}
-use mathlib.Core.Logic.{◌≢◌, ◌⊎◌, ⊎_elim}
+use mathlib.Core.Bool.{Bool, true, false, not, ◌&&◌, ◌||◌, true≢false}
+use mathlib.Core.Logic.{◌≢◌, ◌⊎◌, inl, inr, ⊎_elim}
 use mathlib.Core.List.{List, Memᴰ}
 use native.Mathlib.Decide.{ℕ_discrete, dec_lt, dec_le}
 use native.Mathlib.Omega.{arith}
@@ -15,7 +15,7 @@ use borrow.Author.Tests.{eqb-true, ltb-true, lt-ltb, le-ltb, eq-eqb, ne_eqb}
 use Rattle.network.specs.Network.{Network, node_count, neighbours_of}
 use Rattle.network.specs.Accepted.{Accepted}
 use Rattle.network.specs.Distance.{NONE, dist, dist_from}
-use Rattle.network.specs.Count.{weighed, sum_over, bit}
+use Rattle.network.specs.Count.{weighed, sum_over}
 use Rattle.network.specs.Points.{lockers, marked, is_nearer, others_at, others_nearer}
 use Rattle.network.specs.Routes.{on_route, verified_from}
 use Rattle.network.proofs.Counts.{bit_most, select_same}
@@ -29,20 +29,12 @@ use Rattle.expansion.specs.declared.verify.Site.{Site}
 use Rattle.expansion.specs.declared.verify.Site.TheVariants.{One, Stops}
 use Rattle.expansion.specs.declared.verify.Tally.{Tally}
 use Rattle.expansion.specs.Area.{LabelAt, Area, Kept, Moved, Blank, Took, Followed}
-use Rattle.expansion.specs.Visited.{is_stop, stops_in, is_site, nodes_of_site, CanReadSite, SiteInside, verified_at, CameTo}
+use Rattle.expansion.specs.Visited.{is_stop, stops_in, is_site, nodes_of_site, SiteInside, verified_at, CameTo, Visited}
 use Rattle.expansion.proofs.Search.{frontier}
 use Rattle.expansion.proofs.Origins.{one}
-use Rattle.expansion.proofs.AreaLaws.{settled_as, others_settle}
+use Rattle.expansion.proofs.AreaLaws.{settled_as, others_settle, kept_trans}
 use Rattle.expansion.proofs.AreaSearch.{label_back, search_took, search_finished, took_least, took_exact, took_moved, took_waited, took_word, took_area, settle_marks}
 use Rattle.expansion.proofs.Progress.{All, all_leads, Progress, took_small}
-
--- ---- The others at a node, as the code reads them.
-
-pub other_node : (P : List ℕ) (p x r : ℕ) → x ≢ p → r ≡ lockers P x → r ≡ others_at P p x
-other_node P p x r n e = omega (arith, e, ap bit (ne_eqb x p n))
-
-pub own_node : (P : List ℕ) (p x r : ℕ) → x ≡ p → r ≡ lockers P x → r - 1 ≡ others_at P p x
-own_node P p x r y e = omega (arith, e, ap bit (eq-eqb x p y))
 
 -- ---- The rule's count.
 
@@ -90,7 +82,7 @@ on_site g P p S k e = rw e
 -- ---- The nodes of the site.
 
 -- what the code tests is whether a node is one of them
-pub site_member : (g : Network) (xs : List ℕ) (site : Site) (v : ℕ) → v < node_count g → is_site xs site v ≡ on_route (nodes_of_site (node_count g) xs site) v
+site_member : (g : Network) (xs : List ℕ) (site : Site) (v : ℕ) → v < node_count g → is_site xs site v ≡ on_route (nodes_of_site (node_count g) xs site) v
 unfolding on_route stops_in
 site_member g xs (One q) v h = sym (or_none (eqb v q))
   where
@@ -103,28 +95,24 @@ site_member g xs Stops v h = sym (on_selected (is_stop xs) (node_count g) v ∙ 
 pub stop_same : (xs ys : List ℕ) (v : ℕ) → get_or ys v 0 ≡ get_or xs v 0 → is_stop ys v ≡ is_stop xs v
 stop_same xs ys v e = ap (λ (w : ℕ). eqb w 2) e
 
-pub site_kept : {n b : ℕ} {xs ys : List ℕ} (site : Site) (v : ℕ) → SiteInside n b site → v < n → Kept xs ys b → is_site ys site v ≡ is_site xs site v
+site_kept : {n b : ℕ} {xs ys : List ℕ} (site : Site) (v : ℕ) → SiteInside n b site → v < n → Kept xs ys b → is_site ys site v ≡ is_site xs site v
 site_kept (One q) v i h k = refl
 site_kept {xs = xs} {ys = ys} Stops v i h k = stop_same xs ys v (k.words v (omega arith))
-
--- what `is_site` requires
-pub can_read : (n b v : ℕ) (xs : List ℕ) (site : Site) → SiteInside n b site → v < n → b ≤ length xs → CanReadSite xs site v
-can_read n b v xs (One q) i h fits = tt
-can_read n b v xs Stops i h fits = omega arith
-
-pub stops_read : (xs : List ℕ) (site : Site) (v : ℕ) → site ≡ Stops → CanReadSite xs site v → v < length xs
-stops_read xs site v e h = rw e at h
 
 pub stops_same : (n : ℕ) (xs ys : List ℕ) → ((v : ℕ) → v < n → is_stop ys v ≡ is_stop xs v) → stops_in n ys ≡ stops_in n xs
 unfolding stops_in
 stops_same n xs ys same = select_same (is_stop ys) (is_stop xs) n same
 
 -- the rule with their distance is what verify answers
-pub site_answer : {g : Network} → Accepted g → (P : List ℕ) (p : ℕ) (site : Site) (k : ℕ) {b : ℕ} {xs ys : List ℕ} → SiteInside (node_count g) b site → Kept xs ys b
-    → verified_from g P p (nodes_of_site (node_count g) ys site) k ≡ verified_at g P xs p site k
-site_answer ok P p (One q) k i h = verified_one ok P p q k
-site_answer {g} ok P p Stops k {xs = xs} {ys = ys} i h =
-    ap (λ (S : List ℕ). verified_from g P p S k) (stops_same (node_count g) xs ys (λ v l. site_kept Stops v i l h))
+site_answer : {g : Network} → Accepted g → (P xs : List ℕ) (p : ℕ) (site : Site) (k : ℕ)
+    → verified_from g P p (nodes_of_site (node_count g) xs site) k ≡ verified_at g P xs p site k
+site_answer ok P xs p (One q) k = verified_one ok P p q k
+site_answer ok P xs p Stops k = refl
+
+-- whether the code says that a node is one of the site's
+told : (g : Network) (site : Site) (v : ℕ) {b : ℕ} {xs ys : List ℕ} {here : Bool} → SiteInside (node_count g) b site → v < node_count g → Kept xs ys b → here ≡ is_site ys site v
+    → here ≡ on_route (nodes_of_site (node_count g) xs site) v
+told g site v {xs = xs} inside h kept e = e ∙ site_kept site v inside h kept ∙ site_member g xs site v h
 
 -- ---- The count under way.
 
@@ -209,7 +197,7 @@ module _ {g : Network} (ok : Accepted g) {p : ℕ} {xs ys : List ℕ} {b settled
       (λ a. absurd (omega (arith, a.low, took_least ok e.area e.searched t a.node a.label a.held)))
       (frontier ok (all_leads ok p) (search_took ok e.area e.searched t) x tt (λ z. omega (arith, taken_small)))
 
-  pub labels_exact : (x m : ℕ) → LabelAt (node_count g) ys b x m → m ≡ dist g p x
+  labels_exact : (x m : ℕ) → LabelAt (node_count g) ys b x m → m ≡ dist g p x
   labels_exact x m h = e.searched.exact x m (label_back (took_moved ok e.area e.searched t) x m h) tt
 
   module _ {P S : List ℕ} {at below level : ℕ} (c : Counted g P p S xs b at below level) where
@@ -276,14 +264,14 @@ module _ {g : Network} (ok : Accepted g) {p : ℕ} {xs ys : List ℕ} {b settled
 
   -- the tally when the expansion has come to l
   module _ {P S : List ℕ} {y z : Tally} (c : Counted g P p S xs b y.label y.below y.level) (r : CameTo y l z) where
-    pub came_label : z.label ≡ l
+    came_label : z.label ≡ l
     came_label =
         elim (dec_lt y.label l) [
           | yes h ↦ r.label h
           | no n ↦ let q : l ≡ y.label = omega (arith, taken_high c) in rw (r.same (omega arith)) (sym q)
         ]
 
-    pub came : Counted g P p S ys b l z.below z.level
+    came : Counted g P p S ys b l z.below z.level
     came =
         elim (dec_lt y.label l) [
           | yes h ↦ rw (r.below h, r.level h) (risen c h)
@@ -318,7 +306,7 @@ module _ {g : Network} (ok : Accepted g) {p : ℕ} {xs ys : List ℕ} {b settled
         let is : weighed (at_level (node_count g) ws b l v) (others_at P p v) ≡ others_at P p v = rw (eq-eqb (get_or ws (b + v) 0) (suc (node_count g + l)) word_v) in
         omega (arith, z, was, is, c.here)
 
-    pub counted_settled : Counted g P p S ws b l below (level + others_at P p v)
+    counted_settled : Counted g P p S ws b l below (level + others_at P p v)
     counted_settled =
         record {
           before =
@@ -337,10 +325,6 @@ module _ {g : Network} (ok : Accepted g) {p : ℕ} {xs ys : List ℕ} {b settled
           here = sym level_settled;
           new = λ x h m. f.frame.others x h (omega (arith, others x h (λ y. other (rw y at m)), c.new x h m));
         }
-
-    -- the same, as the tally counts it
-    pub counted_next : {at r : ℕ} → at ≡ l → r ≡ others_at P p v → Counted g P p S ws b at below (level + r)
-    counted_next y z = rw (y, z) counted_settled
 
   -- ---- The answer.
   module _ {P S : List ℕ} {below level : ℕ} (k : ℕ) (c : Counted g P p S ys b l below level) where
@@ -377,7 +361,7 @@ module _ {g : Network} (ok : Accepted g) {p : ℕ} {xs ys : List ℕ} {b settled
         let d = site_taken m in
         few_enough g P p S k (off_site low) (λ z. omega (arith, taken_small)) (omega (arith, c.nearer, ap (others_nearer g P p) d))
 
-    pub answer_taken : 0 < l → (k ≤ below) ⊎ Memᴰ v S → ltb below k ≡ verified_from g P p S k
+    answer_taken : 0 < l → (k ≤ below) ⊎ Memᴰ v S → ltb below k ≡ verified_from g P p S k
     answer_taken low known =
         elim (dec_lt below k) [
           | yes h ↦ lt-ltb below k h ∙ ⊎_elim (λ y. absurd (omega arith)) (λ y. answer_few low y h) known
@@ -385,15 +369,54 @@ module _ {g : Network} (ok : Accepted g) {p : ℕ} {xs ys : List ℕ} {b settled
         ]
 
     -- the first node, p itself, ends it
-    pub answer_first : l ≡ 0 → (k ≤ below) ⊎ Memᴰ v S → false ≡ verified_from g P p S k
+    answer_first : l ≡ 0 → (k ≤ below) ⊎ Memᴰ v S → false ≡ verified_from g P p S k
     answer_first z known =
         ⊎_elim
         answer_many
         (λ m. on_site g P p S k ((on_member S p).1 (rw (dist_zero ok p v (omega (arith, taken_exact))) m)))
         known
 
+    -- as the code tests it
+    answer_at : (k ≤ below) ⊎ Memᴰ v S → (ltb 0 l && ltb below k) ≡ verified_from g P p S k
+    answer_at known =
+        elim (dec_lt 0 l) [
+          | yes h ↦ rw (lt-ltb 0 l h) (answer_taken h known)
+          | no n ↦ rw (le-ltb 0 l (omega arith)) (answer_first (omega arith) known)
+        ]
+
+  -- ---- The expansion has come to l, and the code has tested whether v is one of the site's nodes.
+  module _ {P ws : List ℕ} (site : Site) {y z : Tally} {here : Bool} (inside : SiteInside (node_count g) b site) (kept : Kept ws xs b)
+      (c : Counted g P p (nodes_of_site (node_count g) ws site) xs b y.label y.below y.level) (r : CameTo y l z) (said : here ≡ is_site ys site v) where
+    frame : Kept ws ys b
+    frame = kept_trans kept (record { size = t.popped.frame.size; words = t.popped.frame.before })
+
+    on : here ≡ on_route (nodes_of_site (node_count g) ws site) v
+    on = told g site v inside t.inside frame said
+
+    -- it ends here
+    pub visit_ends : {yes : Bool} (k : ℕ) → (k ≤ z.below) ⊎ (here ≡ true) → yes ≡ (ltb 0 l && ltb z.below k)
+        → Visited g P p site k ws ys b (record { yes = yes; settled = settled; len = left })
+    visit_ends k known is =
+        record {
+          answer =
+              is
+              ∙ answer_at k (came c r) (⊎_elim (λ h. inl h) (λ h. inr ((on_member (nodes_of_site (node_count g) ws site) v).0 (sym on ∙ h))) known)
+              ∙ site_answer ok P ws p site k;
+          frame = frame;
+          area = took_area ok e.area e.searched t;
+          exact = labels_exact;
+        }
+
+    -- it goes on: v is settled, and the arcs of its node are followed
+    pub visit_counts : {us : List ℕ} {more r : ℕ} → here ≡ false
+        → Followed g (settled_as (node_count g) ys b settled v l) us b left more v l (length (neighbours_of g v)) → r ≡ others_at P p v
+        → Counted g P p (nodes_of_site (node_count g) ws site) us b z.label z.below (z.level + r)
+    visit_counts off f count =
+        rw (came_label c r, count)
+        (counted_settled (λ m. true≢false (sym ((on_member (nodes_of_site (node_count g) ws site) v).1 m) ∙ sym on ∙ off)) (came c r) f)
+
 -- no entry is left: the site can't be reached
-pub answer_none : {g : Network} (ok : Accepted g) {P : List ℕ} {p : ℕ} {S xs : List ℕ} {b settled len l below level : ℕ} (k : ℕ)
+answer_none : {g : Network} (ok : Accepted g) {P : List ℕ} {p : ℕ} {S xs : List ℕ} {b settled len l below level : ℕ} (k : ℕ)
     → Progress g (one g p) All All xs b settled len → len ≡ 0 → Counted g P p S xs b l below level → false ≡ verified_from g P p S k
 answer_none {g} ok {P} {p} {S} k e t c =
     not_reached g P p S k
@@ -404,3 +427,14 @@ answer_none {g} ok {P} {p} {S} k e t c =
           let d = search_finished ok e.area e.searched t (all_leads ok p) r.source tt (omega (arith, r.is, dist_symmetric ok p r.source)) in
           absurd (omega (arith, d.is, c.new r.source d.inside r.member))
     ])
+
+pub visit_none : {g : Network} (ok : Accepted g) {P : List ℕ} {p : ℕ} {site : Site} {ws xs : List ℕ} {b settled len l below level : ℕ} (k : ℕ)
+    → Kept ws xs b → Progress g (one g p) All All xs b settled len → Counted g P p (nodes_of_site (node_count g) ws site) xs b l below level → len ≡ 0
+    → Visited g P p site k ws xs b (record { yes = false; settled = settled; len = 0 })
+visit_none ok {P} {p} {site} {ws} k kept e c none =
+    record {
+      answer = answer_none ok k e none c ∙ site_answer ok P ws p site k;
+      frame = kept;
+      area = rw none at e.area;
+      exact = λ v m h. e.searched.exact v m h tt;
+    }

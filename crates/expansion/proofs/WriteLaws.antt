@@ -1,69 +1,72 @@
 -- The found nodes written out: the loop that repeats one, the loop over all, and the answer that they are.
 -- Assumes nothing.
-use Prim.Native.Nat.{ℕ, suc, ◌+◌, ◌*◌, ◌≤◌, ◌<◌, min}
+use Prim.Native.Nat.{ℕ, suc, ◌+◌, ◌-◌, ◌*◌, ◌≤◌, ◌<◌, min}
 use mathlib.Core.Path.{◌≡◌, refl, sym, ap, ◌∙◌}
-use mathlib.Core.Logic.{◌≢◌}
 use mathlib.Core.List.{List, ◌++◌}
 use native.Mathlib.Decide.{ℕ_discrete}
 use native.Mathlib.Omega.{arith}
-use lib.ListN.{length, get_or, set, take, drop, replicate, length-set, length-replicate}
-use lib.Seq.{get_or-set_same, get_or-set_other, length-take-le}
+use borrow.Rule.Slice.PartMut.{mid_of, put_mid, mid_len}
+use lib.ListN.{length, get_or, take, drop, replicate, get_or-replicate, length-replicate}
 use Rattle.network.specs.Network.{Network, node_count}
 use Rattle.network.specs.Distance.{dist}
-use Rattle.network.proofs.Lends.{first_size, first_part, first_after}
+use Rattle.network.specs.Points.{lockers}
+use Rattle.network.proofs.Lends.{Returned, returned, first_size, first_part, first_after}
 use Rattle.expansion.specs.Area.{Wiped}
-use Rattle.expansion.specs.Expand.{word_distance}
-use Rattle.expansion.specs.Found.{tallied, FindLeft, Written, Repeated, ListedIn, CanWrite, WrittenOut, NearestLeft}
+use Rattle.expansion.specs.Expand.{word_distance, label_in}
+use Rattle.expansion.specs.Found.{tallied, FindLeft, Repeated, ListedIn, CanWrite, WrittenOut, NearestLeft}
 use Rattle.expansion.specs.declared.nearest.Search.{Search}
 use Rattle.expansion.proofs.Beside.{Beside}
 use Rattle.expansion.proofs.Settled.{zero_blank, word_some}
 use Rattle.expansion.proofs.Finding.{tallied_next, tallied_mono, tallied_on}
 
 -- ---- One node.
-pub written_none : (xs : List ℕ) (k from v l : ℕ) → Written xs xs k from v l from
-written_none xs k from v l =
-    record {
-      size = refl;
-      ids = λ j a b. absurd (omega arith);
-      distances = λ j a b. absurd (omega arith);
-      before = λ j a. refl;
-      between = λ j a b. refl;
-      behind = λ j a. refl;
-    }
 
-pub written_more : {xs ys : List ℕ} {k from v l at : ℕ} → Written xs ys k from v l at → from ≤ at → at < k → 3 * k ≤ length ys
-    → Written xs (set (set ys (k + at) v) (2 * k + at) l) k from v l (at + 1)
-written_more {xs} {ys} {k} {from} {v} {l} {at} w low high fits =
+-- the words from a up to e are lent, and filled with v
+module _ (a e v : ℕ) (xs zs : List ℕ) (low : a ≤ e) (fits : e ≤ length xs) (all : zs ≡ replicate (length (mid_of a (e - a) xs)) v) where
+  even : length zs ≡ length (mid_of a (e - a) xs)
+  even = ap length all ∙ length-replicate (length (mid_of a (e - a) xs)) v
+
+  whole : Returned xs (put_mid a (e - a) xs zs) a e zs
+  whole = returned a e xs zs low fits even
+
+  filled : (j : ℕ) → a ≤ j → j < e → get_or (put_mid a (e - a) xs zs) j 0 ≡ v
+  filled j h l =
+      let q : a + (j - a) ≡ j = omega arith in
+      ap (λ (i : ℕ). get_or (put_mid a (e - a) xs zs) i 0) (sym q)
+      ∙ whole.part (j - a) (omega arith)
+      ∙ ap (λ (ws : List ℕ). get_or ws (j - a) 0) all
+      ∙ get_or-replicate (length (mid_of a (e - a) xs)) (j - a) v 0 (omega (arith, mid_len a e xs fits))
+
+-- the ids, and then the distances
+pub repeated : {P xs us ws : List ℕ} (k from v l : ℕ) {r : ℕ} → from < k → 3 * k ≤ length xs → r ≡ min k (from + lockers P v)
+    → us ≡ replicate (length (mid_of (k + from) (k + r - (k + from)) xs)) v
+    → ws ≡ replicate (length (mid_of (2 * k + from) (2 * k + r - (2 * k + from)) (put_mid (k + from) (k + r - (k + from)) xs us))) l
+    → Repeated P xs (put_mid (2 * k + from) (2 * k + r - (2 * k + from)) (put_mid (k + from) (k + r - (k + from)) xs us) ws) k from v l r
+repeated {xs = xs} {us} {ws} k from v l {r} low room count ids distances =
     record {
-      size = simp length-set w.size;
-      ids =
-          λ j a b.
-          elim (ℕ_discrete j at) [
-            | yes q ↦
-                get_or-set_other (set ys (k + at) v) (2 * k + at) (k + j) l 0 (omega arith)
-                ∙ ap (λ i. get_or (set ys (k + at) v) (k + i) 0) q
-                ∙ get_or-set_same ys (k + at) v 0 (omega arith)
-            | no n ↦ other (k + j) (omega arith) (omega arith) ∙ w.ids j a (omega arith)
-          ];
-      distances =
-          λ j a b.
-          elim (ℕ_discrete j at) [
-            | yes q ↦
-                ap (λ i. get_or (set (set ys (k + at) v) (2 * k + at) l) (2 * k + i) 0) q
-                ∙ get_or-set_same (set ys (k + at) v) (2 * k + at) l 0 (simp length-set (omega arith))
-            | no n ↦ other (2 * k + j) (omega arith) (omega arith) ∙ w.distances j a (omega arith)
-          ];
-      before = λ j a. other j (omega arith) (omega arith) ∙ w.before j a;
-      between = λ j a b. other j (omega arith) (omega arith) ∙ w.between j (omega arith) b;
-      behind = λ j a. other j (omega arith) (omega arith) ∙ w.behind j (omega arith);
+      count = count;
+      written =
+          record {
+            size = second.size ∙ first.size;
+            ids = λ j a b. second.before (k + j) (omega arith) ∙ filled (k + from) (k + r) v xs us (omega arith) (omega arith) ids (k + j) (omega arith) (omega arith);
+            distances = λ j a b. filled (2 * k + from) (2 * k + r) l ys ws (omega arith) long distances (2 * k + j) (omega arith) (omega arith);
+            before = λ j a. second.before j (omega arith) ∙ first.before j a;
+            between = λ j a b. second.before j b ∙ first.after j a;
+            behind = λ j a. second.after j a ∙ first.after j (omega arith);
+          };
     }
   where
-    other : (j : ℕ) → j ≢ k + at → j ≢ 2 * k + at → get_or (set (set ys (k + at) v) (2 * k + at) l) j 0 ≡ get_or ys j 0
-    other j a b = get_or-set_other (set ys (k + at) v) (2 * k + at) j l 0 b ∙ get_or-set_other ys (k + at) j v 0 a
+    ys : List ℕ
+    ys = put_mid (k + from) (k + r - (k + from)) xs us
 
--- as the code reads and writes
-pub second_fits : (ys : List ℕ) (k at v : ℕ) → at < k → 3 * k ≤ length ys → 2 * k + at < length (set ys (k + at) v)
-second_fits ys k at v h f = simp length-set (omega arith)
+    first : Returned xs ys (k + from) (k + r) us
+    first = whole (k + from) (k + r) v xs us (omega arith) (omega arith) ids
+
+    long : 2 * k + r ≤ length ys
+    long = omega (arith, first.size)
+
+    second : Returned ys (put_mid (2 * k + from) (2 * k + r - (2 * k + from)) ys ws) (2 * k + from) (2 * k + r) ws
+    second = whole (2 * k + from) (2 * k + r) l ys ws (omega arith) long distances
 
 -- ---- All of them.
 pub out_none : (P xs : List ℕ) (n k : ℕ) → WrittenOut P xs xs n k 0
@@ -77,12 +80,24 @@ out_none P xs n k =
       behind = λ j h. refl;
     }
 
+-- the words that the loop reads are still those of xs
+pub out_word : {P xs ys : List ℕ} {n k found i : ℕ} → CanWrite P xs n k found → WrittenOut P xs ys n k i → i < found → get_or ys i 0 ≡ get_or xs i 0
+out_word {i = i} c w h = w.before i (omega (arith, c.few))
+
 -- the next node is written where the others end
 module _ {P xs ys zs : List ℕ} {n k found i at l r : ℕ} (c : CanWrite P xs n k found) (w : WrittenOut P xs ys n k i) (h : i < found)
-    (here : at ≡ min k (tallied P xs i)) (label : l ≡ word_distance n (get_or xs (3 * k + get_or xs i 0) 0))
-    (p : Repeated P ys zs k at (get_or xs i 0) l r) where
+    (here : at ≡ min k (tallied P xs i)) (is : l ≡ label_in n ys (3 * k) (get_or ys i 0)) (q : Repeated P ys zs k at (get_or ys i 0) l r) where
   at_is : at ≡ tallied P xs i
   at_is = omega (arith, here, c.early i h)
+
+  p : Repeated P ys zs k at (get_or xs i 0) l r
+  p = rw (out_word c w h) at q
+
+  label : l ≡ label_in n xs (3 * k) (get_or xs i 0)
+  label =
+      is
+      ∙ ap (word_distance n) (w.behind (3 * k + get_or ys i 0) (omega arith))
+      ∙ ap (λ (v : ℕ). label_in n xs (3 * k) v) (out_word c w h)
 
   pub out_count : r ≡ min k (tallied P xs (i + 1))
   out_count =
@@ -127,10 +142,6 @@ module _ {P xs ys zs : List ℕ} {n k found i at l r : ℕ} (c : CanWrite P xs n
       next : tallied P xs (suc i) ≡ tallied P xs (i + 1)
       next = let e : suc i ≡ i + 1 = omega arith in ap (tallied P xs) e
 
--- the words that the loop reads are still those of xs
-pub out_word : {P xs ys : List ℕ} {n k found i : ℕ} → CanWrite P xs n k found → WrittenOut P xs ys n k i → i < found → get_or ys i 0 ≡ get_or xs i 0
-out_word {i = i} c w h = w.before i (omega (arith, c.few))
-
 -- ---- The answer.
 module _ {g : Network} {P : List ℕ} {node e k : ℕ} {xs₀ xs : List ℕ} {r : Search} (f : FindLeft g P node e k xs₀ xs (3 * k) r) where
   pub can_write : length P ≡ node_count g → CanWrite P xs (node_count g) k r.found
@@ -173,11 +184,8 @@ module _ {g : Network} {P : List ℕ} {node e k : ℕ} {xs₀ xs : List ℕ} {r 
 
     -- the area is cleared, and the first k words
     module _ {zs us : List ℕ} (c : Wiped ys zs (3 * k)) (q : us ≡ replicate (length (take k zs)) 0) where
-      pub first_fits : k ≤ length zs
+      first_fits : k ≤ length zs
       first_fits = omega (arith, c.frame.size, w.size, f.area.queue.room)
-
-      pub first_length : length (take k zs) ≡ k
-      first_length = length-take-le k zs first_fits
 
       same : length us ≡ length (take k zs)
       same = ap length q ∙ length-replicate (length (take k zs)) 0

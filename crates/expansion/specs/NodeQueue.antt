@@ -10,10 +10,6 @@ use Rattle.expansion.specs.Tags.{node_of}
 abbrev pub node_at : List ℕ → ℕ → ℕ
 node_at q i = node_of (key_at q i)
 
--- the node of every entry with the tag
-abbrev pub NodeOfTag : ℕ → ℕ → Type 0
-NodeOfTag tag node = (distance : ℕ) → node ≡ node_of (key_of distance tag)
-
 -- node v does not wait
 abbrev pub Free : ℕ → List ℕ → ℕ → ℕ → Type 0
 Free n xs b v = (get_or xs (b + v) 0 ≡ 0) ⊎ (n < get_or xs (b + v) 0)

@@ -4,10 +4,15 @@
 -- Assumes nothing.
 use Rattle.std.specs.Prelude.{◌≡◌, ◌⊎◌, ◌≢◌, ◌↔◌, List, ℕ, zero, suc, ◌+◌, ◌-◌, ◌*◌, ◌/◌, ◌≤◌, ◌<◌, length, get_or, drop}
 use Rattle.expansion.specs.Tags.{node_of}
+use Rattle.expansion.specs.declared.queue.Entry.{Entry}
 
 -- the key of a distance and a tag: a tag is below 2^32, so keys go by distance and then by tag
 abbrev pub key_of : ℕ → ℕ → ℕ
 key_of distance tag = distance * 4294967296 + tag
+
+-- the key of an entry
+abbrev pub entry_key : Entry → ℕ
+entry_key e = key_of e.distance e.tag
 
 -- the distance of the entry with the key
 abbrev pub distance_of : ℕ → ℕ
@@ -112,7 +117,7 @@ pub record Children (xs : List ℕ) (len i a b : ℕ) : Type 0 where
   pub right : b ≡ key_at xs (2 * i + 2)
 
 -- r is x if a is the lesser of a and b, else y
-pub record Chosen (a b x y r : ℕ) : Type 0 where
+pub record Chosen {A : Type 0} (a b : ℕ) (x y r : A) : Type 0 where
   pub first : a ≤ b → r ≡ x
   pub second : b < a → r ≡ y
 

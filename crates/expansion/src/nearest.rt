@@ -1,41 +1,27 @@
 // The expansion that looks for lockers: document 01, Nearest. The lent words are: found nodes, each once | the area of the expansion, from word b on.
+// They are parts of one lent slice, found and cut by number: memory is fixed and the caller's (a rule of the project).
 ghost use Rattle.std.specs.Prelude.{◌≡◌, ◌+◌, ◌*◌, ◌≤◌, ◌<◌, min, length};
-ghost use Rattle.network.specs.Network.{network};
 ghost use Rattle.network.specs.Points.{lockers};
 ghost use Rattle.expansion.specs.Found.{CanFind, Noted, FindLeft, NodesLeft, Repeated, CanWrite, WrittenOut, NearestLeft};
 
-use crate::step::Taken;
-use crate::{labels, step, words};
+use crate::{labels, step};
+use network::Network;
 use network::points::lockers_at;
 
 // What is found: how many nodes, and how many lockers on them, cut at k.
-#[derive(Clone, Copy)]
+#[derive(Clone, Copy, Debug, PartialEq, Eq)]
 pub struct Near {
     pub found: usize,
     pub tally: usize,
 }
 
-// Where a search ends: what is found, how many nodes are settled, and how many wait.
-#[derive(Clone, Copy)]
+// How far a search is, and where it ends: what is found, how many nodes are settled, and how many wait.
+#[derive(Clone, Copy, Debug, PartialEq, Eq)]
 struct Search {
     found: usize,
     tally: usize,
     settled: usize,
     len: usize,
-}
-
-impl Search {
-    // These four.
-    fn ended(found: usize, tally: usize, settled: usize, len: usize) -> Self
-        ensures { result ≡ record { found = found; tally = tally; settled = settled; len = len } }
-    {
-        Self {
-            found,
-            tally,
-            settled,
-            len,
-        }
-    }
 }
 
 // Adds a settled node to the found nodes, where it has a locker. Returns how many there are then.
@@ -57,14 +43,12 @@ fn add(points: &[u8], tally: usize, node: u32, k: usize) -> usize
     ensures { (result ≡ min k (tally + lockers points.now node)) × (result ≤ tally + 255) }
 {
     let all = lockers_at(points, node);
-    words::lesser(k, tally + all)
+    k.min(tally + all)
 }
 
 // Settles nodes by rising distance while it is below e and fewer than k lockers are found.
 fn find(
-    starts: &[u32],
-    neighbours: &[u32],
-    weights: &[u32],
+    g: &Network<'_>,
     points: &[u8],
     s: &mut [u32],
     b: usize,
@@ -72,44 +56,40 @@ fn find(
     e: u32,
     k: usize,
 ) -> Search
-    requires { CanFind (network starts.now neighbours.now weights.now) points.now s.old b k node }
-    ensures { FindLeft (network starts.now neighbours.now weights.now) points.now node e k s.old s.new b result }
+    requires { CanFind g.now points.now s.old b k node }
+    ensures { FindLeft g.now points.now node e k s.old s.new b result }
 {
-    let n = starts.len() - 1;
+    let n = g.nodes();
     step::start(s, b, n, node);
-    let mut found = 0;
-    let mut tally = 0;
-    let mut settled = 0;
-    let mut len = 1;
-    while tally < k {
-        let taken = step::next(s, b, n, len);
-        let Taken::Node {
-            label,
-            node: at,
-            parent: _,
-            left,
-        } = taken
-        else {
-            return Search::ended(found, tally, settled, 0);
+    let mut search = Search {
+        found: 0,
+        tally: 0,
+        settled: 0,
+        len: 1,
+    };
+    while search.tally < k {
+        let Some(taken) = step::next(s, b, n, search.len) else {
+            return Search { len: 0, ..search };
         };
-        if e <= label {
-            return Search::ended(found, tally, settled, left);
+        if e <= taken.label {
+            return Search {
+                len: taken.left,
+                ..search
+            };
         }
-        step::settle(s, b, n, settled, at, label);
-        settled += 1;
-        len = step::open(starts, neighbours, weights, s, b, left, at, label);
-        found = note(points, s, found, at);
-        tally = add(points, tally, at, k);
+        step::settle(s, b, n, search.settled, taken.node, taken.label);
+        search.settled += 1;
+        search.len = step::open(g, s, b, taken.left, taken.node, taken.label);
+        search.found = note(points, s, search.found, taken.node);
+        search.tally = add(points, search.tally, taken.node, k);
     }
-    Search::ended(found, tally, settled, len)
+    search
 }
 
 // The nodes with the k nearest lockers that are nearer to a node than e, by distance and then node, in the first words. All words are 0 before, and
 // all but these after.
 pub fn nodes(
-    starts: &[u32],
-    neighbours: &[u32],
-    weights: &[u32],
+    g: &Network<'_>,
     points: &[u8],
     s: &mut [u32],
     b: usize,
@@ -117,17 +97,16 @@ pub fn nodes(
     e: u32,
     k: usize,
 ) -> Near
-    requires { CanFind (network starts.now neighbours.now weights.now) points.now s.old b k node }
-    ensures { NodesLeft (network starts.now neighbours.now weights.now) points.now node e k s.old s.new b result }
+    requires { CanFind g.now points.now s.old b k node }
+    ensures { NodesLeft g.now points.now node e k s.old s.new b result }
 {
-    let n = starts.len() - 1;
-    let search = find(starts, neighbours, weights, points, s, b, node, e, k);
-    let found = search.found;
-    let tally = search.tally;
-    let settled = search.settled;
-    let len = search.len;
-    step::clear(s, b, n, settled, len);
-    Near { found, tally }
+    let n = g.nodes();
+    let search = find(g, points, s, b, node, e, k);
+    step::clear(s, b, n, search.settled, search.len);
+    Near {
+        found: search.found,
+        tally: search.tally,
+    }
 }
 
 // Writes a found node and its distance, once for each of its lockers, up to k places. Returns how many places are filled then.
@@ -136,14 +115,10 @@ fn repeat(points: &[u8], s: &mut [u32], k: usize, from: usize, node: u32, label:
     ensures { Repeated points.now s.old s.new k from node label result }
 {
     let all = lockers_at(points, node);
-    let end = words::lesser(k, from + all);
-    let mut at = from;
-    while at < end {
-        s[k + at] = node;
-        s[2 * k + at] = label;
-        at += 1;
-    }
-    at
+    let end = k.min(from + all);
+    s[k + from..k + end].fill(node);
+    s[2 * k + from..2 * k + end].fill(label);
+    end
 }
 
 // Writes the found nodes and their labels out, up to k places.
@@ -153,39 +128,25 @@ fn write_out(points: &[u8], s: &mut [u32], n: usize, k: usize, found: usize)
 {
     let b = 3 * k;
     let mut at = 0;
-    let mut i = 0;
-    while i < found {
+    // By place, not over s[..found]: `repeat` writes to other words of s meanwhile.
+    for i in 0..found {
         let v = s[i];
         let label = labels::label_of(s, b, n, v);
         at = repeat(points, s, k, at, v, label);
-        i += 1;
     }
 }
 
 // The lockers nearer to a node than e, by distance and then node, each node once for each of its lockers, cut after the first k: their ids from word k
 // on, their distances from word 2 k on. Returns how many. All words are 0 before, and all but these after.
-pub fn nearest(
-    starts: &[u32],
-    neighbours: &[u32],
-    weights: &[u32],
-    points: &[u8],
-    s: &mut [u32],
-    node: u32,
-    e: u32,
-    k: usize,
-) -> usize
-    requires { CanFind (network starts.now neighbours.now weights.now) points.now s.old (3 * k) k node }
-    ensures { NearestLeft (network starts.now neighbours.now weights.now) points.now node e k s.old s.new result }
+pub fn nearest(g: &Network<'_>, points: &[u8], s: &mut [u32], node: u32, e: u32, k: usize) -> usize
+    requires { CanFind g.now points.now s.old (3 * k) k node }
+    ensures { NearestLeft g.now points.now node e k s.old s.new result }
 {
-    let n = starts.len() - 1;
+    let n = g.nodes();
     let b = 3 * k;
-    let search = find(starts, neighbours, weights, points, s, b, node, e, k);
-    let found = search.found;
-    let tally = search.tally;
-    let settled = search.settled;
-    let len = search.len;
-    write_out(points, s, n, k, found);
-    step::clear(s, b, n, settled, len);
-    words::zero(&mut s[..k]);
-    tally
+    let search = find(g, points, s, b, node, e, k);
+    write_out(points, s, n, k, search.found);
+    step::clear(s, b, n, search.settled, search.len);
+    s[..k].fill(0);
+    search.tally
 }

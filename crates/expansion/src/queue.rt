@@ -1,11 +1,12 @@
 // The queue: a binary heap in a lent slice of words, least entry first. Entry i is two words, its tag at 2 i and its distance at 2 i + 1, and
 // entries are ordered by one number, the key: distance * 2^32 + tag. So the words are those of the key, the lower one first, and one load reads it.
-// Words behind the queue's entries are zero, so that a queue that is popped empty is all zero.
+// Words behind the queue's entries are zero, so that a queue that is popped empty is all zero. The length is passed beside the slice: memory is lent and
+// fixed (a rule of the project).
 ghost use Rattle.std.specs.Prelude.{◌≡◌, ◌+◌, ◌*◌, ◌≤◌, ◌<◌, length, get_or, drop};
-ghost use Rattle.expansion.specs.Queue.{key_of, key_at, Queue, Pushed, Popped, LeastDistance, PushedAt, PoppedAt, Put, LeastChild, Children, Chosen, CanSink, CanRise, Filled, Sank};
+ghost use Rattle.expansion.specs.Queue.{key_of, entry_key, key_at, Queue, Pushed, Popped, LeastDistance, PushedAt, PoppedAt, Put, LeastChild, Children, Chosen, CanSink, CanRise, Filled, Sank};
 
 // An entry of a queue.
-#[derive(Clone, Copy)]
+#[derive(Clone, Copy, Debug, PartialEq, Eq)]
 pub struct Entry {
     pub distance: u32,
     pub tag: u32,
@@ -15,24 +16,52 @@ pub struct Entry {
 pub fn key_of(distance: u32, tag: u32) -> u64
     ensures { result ≡ key_of distance tag }
 {
-    (distance as u64) * 4294967296 + (tag as u64)
+    u64::from(distance) * 4294967296 + u64::from(tag)
+}
+
+impl Entry {
+    pub fn key(self) -> u64
+        ensures { result ≡ entry_key self }
+    {
+        key_of(self.distance, self.tag)
+    }
+}
+
+// What stands behind the queue's entries.
+pub(crate) const ZERO: Entry = Entry {
+    distance: 0,
+    tag: 0,
+};
+
+// Entry i.
+#[tactic(auto, unfolding(crate::specs::Queue::key_at))]
+pub(crate) fn entry_at(q: &[u32], i: usize) -> Entry
+    requires { 2 * i + 2 ≤ length q.now }
+    ensures distance { result.distance ≡ get_or q.now (2 * i + 1) 0 }
+    ensures tag { result.tag ≡ get_or q.now (2 * i) 0 }
+    ensures key { entry_key result ≡ key_at q.now i }
+{
+    Entry {
+        distance: q[2 * i + 1],
+        tag: q[2 * i],
+    }
 }
 
 // The key of entry i.
-fn key_at(q: &[u32], i: usize) -> u64
+pub(crate) fn key_at(q: &[u32], i: usize) -> u64
     requires { 2 * i + 2 ≤ length q.now }
     ensures { result ≡ key_at q.now i }
 {
-    key_of(q[2 * i + 1], q[2 * i])
+    entry_at(q, i).key()
 }
 
 // Stores an entry as entry i.
-fn put(q: &mut [u32], i: usize, distance: u32, tag: u32)
+pub(crate) fn put(q: &mut [u32], i: usize, entry: Entry)
     requires { 2 * i + 2 ≤ length q.old }
-    ensures { Put q.old q.new i distance tag }
+    ensures { Put q.old q.new i entry.distance entry.tag }
 {
-    q[2 * i] = tag;
-    q[2 * i + 1] = distance;
+    q[2 * i] = entry.tag;
+    q[2 * i + 1] = entry.distance;
 }
 
 // Copies the entry at `from` over the one at `to`.
@@ -40,13 +69,12 @@ fn copy(q: &mut [u32], from: usize, to: usize)
     requires { (2 * to + 2 ≤ length q.old) × (2 * from + 2 ≤ length q.old) }
     ensures { Put q.old q.new to (get_or q.old (2 * from + 1) 0) (get_or q.old (2 * from) 0) }
 {
-    let tag = q[2 * from];
-    let distance = q[2 * from + 1];
-    put(q, to, distance, tag);
+    let entry = entry_at(q, from);
+    put(q, to, entry);
 }
 
 // The child of entry i with the lesser key. It has one.
-fn lesser_child(q: &[u32], len: usize, i: usize) -> usize
+pub(crate) fn lesser_child(q: &[u32], len: usize, i: usize) -> usize
     requires { (2 * len ≤ length q.now) × (2 * i + 1 < len) }
     ensures { LeastChild q.now len i result }
 {
@@ -63,38 +91,30 @@ fn lesser_child(q: &[u32], len: usize, i: usize) -> usize
 
 // Fills the hole with an entry: children with lesser keys move up, and the entry is stored once, in its final place. Returns how many entries it
 // stored: one for each level that the entry sank, and the entry.
-fn sink(q: &mut [u32], len: usize, hole: usize, distance: u32, tag: u32) -> usize
-    requires { CanSink q.old len hole (key_of distance tag) }
-    ensures filled { Filled q.old q.new len hole (key_of distance tag) }
-    ensures sank { Sank q.old q.new len hole (key_of distance tag) result }
+fn sink(q: &mut [u32], len: usize, hole: usize, entry: Entry) -> usize
+    requires { CanSink q.old len hole (entry_key entry) }
+    ensures filled { Filled q.old q.new len hole (entry_key entry) }
+    ensures sank { Sank q.old q.new len hole (entry_key entry) result }
 {
     let left = 2 * hole + 1;
     if left < len {
         let child = lesser_child(q, len, hole);
         let k = key_at(q, child);
-        let key = key_of(distance, tag);
-        if k < key {
+        if k < entry.key() {
             copy(q, child, hole);
-            sink(q, len, child, distance, tag) + 1
+            sink(q, len, child, entry) + 1
         } else {
-            put(q, hole, distance, tag);
+            put(q, hole, entry);
             1
         }
     } else {
-        put(q, hole, distance, tag);
+        put(q, hole, entry);
         1
     }
 }
 
 // x if a is the lesser key, y if b is. The back end makes a conditional move of it, not a branch.
-fn choose_key(a: u64, b: u64, x: u64, y: u64) -> u64
-    ensures { Chosen a b x y result }
-{
-    if b < a { y } else { x }
-}
-
-// The same of two indices.
-fn choose_index(a: u64, b: u64, x: usize, y: usize) -> usize
+fn choose<T: Copy>(a: u64, b: u64, x: T, y: T) -> T
     ensures { Chosen a b x y result }
 {
     if b < a { y } else { x }
@@ -110,14 +130,13 @@ fn sink_ahead(
     a: u64,
     b: u64,
     least: u64,
-    distance: u32,
-    tag: u32,
+    entry: Entry,
 ) -> usize
-    requires can_sink { CanSink q.old len hole (key_of distance tag) }
+    requires can_sink { CanSink q.old len hole (entry_key entry) }
     requires children { Children q.old len hole a b }
     requires chosen { Chosen a b a b least }
-    ensures filled { Filled q.old q.new len hole (key_of distance tag) }
-    ensures sank { Sank q.old q.new len hole (key_of distance tag) result }
+    ensures filled { Filled q.old q.new len hole (entry_key entry) }
+    ensures sank { Sank q.old q.new len hole (entry_key entry) result }
 {
     let below = 4 * hole + 3;
     if below + 3 < len {
@@ -125,22 +144,21 @@ fn sink_ahead(
         let d = key_at(q, below + 1);
         let e = key_at(q, below + 2);
         let f = key_at(q, below + 3);
-        let key = key_of(distance, tag);
-        if least < key {
-            let child = choose_index(a, b, 2 * hole + 1, 2 * hole + 2);
+        if least < entry.key() {
+            let child = choose(a, b, 2 * hole + 1, 2 * hole + 2);
             copy(q, child, hole);
-            let next_a = choose_key(a, b, c, e);
-            let next_b = choose_key(a, b, d, f);
-            let under_left = choose_key(c, d, c, d);
-            let under_right = choose_key(e, f, e, f);
-            let next = choose_key(a, b, under_left, under_right);
-            sink_ahead(q, len, child, next_a, next_b, next, distance, tag) + 1
+            let next_a = choose(a, b, c, e);
+            let next_b = choose(a, b, d, f);
+            let under_left = choose(c, d, c, d);
+            let under_right = choose(e, f, e, f);
+            let next = choose(a, b, under_left, under_right);
+            sink_ahead(q, len, child, next_a, next_b, next, entry) + 1
         } else {
-            put(q, hole, distance, tag);
+            put(q, hole, entry);
             1
         }
     } else {
-        sink(q, len, hole, distance, tag)
+        sink(q, len, hole, entry)
     }
 }
 
@@ -148,39 +166,39 @@ fn sink_ahead(
 const AHEAD_FROM: usize = 16384;
 
 // Fills the hole that the first entry leaves, and returns how many entries it stored.
-fn sink_first(q: &mut [u32], len: usize, distance: u32, tag: u32) -> usize
-    requires { CanSink q.old len 0 (key_of distance tag) }
-    ensures filled { Filled q.old q.new len 0 (key_of distance tag) }
-    ensures sank { Sank q.old q.new len 0 (key_of distance tag) result }
+fn sink_first(q: &mut [u32], len: usize, entry: Entry) -> usize
+    requires { CanSink q.old len 0 (entry_key entry) }
+    ensures filled { Filled q.old q.new len 0 (entry_key entry) }
+    ensures sank { Sank q.old q.new len 0 (entry_key entry) result }
 {
     if AHEAD_FROM <= len {
         let a = key_at(q, 1);
         let b = key_at(q, 2);
-        let least = choose_key(a, b, a, b);
-        sink_ahead(q, len, 0, a, b, least, distance, tag)
+        let least = choose(a, b, a, b);
+        sink_ahead(q, len, 0, a, b, least, entry)
     } else {
-        sink(q, len, 0, distance, tag)
+        sink(q, len, 0, entry)
     }
 }
 
 // Fills the hole at `start` with an entry: parents with greater keys move down, and the entry is stored once, in its final place.
-fn rise(q: &mut [u32], len: usize, start: usize, distance: u32, tag: u32)
-    requires { CanRise q.old len start (key_of distance tag) }
-    ensures { Filled q.old q.new len start (key_of distance tag) }
+fn rise(q: &mut [u32], len: usize, start: usize, entry: Entry)
+    requires { CanRise q.old len start (entry_key entry) }
+    ensures { Filled q.old q.new len start (entry_key entry) }
 {
-    let key = key_of(distance, tag);
+    let key = entry.key();
     let mut hole = start;
     while 0 < hole {
         let parent = (hole - 1) / 2;
         let k = key_at(q, parent);
         if k <= key {
-            put(q, hole, distance, tag);
+            put(q, hole, entry);
             return;
         }
         copy(q, parent, hole);
         hole = parent;
     }
-    put(q, hole, distance, tag);
+    put(q, hole, entry);
 }
 
 // Adds an entry to a queue of `len` entries.
@@ -189,7 +207,7 @@ pub fn push(q: &mut [u32], len: usize, distance: u32, tag: u32)
     requires len_in_bounds { 2 * len + 2 ≤ length q.old }
     ensures { Pushed q.old q.new len (key_of distance tag) }
 {
-    rise(q, len + 1, len, distance, tag);
+    rise(q, len + 1, len, Entry { distance, tag });
 }
 
 // Takes an entry of the least distance, and of the smallest node among equal distances (Ask 4), out of a queue of `len` entries.
@@ -198,20 +216,16 @@ pub fn pop(q: &mut [u32], len: usize) -> Entry
     requires len_nonzero { 0 < len }
     ensures { Popped q.old q.new len (key_of result.distance result.tag) }
 {
-    let tag = q[0];
-    let distance = q[1];
-    let last = len - 1;
-    let last_tag = q[2 * last];
-    let last_distance = q[2 * last + 1];
-    put(q, last, 0, 0);
-    if last == 0 {
-        return Entry { distance, tag };
+    let first = entry_at(q, 0);
+    let last = entry_at(q, len - 1);
+    put(q, len - 1, ZERO);
+    if 1 < len {
+        sink_first(q, len - 1, last);
     }
-    sink_first(q, last, last_distance, last_tag);
-    Entry { distance, tag }
+    first
 }
 
-// Adds an entry to a queue of `len` entries that starts at the word `at` of a longer slice.
+// Adds an entry to a queue of `len` entries that starts at the word `at` of a longer slice. (distance and tag, no Entry: callers make the tag on the spot.)
 pub fn push_at(s: &mut [u32], at: usize, len: usize, distance: u32, tag: u32)
     requires queue { Queue (drop at s.old) len }
     requires len_in_bounds { at + (2 * len + 2) ≤ length s.old }

@@ -1,5 +1,6 @@
 // The tag of a search's entry: its node and its parent, the node whose arc led there, in one word. Of two entries with equal distances the one
 // with the smaller node comes first.
+// No struct: an entry of the queue has two words of the lent scratch, its distance and its tag.
 ghost use Rattle.std.specs.Prelude.{◌≡◌, ◌<◌};
 ghost use Rattle.expansion.specs.Tags.{tag_of, tag_node, tag_parent};
 

@@ -1,8 +1,9 @@
 -- What a number 0 of the calls with households and sites leaves: no condition is met.
 -- Assumes nothing.
 use Prim.Native.Nat.{ℕ}
-use mathlib.Core.Path.{◌≡◌}
+use mathlib.Core.Path.{◌≡◌, sym}
 use mathlib.Core.List.{List, []}
+use native.Mathlib.Omega.{arith}
 use lib.ListN.{length}
 use Rattle.network.specs.Network.{Network, node_count}
 use Rattle.network.specs.Accepted.{Accepted}
@@ -11,7 +12,7 @@ use Rattle.network.specs.Households.{sheet_k}
 use Rattle.conditions.specs.Conditions.{points_number, node_number, k_number, short_number}
 use Rattle.conditions.proofs.NotMet.{first_zero, points_ready, node_ready, k_ready, short_ready}
 use Rattle.numbers.specs.Numbers.{network_points_number}
-use Rattle.numbers.proofs.Ready.{network_points_ready}
+use Rattle.numbers.proofs.Ready.{Small, network_points_ready}
 use Rattle.household_calls.specs.Numbers.{both_number, households_number, sheet_number}
 use Rattle.household_calls.specs.Work.{HouseholdsReady, SheetReady}
 
@@ -52,3 +53,7 @@ sheet_ready g H T scratch answers e =
       room = short_ready (length scratch) (scratch_words g sheet_k) b.0;
       places = short_ready (length answers) (node_count g) c.0;
     }
+
+-- what the conditions behind a passed one ask, for `grind`
+pub both_passed : (g : Network) (H T : List ℕ) → 0 ≡ both_number g H T → (both_number g H T ≡ 0) × (Small g)
+both_passed g H T e = let a = (both_ready g H T (sym e)).0 in (sym e, (omega (arith, a.some), a.few, a.few_arcs))

@@ -1,82 +1,56 @@
-// The number of each call: the first condition met, or 0. Document 02, Ask 1: '6 covers each byte array [..] in the order lent'.
+// The conditions of each call: the first that is met, or none. Document 02, Ask 1: '6 covers each byte array [..] in the order lent'.
 ghost use Rattle.std.specs.Prelude.{◌≡◌};
-ghost use Rattle.network.specs.Network.{network};
 ghost use Rattle.household_calls.specs.Numbers.{both_number, households_number, sheet_number};
+ghost use Rattle.network.specs.Refusal.{number};
+
+use network::{Network, Refusal};
 
 // The sheet's k, whatever the short query's is (Ask 10), and so the m of its 10. Its walk (sheet, list) is for one nearest and is passed no k.
 const SHEET_K: u32 = 1;
 
 // What both calls test first: 1 to 5, 6 of the households, 6 of the sites.
-fn both_number(
-    starts: &[u32],
-    neighbours: &[u32],
-    weights: &[u32],
-    households: &[u8],
-    sites: &[u8],
-) -> u32
-    ensures { result ≡ both_number (network starts.now neighbours.now weights.now) households.now sites.now }
+#[tactic(auto, using(conditions::proofs::NotMet::first_met, numbers::proofs::Ready::points_passed), unfolding(crate::specs::Numbers::both_number))]
+fn check_both(g: &Network<'_>, households: &[u8], sites: &[u8]) -> Result<(), Refusal>
+    ensures { number result ≡ both_number g.now households.now sites.now }
 {
-    let number = numbers::network_points_number(starts, neighbours, weights, households);
-    if number != 0 {
-        return number;
-    }
-    conditions::points_number(starts.len() - 1, sites)
+    numbers::check_network_points(g, households)?;
+    conditions::check_points(g.nodes(), sites)
 }
 
 // The list: 1 to 5, 6, 6, 7, 9, 10; m is k.
-pub fn households_number(
-    starts: &[u32],
-    neighbours: &[u32],
-    weights: &[u32],
+#[tactic(auto, using(conditions::proofs::NotMet::first_met, crate::proofs::Ready::both_passed, numbers::proofs::Ready::k_passed), unfolding(crate::specs::Numbers::households_number))]
+pub fn check_households(
+    g: &Network<'_>,
     households: &[u8],
     sites: &[u8],
     q: u32,
     k: u32,
     scratch: &[u32],
     answers: &[u32],
-) -> u32
-    ensures { result ≡ households_number (network starts.now neighbours.now weights.now) households.now sites.now q k scratch.now answers.now }
+) -> Result<(), Refusal>
+    ensures { number result ≡ households_number g.now households.now sites.now q k scratch.now answers.now }
 {
-    let number = both_number(starts, neighbours, weights, households, sites);
-    if number != 0 {
-        return number;
-    }
-    let n = starts.len() - 1;
-    let number = conditions::node_number(n, q);
-    if number != 0 {
-        return number;
-    }
-    let number = conditions::k_number(k);
-    if number != 0 {
-        return number;
-    }
-    let number = conditions::scratch_number(n, neighbours.len(), k, scratch.len());
-    if number != 0 {
-        return number;
-    }
-    conditions::short_number(answers.len(), n)
+    check_both(g, households, sites)?;
+    let n = g.nodes();
+    conditions::check_node(n, q)?;
+    conditions::check_k(k)?;
+    conditions::check_scratch(n, g.arcs(), k, scratch.len())?;
+    conditions::check_length(answers.len(), n)
 }
 
 // The sheet: 1 to 5, 6, 6, 10; m is its k.
-pub fn sheet_number(
-    starts: &[u32],
-    neighbours: &[u32],
-    weights: &[u32],
+#[tactic(auto, using(conditions::proofs::NotMet::first_met, crate::proofs::Ready::both_passed), unfolding(crate::specs::Numbers::sheet_number))]
+pub fn check_sheet(
+    g: &Network<'_>,
     households: &[u8],
     sites: &[u8],
     scratch: &[u32],
     answers: &[u32],
-) -> u32
-    ensures { result ≡ sheet_number (network starts.now neighbours.now weights.now) households.now sites.now scratch.now answers.now }
+) -> Result<(), Refusal>
+    ensures { number result ≡ sheet_number g.now households.now sites.now scratch.now answers.now }
 {
-    let number = both_number(starts, neighbours, weights, households, sites);
-    if number != 0 {
-        return number;
-    }
-    let n = starts.len() - 1;
-    let number = conditions::scratch_number(n, neighbours.len(), SHEET_K, scratch.len());
-    if number != 0 {
-        return number;
-    }
-    conditions::short_number(answers.len(), n)
+    check_both(g, households, sites)?;
+    let n = g.nodes();
+    conditions::check_scratch(n, g.arcs(), SHEET_K, scratch.len())?;
+    conditions::check_length(answers.len(), n)
 }

@@ -26,7 +26,7 @@ use Rattle.expansion.specs.Tags.{tag_of}
 use Rattle.expansion.specs.Area.{queue_base, LabelAt, Moved, Took, Followed}
 use Rattle.expansion.specs.NodeQueue.{PushedNode}
 use Rattle.expansion.specs.Expand.{CanExpand}
-use Rattle.expansion.specs.Found.{CanFind, NodesLeft}
+use Rattle.expansion.specs.Found.{NodesLeft}
 use Rattle.expansion.specs.declared.nearest.Near.{Near}
 use Rattle.expansion.proofs.Origins.{one, one_lawful}
 use Rattle.expansion.proofs.Search.{Leads, closed_leads}
@@ -44,21 +44,6 @@ use Rattle.households.specs.Winning.{flags_base, outer_base, CanCountSites, CanW
 
 -- ---- A look: the words that it is lent are all 0 when the found nodes are cleared.
 module _ {g : Network} {T : List ℕ} {v : ℕ} {xs : List ℕ} (c : CanCountSites g T xs v) where
-  pub can_find : (k : ℕ) → CanFind g T xs (node_count g) k v
-  can_find k =
-      record {
-        points = c.sites;
-        few = omega arith;
-        blank = c.blank;
-        expand =
-            record {
-              accepted = c.accepted;
-              inside = c.inside;
-              blank = record { zero = λ j h. c.blank.zero j (omega arith) };
-              size = omega (arith, c.size);
-            };
-      }
-
   module _ {k l : ℕ} {ys : List ℕ} {r : Near} (n : NodesLeft g T v l k xs ys (node_count g) r) where
     pub found_fits : r.found ≤ length ys
     found_fits = omega (arith, n.found_in.few, n.size, c.size)

@@ -24,7 +24,7 @@ use Rattle.network.specs.Points.{lockers, marked, is_listed, listed}
 use Rattle.expansion.specs.Queue.{key_of}
 use Rattle.expansion.specs.Tags.{tag_of}
 use Rattle.expansion.specs.NodeQueue.{PushedNode}
-use Rattle.expansion.specs.Area.{queue_base, LabelAt, HeldAt, Area, Moved, Blank, Took, Followed}
+use Rattle.expansion.specs.Area.{queue_base, LabelAt, HeldAt, Area, Moved, Blank, Took, CanFollow, Followed}
 use Rattle.expansion.specs.Expand.{CanExpand}
 use Rattle.expansion.proofs.Origins.{one, one_lawful}
 use Rattle.expansion.proofs.Search.{Leads, monotone, closed_leads, frontier}
@@ -32,7 +32,7 @@ use Rattle.expansion.proofs.Steps.{AfterStep, waits, not_seen, requeue}
 use Rattle.expansion.proofs.Settled.{zero_blank}
 use Rattle.expansion.proofs.AreaLaws.{moved_same, settled_as, frame_settle, others_settle}
 use Rattle.expansion.proofs.AreaSearch.{AndOne, search_took, took_area, took_word, took_moved, took_waited, took_least, took_exact, search_finished, settle_marks}
-use Rattle.expansion.proofs.Progress.{Progress, progress_begun, progress_start, progress_settled, took_small}
+use Rattle.expansion.proofs.Progress.{Progress, progress_begun, progress_start, progress_settled, took_place, took_small, took_fits, took_follow}
 use Rattle.expansion.proofs.Beside.{Beside, beside_first, label_beside, progress_beside}
 use Rattle.searches.specs.Eager.{is_found}
 use Rattle.searches.proofs.Beaten.{Unbeaten, Part, unbeaten_part, unbeaten_closed}
@@ -40,7 +40,7 @@ use Rattle.searches.proofs.Listed.{listed_parts, lazy_open}
 use Rattle.searches.proofs.FlagLaws.{flag_right}
 use Rattle.network.proofs.Lends.{first_part}
 use Rattle.expansion.proofs.Stopping.{progress_stopped, took_beside}
-use Rattle.lazy_searches.proofs.Parents.{AllCame, came_start, came_beside, came_took, came_stopped, came_followed, parent_seen}
+use Rattle.lazy_searches.proofs.Parents.{AllCame, came_start, came_beside, came_took, came_stopped, came_followed, parent_seen, search_work, work_settled}
 
 -- a flagged node is listed, and a listed one of M is flagged
 pub record Tells (g : Network) (P M : List ℕ) (q k : ℕ) (xs : List ℕ) (f : ℕ) : Type 0 where
@@ -77,6 +77,17 @@ pub record Arrived (g : Network) (P M : List ℕ) (q k : ℕ) (ys : List ℕ) (b
   pub come : (p : ℕ) → p < node_count g → p ≢ v → marked M p ≡ true → node_count g < get_or ys (b + p) 0
   pub met : (p : ℕ) → p < node_count g → p ≢ v → marked P p ≡ true → node_count g < get_or ys (b + p) 0 → marked M p ≡ true
   pub came : AllCame g q ys b left
+
+-- what `settle` and `open` require then, and that settling the node lessens the work
+module _ {g : Network} {P M : List ℕ} {q k : ℕ} {ys : List ℕ} {b f settled left l v : ℕ} (ok : Accepted g) (a : Arrived g P M q k ys b f settled left l v) where
+  pub arrived_fits : (b + node_count g + settled < length ys) × (b + v < length ys) × (l + node_count g + 1 < 4294967296) × (node_count g ≤ 65535)
+  arrived_fits = took_fits ok a.progress a.took
+
+  pub arrived_follows : CanFollow g (settled_as (node_count g) ys b settled v l) b left v l
+  arrived_follows = took_follow ok a.progress a.took
+
+  pub arrived_less : (len : ℕ) {more : ℕ} → more ≤ node_count g → search_work (node_count g) (settled + 1) more < search_work (node_count g) settled len
+  arrived_less len {more} h = work_settled (node_count g) settled len more (took_place ok a.progress a.took) h
 
 -- M' is M, with the lockers of P at v
 pub record Joins (P M M' : List ℕ) (v : ℕ) : Type 0 where

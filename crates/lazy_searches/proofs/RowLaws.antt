@@ -2,21 +2,24 @@
 -- Assumes nothing.
 use Prim.Native.Nat.{ℕ, zero, suc, ◌+◌, ◌*◌, ◌≤◌, ◌<◌}
 use mathlib.Core.Path.{◌≡◌, refl, ap, ◌∙◌}
+use mathlib.Core.Bool.{Bool, true, false}
 use mathlib.Core.Logic.{◌≢◌}
 use mathlib.Core.List.{List}
+use Rattle.std.specs.Prelude.{Option, Some}
 use native.Mathlib.Decide.{ℕ_discrete, dec_lt}
 use native.Mathlib.Omega.{arith}
-use lib.ListN.{get_or}
+use lib.ListN.{length, get_or, drop}
+use Rattle.std.proofs.lemmas.List.{length-take}
 use lib.Dec.{ltb}
 use borrow.Author.Tests.{lt-ltb, le-ltb}
 use Rattle.network.specs.Distance.{NONE}
 use Rattle.network.specs.Count.{total, weighed, sum_over}
 use Rattle.network.specs.Points.{lockers}
-use Rattle.network.proofs.Lends.{row_fits}
-use Rattle.network.proofs.Totals.{total_next, total_upto, total_more}
+use Rattle.network.proofs.Lends.{row_fits, mid_at}
+use Rattle.network.proofs.Totals.{total_same, total_next, total_upto, total_more}
 use Rattle.expansion.specs.Expand.{word_distance}
 use Rattle.expansion.proofs.Settled.{word_some}
-use Rattle.lazy_searches.specs.Second.{row_distance, PlaceFor, Closed}
+use Rattle.lazy_searches.specs.Second.{row_distance, words_base, row_ids, row_words, id_at, word_at, is_below, Closed}
 
 -- rows do not meet
 pub same_place : (k u i v j : ℕ) → i < k → j < k → u * k + i ≡ v * k + j → (u ≡ v) × (i ≡ j)
@@ -40,34 +43,22 @@ word_below zero l m h e = omega arith
 word_below (suc w) l m h e = omega arith
 
 -- the places before j: `place` is the farthest of those that are farther than d, and p is at none
-pub record Looking (xs : List ℕ) (a b k p d place most j : ℕ) : Type 0 where
-  pub low : j ≤ k
-  pub inside : place ≤ k
+pub record Looking (ids words : List ℕ) (p d : ℕ) (place : Option ℕ) (most j : ℕ) : Type 0 where
   pub from : d ≤ most
-  pub farther : place < k → d < row_distance (get_or xs (b + place) 0)
-  pub absent : (i : ℕ) → i < j → get_or xs (b + i) 0 ≢ 0 → get_or xs (a + i) 0 ≢ p
+  pub noted : (r : ℕ) → place ≡ Some r → (r < length words) × (d < row_distance (get_or words r 0))
+  pub absent : (i : ℕ) → i < j → get_or words i 0 ≢ 0 → get_or ids i 0 ≢ p
 
-module _ {xs : List ℕ} {a b k p d : ℕ} where
-  pub looking_none : Looking xs a b k p d k d 0
-  looking_none =
-      record { low = omega arith; inside = omega arith; from = omega arith; farther = λ h. absurd (omega arith); absent = λ i h. absurd (omega arith) }
+module _ {ids words : List ℕ} {p d : ℕ} {place : Option ℕ} {most j : ℕ} (l : Looking ids words p d place most j) (h : j < length words)
+    (other : get_or words j 0 ≢ 0 → get_or ids j 0 ≢ p) where
+  absent_more : (i : ℕ) → i < j + 1 → get_or words i 0 ≢ 0 → get_or ids i 0 ≢ p
+  absent_more i m = elim (ℕ_discrete i j) [ yes e ↦ rw e other | no n ↦ l.absent i (omega arith) ]
 
-  module _ {place most j : ℕ} (l : Looking xs a b k p d place most j) (h : j < k) (other : get_or xs (b + j) 0 ≢ 0 → get_or xs (a + j) 0 ≢ p) where
-    absent_more : (i : ℕ) → i < j + 1 → get_or xs (b + i) 0 ≢ 0 → get_or xs (a + i) 0 ≢ p
-    absent_more i m = elim (ℕ_discrete i j) [ yes e ↦ rw e other | no n ↦ l.absent i (omega arith) ]
+  pub looking_farther : {far : ℕ} → far ≡ row_distance (get_or words j 0) → most < far → Looking ids words p d (Some j) far (j + 1)
+  looking_farther e m =
+      record { from = omega (arith, l.from); noted = λ r q. let s : r ≡ j = cc in rw s (omega arith, omega (arith, l.from)); absent = absent_more }
 
-    pub looking_farther : (far : ℕ) → far ≡ row_distance (get_or xs (b + j) 0) → most < far → Looking xs a b k p d j far (j + 1)
-    looking_farther far e m =
-        record { low = omega arith; inside = omega arith; from = omega (arith, l.from); farther = λ _. omega (arith, l.from); absent = absent_more }
-
-    pub looking_on : Looking xs a b k p d place most (j + 1)
-    looking_on = record { low = omega arith; inside = l.inside; from = l.from; farther = l.farther; absent = absent_more }
-
-  pub looked_for : {place most j : ℕ} → Looking xs a b k p d place most j → k ≤ j → PlaceFor xs a b k p d place
-  looked_for l h = record { most = l.inside; farther = l.farther; absent = λ _ i m. l.absent i (omega arith) }
-
-  pub place_none : PlaceFor xs a b k p d k
-  place_none = record { most = omega arith; farther = λ h. absurd (omega arith); absent = λ h. absurd (omega arith) }
+  pub looking_on : Looking ids words p d place most (j + 1)
+  looking_on = record { from = l.from; noted = l.noted; absent = absent_more }
 
 -- a sum with one term that is less
 pub total_less : (f h : ℕ → ℕ) (v n : ℕ) → v < n → h v < f v → ((x : ℕ) → x < n → x ≢ v → h x ≡ f x) → total h n < total f n
@@ -79,32 +70,51 @@ total_less f h v n l a e =
           (omega arith),
     )
 
--- the lockers at the first places of a row with distances below l
-abbrev pub tally_of : List ℕ → List ℕ → ℕ → ℕ → ℕ → ℕ → ℕ
-tally_of P xs a b l j = sum_over (λ i. ltb (row_distance (get_or xs (b + i) 0)) l) (λ i. lockers P (get_or xs (a + i) 0)) j
+-- the tally is that of the lockers at the first j places of a row with distances below l
+pub record Tallied (P ids words : List ℕ) (l j tally : ℕ) : Type 0 where
+  pub is : tally ≡ sum_over (λ i. ltb (row_distance (get_or words i 0)) l) (λ i. lockers P (get_or ids i 0)) j
 
-module _ (P xs : List ℕ) (a b l : ℕ) where
-  pub tally_none : tally_of P xs a b l 0 ≡ 0
+module _ {P ids words : List ℕ} {l : ℕ} where
+  pub tallied_none : Tallied P ids words l 0 0
   unfolding total
-  tally_none = refl
+  tallied_none = record { is = refl }
 
-  abbrev weight : ℕ → ℕ
-  weight i = weighed (ltb (row_distance (get_or xs (b + i) 0)) l) (lockers P (get_or xs (a + i) 0))
+  module _ {j tally : ℕ} (t : Tallied P ids words l j tally) where
+    next : (x : Bool) → ltb (row_distance (get_or words j 0)) l ≡ x → Tallied P ids words l (j + 1) (tally + weighed x (lockers P (get_or ids j 0)))
+    next x e =
+        record {
+          is =
+              omega (
+                arith,
+                t.is,
+                total_next (λ i. weighed (ltb (row_distance (get_or words i 0)) l) (lockers P (get_or ids i 0))) j,
+                ap (λ t. weighed t (lockers P (get_or ids j 0))) e,
+              );
+        }
 
-  module _ (j far : ℕ) (e : far ≡ row_distance (get_or xs (b + j) 0)) where
-    pub tally_more : far < l → tally_of P xs a b l (j + 1) ≡ tally_of P xs a b l j + lockers P (get_or xs (a + j) 0)
-    tally_more h =
-        omega (arith, total_next weight j, ap (λ t. weighed t (lockers P (get_or xs (a + j) 0))) (lt-ltb (row_distance (get_or xs (b + j) 0)) l (omega arith)))
+    module _ {far : ℕ} (e : far ≡ row_distance (get_or words j 0)) where
+      pub tallied_more : far < l → Tallied P ids words l (j + 1) (tally + lockers P (get_or ids j 0))
+      tallied_more h = next true (lt-ltb (row_distance (get_or words j 0)) l (omega arith))
 
-    pub tally_same : l ≤ far → tally_of P xs a b l (j + 1) ≡ tally_of P xs a b l j
-    tally_same h =
-        omega (arith, total_next weight j, ap (λ t. weighed t (lockers P (get_or xs (a + j) 0))) (le-ltb (row_distance (get_or xs (b + j) 0)) l (omega arith)))
+      pub tallied_same : l ≤ far → Tallied P ids words l (j + 1) tally
+      tallied_same h = record { is = omega (arith, (next false (le-ltb (row_distance (get_or words j 0)) l (omega arith))).is) }
 
-  pub tally_upto : (j k : ℕ) → j ≤ k → tally_of P xs a b l j ≤ tally_of P xs a b l k
-  tally_upto j k h = total_upto weight j k h
-
--- the tally of node u's row, whose number is w in the code
-pub tally_closed : (P xs : List ℕ) (n k u l w j tally : ℕ) → w ≡ u → j ≤ k → tally ≡ tally_of P xs (n + w * k) (n + n * k + w * k) l j → k ≤ tally
-    → Closed P n xs k u l
-tally_closed P xs n k u l w j tally e h t full =
-    record { enough = rw e at (let all : k ≤ tally_of P xs (n + w * k) (n + n * k + w * k) l k = omega (arith, t, full, tally_upto P xs (n + w * k) (n + n * k + w * k) l j k h) in all) }
+-- enough lockers stand in node u's row
+pub tallied_closed : {P ids words xs : List ℕ} {n k u l j tally : ℕ} → Tallied P ids words l j tally → ids ≡ row_ids n k xs u → words ≡ row_words n k xs u
+    → j ≤ length words → k ≤ tally → Closed P n xs k u l
+tallied_closed {P} {ids} {words} {xs} {n} {k} {u} {l} {j} t p q h full =
+    let low : j ≤ k = omega (arith, ap length q, length-take k (drop (words_base n k + u * k) xs)) in
+    record {
+      enough =
+          omega (
+            arith,
+            t.is,
+            full,
+            total_same (λ i. weighed (is_below n k xs u l i) (lockers P (id_at n k xs u i))) (λ i. weighed (ltb (row_distance (get_or words i 0)) l) (lockers P (get_or ids i 0))) j
+                (λ i m.
+                let a : get_or ids i 0 ≡ id_at n k xs u i = rw p (mid_at (n + u * k) k xs i (omega arith)) in
+                let b : get_or words i 0 ≡ word_at n k xs u i = rw q (mid_at (words_base n k + u * k) k xs i (omega arith)) in
+                rw (a, b) refl),
+            total_upto (λ i. weighed (is_below n k xs u l i) (lockers P (id_at n k xs u i))) j k low,
+          );
+    }

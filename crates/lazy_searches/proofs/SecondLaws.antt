@@ -26,11 +26,11 @@ use Rattle.network.proofs.Totals.{total_same, sum_le, sum_different}
 use Rattle.expansion.specs.Queue.{LeastDistance, PushedAt, PoppedAt, key_of}
 use Rattle.expansion.specs.Tags.{tag_of, tag_node, tag_parent}
 use Rattle.expansion.specs.Area.{Kept}
-use Rattle.lazy_searches.specs.Second.{row_distance, point_of, beside_of, far_of, words_base, second_base, second_queue, id_at, word_at, Source, Second, SecondSound, spread, work, PlaceFor, CanAdmit, OfferedSecond, Admitted, Advanced, is_below, Closed}
+use Rattle.lazy_searches.specs.Second.{row_distance, point_of, beside_of, far_of, words_base, second_base, second_queue, row_ids, row_words, id_at, word_at, Source, Second, SecondSound, spread, work, CanTake, CanAdmit, OfferedSecond, Admitted, Advanced, is_below, Closed}
 use Rattle.searches.proofs.Beaten.{Part, part_marked}
 use Rattle.expansion.proofs.TagLaws.{no_later_key}
 use Rattle.expansion.proofs.AreaLaws.{kept_same}
-use Rattle.network.proofs.Lends.{row_fits}
+use Rattle.network.proofs.Lends.{row_fits, mid_length, mid_at}
 use Rattle.lazy_searches.proofs.RowLaws.{same_place, word_suc, word_below, total_less}
 
 -- what is sound for some marks is for more
@@ -152,8 +152,13 @@ module _ {g : Network} {xs : List ℕ} {k len p u d : ℕ} where
         there M o = record { inside = o.inside; point = o.point; walk = rw (add_comm d w) (step (ok.returns r) o.walk) }
 
 -- ---- Taking a place: p, at distance d, at place i of u's row.
-module _ {g : Network} {xs : List ℕ} {k len p u d i : ℕ} (c : CanAdmit g xs k len p u d) (f : PlaceFor xs (node_count g + u * k) (words_base (node_count g) k + u * k) k p d i)
-    (low : i < k) where
+module _ {g : Network} {xs : List ℕ} {k len p u d i : ℕ} (c : CanAdmit g xs k len p u d) (f : CanTake (row_ids (node_count g) k xs u) (row_words (node_count g) k xs u) p d i) where
+  size : length (row_words (node_count g) k xs u) ≡ k
+  size = mid_length (words_base (node_count g) k + u * k) k xs (omega (arith, row_fits u (node_count g) k c.inside, c.second.fits))
+
+  low : i < k
+  low = omega (arith, f.low, size)
+
   abbrev n : ℕ
   n = node_count g
 
@@ -166,8 +171,8 @@ module _ {g : Network} {xs : List ℕ} {k len p u d i : ℕ} (c : CanAdmit g xs 
   abbrev taken : List ℕ
   taken = set (set xs ids p) words (d + 1)
 
-  row : u * k + k ≤ n * k
-  row = row_fits u n k c.inside
+  row : (u * k + k ≤ n * k) × (i < k)
+  row = (row_fits u n k c.inside, low)
 
   fits : words < length xs
   fits = omega (arith, row, c.second.fits)
@@ -202,7 +207,8 @@ module _ {g : Network} {xs : List ℕ} {k len p u d i : ℕ} (c : CanAdmit g xs 
   new : (j : ℕ) → j < k → j ≢ i → word_at n k taken u j ≢ 0 → id_at n k taken u j ≢ p
   new j l m w e =
       let ne : (u ≡ u) × (j ≡ i) → ⊥ = λ s. m s.1 in
-      f.absent low j l (rw (word_other u j c.inside l ne) at w) (sym (id_other u j c.inside l ne) ∙ e)
+      f.absent j (omega (arith, size)) (rw (← mid_at (words_base n k + u * k) k xs j l) at (rw (word_other u j c.inside l ne) at w))
+      (mid_at (n + u * k) k xs j l ∙ sym (id_other u j c.inside l ne) ∙ e)
 
   pub taken_second : Second g taken k len
   taken_second =
@@ -259,7 +265,7 @@ module _ {g : Network} {xs : List ℕ} {k len p u d i : ℕ} (c : CanAdmit g xs 
   pub taken_less : spread n k taken < spread n k xs
   taken_less =
       total_less (λ x. row_distance (get_or xs (words_base n k + x) 0)) (λ x. row_distance (get_or taken (words_base n k + x) 0)) (u * k + i) (n * k)
-      (omega (arith, row)) (rw (at taken, at xs, word_here, add-one d, word_suc d) (f.farther low))
+      (omega (arith, row)) (rw (at taken, at xs, word_here, add-one d, word_suc d) (rw (mid_at (words_base n k + u * k) k xs i low) at f.farther))
       (λ x h m. ap row_distance (other (words_base n k + x) (omega (arith, row)) (omega arith)))
     where
       at : (l : List ℕ) → get_or l (words_base n k + (u * k + i)) 0 ≡ get_or l words 0

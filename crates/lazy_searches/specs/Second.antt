@@ -3,7 +3,7 @@
 -- Word of a place: 0 while it is empty, else its distance plus one. An entry of the queue: a distance, and as its tag the point and the node.
 -- (No sentence of document 01: rows only hold sums of walks, and nothing is promised of how many there are.)
 -- Assumes nothing.
-use Rattle.std.specs.Prelude.{ℕ, suc, ◌+◌, ◌*◌, ◌%◌, ◌≤◌, ◌<◌, ◌≡◌, ◌≢◌, Bool, true, List, ltb, length, get_or, drop}
+use Rattle.std.specs.Prelude.{ℕ, suc, ◌+◌, ◌*◌, ◌%◌, ◌≤◌, ◌<◌, ◌≡◌, ◌≢◌, Bool, true, Option, None, Some, List, ltb, length, get_or, take, drop}
 use Rattle.network.specs.Network.{Network, node_count, arc_count}
 use Rattle.network.specs.Accepted.{Accepted}
 use Rattle.network.specs.Walk.{Walk}
@@ -74,12 +74,23 @@ spread n k xs = total (λ i. row_distance (get_or xs (words_base n k + i) 0)) (n
 abbrev pub work : Network → ℕ → List ℕ → ℕ → ℕ
 work g k xs len = spread (node_count g) k xs * (arc_count g + 2) + len
 
--- the place that p, at distance d, takes in a row, whose ids start at word a and whose distances at word b: an empty one or one that is farther,
--- where p is not in the row; or k
-pub record PlaceFor (xs : List ℕ) (a b k p d r : ℕ) : Type 0 where
-  pub most : r ≤ k
-  pub farther : r < k → d < row_distance (get_or xs (b + r) 0)
-  pub absent : r < k → (j : ℕ) → j < k → get_or xs (b + j) 0 ≢ 0 → get_or xs (a + j) 0 ≢ p
+-- the parts of the words that are node u's row: its ids, and its words
+abbrev pub row_ids : ℕ → ℕ → List ℕ → ℕ → List ℕ
+row_ids n k xs u = take k (drop (n + u * k) xs)
+
+abbrev pub row_words : ℕ → ℕ → List ℕ → ℕ → List ℕ
+row_words n k xs u = take k (drop (words_base n k + u * k) xs)
+
+-- p, at distance d, can take place r of a row: the place is empty or farther, and p is not in the row
+pub record CanTake (ids words : List ℕ) (p d r : ℕ) : Type 0 where
+  pub low : r < length words
+  pub farther : d < row_distance (get_or words r 0)
+  pub absent : (j : ℕ) → j < length words → get_or words j 0 ≢ 0 → get_or ids j 0 ≢ p
+
+-- the place that p takes, if it takes one
+abbrev pub PlaceFor : List ℕ → List ℕ → ℕ → ℕ → Option ℕ → Type 0
+PlaceFor ids words p d None = Unit {0}
+PlaceFor ids words p d (Some r) = CanTake ids words p d r
 
 -- point p, at distance d from node u, can be put into u's row and offered to u's neighbours
 pub record CanAdmit (g : Network) (xs : List ℕ) (k len p u d : ℕ) : Type 0 where

@@ -1,8 +1,7 @@
 // Lazy with extended pruning: source 000, Fig. 13. An expansion from the site that verifies each point that it comes to, beside a second expansion
 // from the points verified so far. It stops behind a node with k of their lockers strictly nearer to it than the site. Document 01, 'What a site
-// receives'.
+// receives'. s, n and the areas' first words stay parameters of their own, as in expansion's step.rt.
 ghost use Rattle.std.specs.Prelude.{◌≡◌, true, ◌+◌, ◌≤◌, ◌<◌, length};
-ghost use Rattle.network.specs.Network.{network};
 ghost use Rattle.network.specs.Points.{marked};
 ghost use Rattle.expansion.specs.declared.verify.Site.TheVariants.{One};
 ghost use Rattle.expansion.specs.Visited.{CanVisit};
@@ -13,9 +12,10 @@ ghost use Rattle.lazy_searches.specs.LazyEp.{CanExtend, CanSettle, SettledFound,
 use crate::second;
 use expansion::step::Taken;
 use expansion::verify::Site;
-use expansion::{labels, step, verify, words};
-use network::arcs::wide;
+use expansion::{labels, step, verify};
+use network::Network;
 use network::distance::Distance;
+use network::points::lockers_at;
 use searches::flags;
 
 // Whether an entry of node v at label l is taken back: k lockers are nearer to v than l, or nearer to the settled node u that put it in than u's own
@@ -45,9 +45,7 @@ fn taken_back(
 
 // Verifies point v, and flags it where it is listed.
 fn verify_point(
-    starts: &[u32],
-    neighbours: &[u32],
-    weights: &[u32],
+    g: &Network<'_>,
     points: &[u8],
     f: &mut [u32],
     inner: usize,
@@ -55,23 +53,20 @@ fn verify_point(
     v: u32,
     q: u32,
 )
-    requires can_visit { CanVisit (network starts.now neighbours.now weights.now) points.now f.old inner v (One q) }
-    requires starts_len_bound { (length starts.now ≤ inner + 1) × (marked points.now v ≡ true) }
-    ensures { PointVerified (network starts.now neighbours.now weights.now) points.now q k v f.old f.new }
+    requires can_visit { CanVisit g.now points.now f.old inner v (One q) }
+    requires starts_len_bound { (length g.now.starts ≤ inner + 1) × (marked points.now v ≡ true) }
+    ensures { PointVerified g.now points.now q k v f.old f.new }
 {
     let site = Site::One { q };
-    let yes = verify::verify(starts, neighbours, weights, points, f, inner, v, site, k);
+    let yes = verify::verify(g, points, f, inner, v, site, k);
     if yes {
-        let at = wide(v);
-        f[at] = 1;
+        f[v as usize] = 1;
     }
 }
 
 // Comes to node v: where it is a point, it is verified, and spreads from its own row. Returns the second queue's length then.
 fn discover(
-    starts: &[u32],
-    neighbours: &[u32],
-    weights: &[u32],
+    g: &Network<'_>,
     points: &[u8],
     f: &mut [u32],
     inner: usize,
@@ -80,33 +75,19 @@ fn discover(
     v: u32,
     q: u32,
 ) -> usize
-    requires { CanDiscoverEp (network starts.now neighbours.now weights.now) points.now f.old inner k len v q }
-    ensures { DiscoveredEp (network starts.now neighbours.now weights.now) points.now q k v inner f.old f.new len result }
+    requires { CanDiscoverEp g.now points.now f.old inner k len v q }
+    ensures { DiscoveredEp g.now points.now q k v inner f.old f.new len result }
 {
-    let at = wide(v);
-    let mark = points[at];
-    if mark == 0 {
+    if lockers_at(points, v) == 0 {
         return len;
     }
-    verify_point(starts, neighbours, weights, points, f, inner, k, v, q);
-    second::admit(
-        starts,
-        neighbours,
-        weights,
-        &mut f[..inner],
-        k,
-        len,
-        v,
-        v,
-        0,
-    )
+    verify_point(g, points, f, inner, k, v, q);
+    second::admit(g, &mut f[..inner], k, len, v, v, 0)
 }
 
 // Settles nodes by rising distance from the site, and verifies the points among them.
 fn settle_found(
-    starts: &[u32],
-    neighbours: &[u32],
-    weights: &[u32],
+    g: &Network<'_>,
     points: &[u8],
     s: &mut [u32],
     inner: usize,
@@ -114,68 +95,56 @@ fn settle_found(
     q: u32,
     k: usize,
 )
-    requires { CanSettle (network starts.now neighbours.now weights.now) points.now s.old inner outer q k }
-    ensures { SettledFound (network starts.now neighbours.now weights.now) points.now q k s.old s.new }
+    requires { CanSettle g.now points.now s.old inner outer q k }
+    ensures { SettledFound g.now points.now q k s.old s.new }
 {
-    let n = starts.len() - 1;
+    let n = g.nodes();
     step::start(s, outer, n, q);
     let mut settled = 0;
     let mut len = 1;
     let mut waiting = 0;
-    while let Taken::Node {
-        label,
-        node,
-        parent,
-        left,
-    } = step::next(s, outer, n, len)
+    while let Some(
+        Taken {
+            label,
+            node,
+            parent,
+            left,
+        },
+    ) = step::next(s, outer, n, len)
     {
         len = left;
-        let rows = &mut s[..inner];
-        waiting = second::advance(starts, neighbours, weights, rows, k, waiting, label);
+        waiting = second::advance(g, &mut s[..inner], k, waiting, label);
         if taken_back(points, s, outer, n, k, node, label, parent) {
             continue;
         }
-        waiting = discover(
-            starts,
-            neighbours,
-            weights,
-            points,
-            &mut s[..outer],
-            inner,
-            k,
-            waiting,
-            node,
-            q,
-        );
+        waiting = discover(g, points, &mut s[..outer], inner, k, waiting, node, q);
         step::settle(s, outer, n, settled, node, label);
         settled += 1;
         if second::closed(points, s, n, k, node, label) {
             continue;
         }
-        len = step::open(starts, neighbours, weights, s, outer, left, node, label);
+        len = step::open(g, s, outer, left, node, label);
     }
 }
 
 // The points that list a site, ascending, into the answers. Returns how many. All words are 0 before and after.
 pub fn lazy_ep(
-    starts: &[u32],
-    neighbours: &[u32],
-    weights: &[u32],
+    g: &Network<'_>,
     points: &[u8],
     s: &mut [u32],
     answers: &mut [u32],
     q: u32,
     k: usize,
 ) -> usize
-    requires { CanExtend (network starts.now neighbours.now weights.now) points.now s.old answers.old q k }
-    ensures { SearchLeft (network starts.now neighbours.now weights.now) points.now q k s.old s.new answers.old answers.new result }
+    requires { CanExtend g.now points.now s.old answers.old q k }
+    ensures { SearchLeft g.now points.now q k s.old s.new answers.old answers.new result }
 {
-    let n = starts.len() - 1;
+    let n = g.nodes();
     let area = 4 * n;
     let outer = s.len() - area;
     let inner = outer - area;
-    settle_found(starts, neighbours, weights, points, s, inner, outer, q, k);
+    settle_found(g, points, s, inner, outer, q, k);
     let size = flags::write_found(s, answers, 0, n);
-    words::zero(s);
+    s.fill(0);
     size
 }

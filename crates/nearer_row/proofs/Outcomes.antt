@@ -7,39 +7,40 @@ use mathlib.Core.Logic.{◌≢◌}
 use mathlib.Core.List.{List, []}
 use native.Mathlib.Decide.{ℕ_discrete}
 use native.Mathlib.Omega.{arith}
-use lib.Dec.{leb}
-use lib.ListN.{length, get_or}
+use lib.ListN.{length}
 use borrow.Author.Tests.{eq-eqb, ne_eqb}
 use Rattle.network.specs.Network.{Network, node_count}
 use Rattle.network.specs.Rows.{row_entries}
+use Rattle.network.specs.Refusal.{number_of}
+use Rattle.network.specs.declared.refusal.Refusal.{Refusal}
+use Rattle.network.specs.Check.{network_number}
+use Rattle.network.proofs.NumberZero.{number_zero}
 use Rattle.network.proofs.Lends.{row_fits}
-use Rattle.conditions.proofs.NotMet.{first_zero, node_ready, table_ready}
+use Rattle.conditions.proofs.NotMet.{first_zero, number_some, node_ready, table_ready}
 use Rattle.conditions.specs.declared.answers.RowPart.{RowPart}
 use Rattle.nearer_row.specs.Nearer.{own_nearer, nearer_row, row_number, row_outcome}
 use Rattle.nearer_row.specs.Part.{nearer_part, refused_part, part_outcome, named_array, named_part, PartReturned, PartIsRow}
 use Rattle.nearer_row.specs.Work.{BothHaveRow}
 
-module _ (K i : ℕ) (own rival : List ℕ) where
-  -- the comparison of the first entries of both rows
-  pub own_nearer_is : {mine theirs : List ℕ} → mine ≡ row_entries K i own → theirs ≡ row_entries K i rival
-      → leb (get_or mine 0 0) (get_or theirs 0 0) ≡ own_nearer K i own rival
-  unfolding own_nearer
-  own_nearer_is e f = rw (e, f)
+-- an accepted network has few nodes; the number stands in front, so that `grind` finds the network of a passed test
+pub network_passed : (g : Network) → 0 ≡ network_number g → (network_number g ≡ 0) × (1 ≤ length g.starts) × (node_count g ≤ 65535)
+network_passed g e = let a = (number_zero g).0 (sym e) in (sym e, omega (arith, a.some), a.few)
 
+module _ (K i : ℕ) (own rival : List ℕ) where
   -- the clauses of `nearer_row` and of `nearer_part`: the own row is nearer or as near; the rival's is nearer
-  pub row_own : own_nearer K i own rival ≡ true → nearer_row K i own rival ≡ row_entries K i own
+  row_own : own_nearer K i own rival ≡ true → nearer_row K i own rival ≡ row_entries K i own
   unfolding nearer_row
   row_own e = rw e
 
-  pub row_rival : own_nearer K i own rival ≡ false → nearer_row K i own rival ≡ row_entries K i rival
+  row_rival : own_nearer K i own rival ≡ false → nearer_row K i own rival ≡ row_entries K i rival
   unfolding nearer_row
   row_rival e = rw e
 
-  pub part_own : own_nearer K i own rival ≡ true → nearer_part K i own rival ≡ record { number = 0; rival = 0; start = i * K; length = K }
+  part_own : own_nearer K i own rival ≡ true → nearer_part K i own rival ≡ record { number = 0; rival = 0; start = i * K; length = K }
   unfolding nearer_part
   part_own e = rw e
 
-  pub part_rival : own_nearer K i own rival ≡ false → nearer_part K i own rival ≡ record { number = 0; rival = 1; start = i * K; length = K }
+  part_rival : own_nearer K i own rival ≡ false → nearer_part K i own rival ≡ record { number = 0; rival = 1; start = i * K; length = K }
   unfolding nearer_part
   part_rival e = rw e
 
@@ -133,19 +134,23 @@ part_returned : {g : Network} {junction K : ℕ} {ownIds own rivalIds rival : Li
     → PartReturned g junction K ownIds own rivalIds rival r
 part_returned {g} {junction} {K} {ownIds} {own} {rivalIds} {rival} e = rw e (part_is_row g junction K ownIds own rivalIds rival)
 
--- what a call with this number returns
-module _ (g : Network) (junction K : ℕ) (ownIds own rivalIds rival : List ℕ) (x : ℕ) (is : x ≡ row_number g junction K ownIds own rivalIds rival) where
-  pub row_fit : x ≡ 0 → BothHaveRow K junction own rival
-  row_fit z = row_ready g junction K ownIds own rivalIds rival (sym is ∙ z)
+-- what the calls return: behind no condition that is met, and behind one that is
+module _ (g : Network) (junction K : ℕ) (ownIds own rivalIds rival : List ℕ) where
+  pub row_fit : 0 ≡ row_number g junction K ownIds own rivalIds rival → BothHaveRow K junction own rival
+  row_fit z = row_ready g junction K ownIds own rivalIds rival (sym z)
 
-  pub row_refused : x ≢ 0 → [] ≡ row_outcome g junction K ownIds own rivalIds rival
-  row_refused n = sym (refused_row g junction K ownIds own rivalIds rival (λ z. n (is ∙ z)))
+  pub row_accepted : 0 ≡ row_number g junction K ownIds own rivalIds rival → nearer_row K junction own rival ≡ row_outcome g junction K ownIds own rivalIds rival
+  row_accepted z = sym (accepted_row g junction K ownIds own rivalIds rival (sym z))
 
-  pub row_accepted : x ≡ 0 → nearer_row K junction own rival ≡ row_outcome g junction K ownIds own rivalIds rival
-  row_accepted z = sym (accepted_row g junction K ownIds own rivalIds rival (sym is ∙ z))
+  pub part_accepted : 0 ≡ row_number g junction K ownIds own rivalIds rival → PartReturned g junction K ownIds own rivalIds rival (nearer_part K junction own rival)
+  part_accepted z = part_returned (sym (accepted_part g junction K ownIds own rivalIds rival (sym z)))
 
-  pub part_refused : x ≢ 0 → PartReturned g junction K ownIds own rivalIds rival (refused_part x)
-  part_refused n = part_returned (ap refused_part is ∙ sym (refused_part_lem g junction K ownIds own rivalIds rival (λ z. n (is ∙ z))))
+  module _ (refusal : Refusal) (is : number_of refusal ≡ row_number g junction K ownIds own rivalIds rival) where
+    some_number : row_number g junction K ownIds own rivalIds rival ≢ 0
+    some_number z = omega (arith, number_some refusal, is, z)
 
-  pub part_accepted : {r : RowPart} → x ≡ 0 → r ≡ nearer_part K junction own rival → PartReturned g junction K ownIds own rivalIds rival r
-  part_accepted z e = part_returned (e ∙ sym (accepted_part g junction K ownIds own rivalIds rival (sym is ∙ z)))
+    pub row_refused : [] ≡ row_outcome g junction K ownIds own rivalIds rival
+    row_refused = sym (refused_row g junction K ownIds own rivalIds rival some_number)
+
+    pub part_refused : PartReturned g junction K ownIds own rivalIds rival (refused_part (number_of refusal))
+    part_refused = part_returned (ap refused_part is ∙ sym (refused_part_lem g junction K ownIds own rivalIds rival some_number))

@@ -1,6 +1,6 @@
 -- The arc at place j of a node's two parts, which a loop over them was handed as xs and ys.
 -- Assumes nothing.
-use Prim.Native.Nat.{ℕ, ◌+◌, ◌<◌}
+use Prim.Native.Nat.{ℕ, ◌<◌}
 use mathlib.Core.Path.{◌≡◌, ap}
 use mathlib.Core.List.{List}
 use native.Mathlib.Omega.{arith}
@@ -9,13 +9,10 @@ use Rattle.network.specs.Network.{Network, Arc, node_count, neighbours_of, weigh
 use Rattle.network.specs.Accepted.{Accepted}
 use Rattle.network.proofs.NodeArcs.{parts_even}
 use Rattle.network.proofs.Ranges.{arc_at}
-use Rattle.network.proofs.NumberZero.{accepted_ranges, accepted_searchable}
+use Rattle.network.proofs.NumberZero.{accepted_ranges, node_parts}
 
 pub weights_even : {g : Network} → Accepted g → (u : ℕ) → u < node_count g → length (neighbours_of g u) ≡ length (weights_of g u)
-weights_even {g} ok u h =
-    let p = accepted_searchable ok in
-    let l : u + 1 < length g.starts = omega arith in
-    parts_even (p.neighbours.part u l) (p.weights.part u l)
+weights_even ok u h = let p = node_parts ok h in parts_even p.0 p.1
 
 pub record ArcAt (g : Network) (u j : ℕ) (xs ys : List ℕ) : Type 0 where
   pub low : j < length (neighbours_of g u)

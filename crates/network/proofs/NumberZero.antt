@@ -11,7 +11,7 @@ use borrow.Author.Tests.{eqb-true, eqb-false, ltb-false, not-false, eq-eqb}
 use Rattle.network.specs.Count.{any}
 use Rattle.network.specs.Network.{Network, Arc, node_count, start_of, target, weight_of, neighbours_of, weights_of}
 use Rattle.network.specs.Accepted.{Accepted}
-use Rattle.network.specs.Parts.{Searchable}
+use Rattle.network.specs.Parts.{HasPart, Searchable}
 use Rattle.network.specs.Check.{bad_size, bad_starts, bad_neighbour_at, bad_part, bad_neighbours_of, bad_neighbours, bad_weight_at, bad_weights, is_arc_at, has_arc, lacks_return_at, lacks_return_of, lacks_return, network_number}
 use Rattle.network.proofs.Tests.{and_parts, and_intro, or_parts, any_none, none_any, one_any, any_passes}
 use Rattle.network.proofs.NodeArcs.{arc_source}
@@ -170,3 +170,10 @@ number_zero g = (λ e. none_met_accepted (zero_none_met g e), λ ok. none_met_ze
 -- an accepted network has a part of each array for each node, and its arcs can be looked for
 pub accepted_searchable : {g : Network} → Accepted g → Searchable g
 accepted_searchable ok = searchable (omega (arith, ok.some)) (accepted_ranges ok) (accepted_none_met ok).neighbours
+
+-- one node's part of each: what `neighbours_of` and `weights_of` require
+pub node_parts : {g : Network} {i : ℕ} → Accepted g → i < node_count g → HasPart g.starts g.neighbours i × HasPart g.starts g.weights i
+node_parts {g} {i} ok h =
+    let p = accepted_searchable ok in
+    let l : i + 1 < length g.starts = omega arith in
+    (p.neighbours.part i l, p.weights.part i l)

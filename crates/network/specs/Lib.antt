@@ -4,6 +4,7 @@
 pub mod Count
 pub mod Network
 pub mod Check
+pub mod Refusal
 pub mod Accepted
 pub mod Walk
 pub mod Distance

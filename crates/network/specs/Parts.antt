@@ -14,12 +14,6 @@ pub record Parts (starts entries : List ℕ) : Type 0 where
   pub some : 1 ≤ length starts
   pub part : (i : ℕ) → i + 1 < length starts → HasPart starts entries i
 
--- the place of x in a list that rises: what stands before it is less, and what stands from it on is not
-pub record LowerBound (xs : List ℕ) (x place : ℕ) : Type 0 where
-  pub inside : place ≤ length xs
-  pub less : (j : ℕ) → j < place → get_or xs j 0 < x
-  pub rest : (j : ℕ) → place ≤ j → j < length xs → x ≤ get_or xs j 0
-
 -- an arc between two nodes can be looked for: numbers 1 to 3 are not met
 pub record Searchable (g : Network) : Type 0 where
   pub neighbours : Parts g.starts g.neighbours

@@ -2,8 +2,8 @@
 ghost use Rattle.std.specs.Prelude.{◌≡◌};
 ghost use Rattle.network.specs.Distance.{NONE};
 
-// A distance, or NONE.
-#[derive(Clone, Copy)]
+// A distance, or NONE. No Option: document 01 has NONE as 'an associated constant of the distance', and an answer array holds a distance as one word.
+#[derive(Clone, Copy, Debug, PartialEq, Eq)]
 pub struct Distance {
     pub value: u32,
 }

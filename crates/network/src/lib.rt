@@ -1,7 +1,11 @@
-// The network: the distance type, a node's arcs as parts of the caller's arrays, its lockers, and the network check.
+// The network: its three arrays as they are lent, a node's arcs as parts of them, its lockers, the distance type, and the network check.
 #![tactic(auto)]
 
 pub mod arcs;
 pub mod check;
 pub mod distance;
 pub mod points;
+pub mod refusal;
+
+pub use arcs::Network;
+pub use refusal::Refusal;

@@ -1,74 +1,75 @@
-// Writing to standard output: words, numbers, lists and answers.
-ghost use Rattle.std.specs.Prelude.{◌<◌};
+// How the programs write entries, lists and answers.
+ghost use Rattle.std.specs.Iterator.{IsFinite};
 
+use crate::answers::Refused;
 use network::distance::Distance;
-use overlap::Verdict;
-use std::io;
-
-pub fn put(rt: &impl Print, words: &[u8]) -> io::Result<()> {
-    rt.write_all(words)
-}
-
-// Words and a number behind them.
-pub fn put_number(rt: &impl Print, words: &[u8], number: u32) -> io::Result<()> {
-    put(rt, words)?;
-    rt.print(number)
-}
+use std::fmt;
 
 // A distance or an id, NONE by its name.
-pub fn put_entry(rt: &impl Print, entry: u32) -> io::Result<()> {
-    if entry == Distance::NONE {
-        put(rt, b"NONE")
-    } else {
-        put_number(rt, b"", entry)
+#[derive(Clone, Copy, Debug, PartialEq, Eq)]
+pub struct Entry(pub u32);
+
+impl fmt::Display for Entry {
+    fn fmt<W: fmt::Write>(&self, f: &mut fmt::Formatter<W>) -> fmt::Result {
+        if self.0 == Distance::NONE {
+            f.write_str("NONE")
+        } else {
+            write!(f, "{}", self.0)
+        }
     }
 }
 
-pub fn put_refusal(rt: &impl Print, number: u32) -> io::Result<()> {
-    put_number(rt, b": refused by ", number)
+// A locker found, as "2 at 7".
+#[derive(Clone, Copy, Debug, PartialEq, Eq)]
+pub struct AtDistance {
+    pub id: u32,
+    pub distance: u32,
 }
 
-// Entry i of a list, with a comma before all but the first.
-fn put_item(rt: &impl Print, list: &[u32; 6], i: usize) -> io::Result<()>
-    requires { i < 6 }
+impl fmt::Display for AtDistance {
+    fn fmt<W: fmt::Write>(&self, f: &mut fmt::Formatter<W>) -> fmt::Result {
+        write!(f, "{} at {}", self.id, self.distance)
+    }
+}
+
+// Items with a comma between each two, or "none".
+pub fn commas<W: fmt::Write, T: fmt::Display + Drop, I: Iterator<Item = T> + Drop>(
+    f: &mut fmt::Formatter<W>,
+    items: I,
+) -> fmt::Result
+    requires can { I.can_next items }
+    requires ends { IsFinite (I.remaining items) }
 {
-    if i > 0 {
-        put(rt, b", ")?;
-    }
-    put_entry(rt, list[i])
-}
-
-// The first entries of an array, `count` of them, as "2, 4", or "none".
-pub fn put_list(rt: &impl Print, list: &[u32; 6], count: usize) -> io::Result<()> {
-    if count == 0 {
-        put(rt, b"none")?;
-    }
-    let mut i = 0;
-    while i < count && i < 6 {
-        put_item(rt, list, i)?;
-        i += 1;
+    let mut items = items;
+    let Some(first) = items.next() else {
+        return f.write_str("none");
+    };
+    write!(f, "{first}")?;
+    for item in items {
+        write!(f, ", {item}")?;
     }
     Ok(())
 }
 
-// The list that a call gave, or the number that refuses it.
-pub fn put_answer(rt: &impl Print, number: u32, list: &[u32; 6], count: usize) -> io::Result<()> {
-    if number == 0 {
-        put(rt, b": ")?;
-        put_list(rt, list, count)
-    } else {
-        put_refusal(rt, number)
+// A list, as "2, 4", or "none".
+#[derive(Clone, Copy, Debug, PartialEq, Eq)]
+pub struct Entries<'a>(pub &'a [u32]);
+
+impl fmt::Display for Entries<'_> {
+    fn fmt<W: fmt::Write>(&self, f: &mut fmt::Formatter<W>) -> fmt::Result {
+        commas(f, self.0.iter().map(|&entry| Entry(entry)))
     }
 }
 
-// Yes or no, or the number that refuses the call, and the line's end.
-pub fn put_verdict(rt: &impl Print, verdict: Verdict) -> io::Result<()> {
-    if verdict.number != 0 {
-        put_refusal(rt, verdict.number)?;
-        put(rt, b"\n")
-    } else if verdict.yes == 1 {
-        put(rt, b": yes\n")
-    } else {
-        put(rt, b": no\n")
+// What a call answers, or the number that refuses it.
+#[derive(Clone, Copy, Debug, PartialEq, Eq)]
+pub struct Answer<T>(pub Result<T, Refused>);
+
+impl<T: fmt::Display> fmt::Display for Answer<T> {
+    fn fmt<W: fmt::Write>(&self, f: &mut fmt::Formatter<W>) -> fmt::Result {
+        match &self.0 {
+            Ok(answer) => write!(f, "{answer}"),
+            Err(refused) => write!(f, "{refused}"),
+        }
     }
 }

@@ -1,14 +1,14 @@
 -- What a call's number 0 leaves: no condition of the call is met.
 -- Assumes nothing.
 use Prim.Native.Nat.{ℕ, ◌≤◌, ◌<◌}
-use mathlib.Core.Path.{◌≡◌, refl}
+use mathlib.Core.Path.{◌≡◌, refl, sym}
 use mathlib.Core.Bool.{Bool, true, false, cond}
 use mathlib.Core.List.{List, []}
 use native.Mathlib.Omega.{arith}
 use lib.Dec.{leb}
 use lib.ListN.{length}
 use borrow.Author.Tests.{leb-false}
-use Rattle.network.specs.Network.{Network, node_count}
+use Rattle.network.specs.Network.{Network, node_count, arc_count}
 use Rattle.network.specs.Accepted.{Accepted}
 use Rattle.network.specs.Check.{network_number}
 use Rattle.network.specs.Points.{lockers, marked}
@@ -211,3 +211,41 @@ table_query_ready g P q k K ids distances scratch answers e =
       room = short_ready (length scratch) (scratch_words g k) c.0;
       places = short_ready (length answers) (node_count g) d.0;
     }
+
+-- ---- What the conditions behind a passed one ask: n, A and m are small. The number stands in front, so that `grind` finds the network of a passed test.
+
+abbrev pub Small : Network → Type 0
+Small g = (1 ≤ length g.starts) × (node_count g ≤ 65535) × (arc_count g ≤ 524288)
+
+small : {g : Network} → Accepted g → Small g
+small a = (omega (arith, a.some), a.few, a.few_arcs)
+
+pub network_passed : (g : Network) → 0 ≡ network_number g → (network_number g ≡ 0) × (Small g)
+network_passed g e = (sym e, small ((number_zero g).0 (sym e)))
+
+pub points_passed : (g : Network) (P : List ℕ) → 0 ≡ network_points_number g P → (network_points_number g P ≡ 0) × (Small g)
+points_passed g P e = (sym e, small (network_points_ready g P (sym e)).0)
+
+pub site_passed : (g : Network) (P : List ℕ) (node : ℕ) → 0 ≡ site_number g P node → (site_number g P node ≡ 0) × (Small g)
+site_passed g P node e = (sym e, small (site_ready g P node (sym e)).0)
+
+pub query_passed : (g : Network) (P : List ℕ) (node k : ℕ) (scratch : List ℕ) → 0 ≡ query_number g P node k scratch → (query_number g P node k scratch ≡ 0) × (Small g)
+query_passed g P node k scratch e = (sym e, small (query_ready g P node k scratch (sym e)).accepted)
+
+pub limited_passed : (g : Network) (P : List ℕ) (q k : ℕ) (scratch answers : List ℕ) → 0 ≡ limited_number g P q k scratch answers
+    → (limited_number g P q k scratch answers ≡ 0) × (Small g)
+limited_passed g P q k scratch answers e = (sym e, small (limited_ready g P q k scratch answers (sym e)).accepted)
+
+pub table_check_passed : (g : Network) (P : List ℕ) (K : ℕ) (ids distances : List ℕ) → 0 ≡ table_check_number g P K ids distances
+    → (table_check_number g P K ids distances ≡ 0) × (Small g) × (K ≤ 17)
+table_check_passed g P K ids distances e = let r = table_check_ready g P K ids distances (sym e) in (sym e, small r.accepted, r.most)
+
+pub table_node_passed : (g : Network) (P : List ℕ) (node K : ℕ) (ids distances : List ℕ) → 0 ≡ table_node_number g P node K ids distances
+    → (table_node_number g P node K ids distances ≡ 0) × (Small g) × (K ≤ 17)
+table_node_passed g P node K ids distances e = let r = (table_node_ready g P node K ids distances (sym e)).1 in (sym e, small r.accepted, r.most)
+
+pub k_passed : (k : ℕ) → 0 ≡ k_number k → (k_number k ≡ 0) × (k ≤ 16)
+k_passed k e = (sym e, (k_ready k (sym e)).1)
+
+pub table_k_passed : (k K : ℕ) → 0 ≡ table_k_number k K → (table_k_number k K ≡ 0) × (k < K)
+table_k_passed k K e = (sym e, (table_k_ready k K (sym e)).1)

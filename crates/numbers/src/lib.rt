@@ -1,318 +1,228 @@
-// The number of each call: the first condition met, or 0. Document 01, 'Numbers of refusal'.
+// The conditions of each call: the first that is met, or none. Document 01, 'Numbers of refusal'. A table's arrays are passed for their lengths, and K
+// before it is known to fit, so there is no `Table` (rows) yet.
 #![tactic(auto)]
 
 ghost use Rattle.std.specs.Prelude.{◌≡◌};
-ghost use Rattle.network.specs.Network.{network};
+ghost use Rattle.network.specs.Refusal.{number};
 ghost use Rattle.numbers.specs.Numbers.{network_points_number, site_number, query_number, distances_number, nearest_number, verify_number, search_number, limited_number, eager_number, table_check_number, build_number, table_node_number, change_number, table_query_number};
 
 use conditions::kind::Kind;
-use network::arcs::wide;
+use network::{Network, Refusal};
 
 // What every call with points tests first: 1 to 5, 6.
-pub fn network_points_number(
-    starts: &[u32],
-    neighbours: &[u32],
-    weights: &[u32],
-    points: &[u8],
-) -> u32
-    ensures { result ≡ network_points_number (network starts.now neighbours.now weights.now) points.now }
+#[tactic(auto, using(conditions::proofs::NotMet::first_met, crate::proofs::Ready::network_passed), unfolding(crate::specs::Numbers::network_points_number))]
+pub fn check_network_points(g: &Network<'_>, points: &[u8]) -> Result<(), Refusal>
+    ensures { number result ≡ network_points_number g.now points.now }
 {
-    let number = network::check::network_number(starts, neighbours, weights);
-    if number != 0 {
-        return number;
-    }
-    conditions::points_number(starts.len() - 1, points)
+    network::check::check(g)?;
+    conditions::check_points(g.nodes(), points)
 }
 
 // The same, and 7: what the calls with points and a node test first.
-fn site_number(starts: &[u32], neighbours: &[u32], weights: &[u32], points: &[u8], node: u32) -> u32
-    ensures { result ≡ site_number (network starts.now neighbours.now weights.now) points.now node }
+#[tactic(auto, using(conditions::proofs::NotMet::first_met, crate::proofs::Ready::points_passed), unfolding(crate::specs::Numbers::site_number))]
+fn check_site(g: &Network<'_>, points: &[u8], node: u32) -> Result<(), Refusal>
+    ensures { number result ≡ site_number g.now points.now node }
 {
-    let number = network_points_number(starts, neighbours, weights, points);
-    if number != 0 {
-        return number;
-    }
-    conditions::node_number(starts.len() - 1, node)
+    check_network_points(g, points)?;
+    conditions::check_node(g.nodes(), node)
 }
 
 // What nearest, lazy and lazy-EP test first: 1 to 5, 6, 7, 9, and 10 of scratch.
-fn query_number(
-    starts: &[u32],
-    neighbours: &[u32],
-    weights: &[u32],
+#[tactic(auto, using(conditions::proofs::NotMet::first_met, crate::proofs::Ready::site_passed, crate::proofs::Ready::k_passed), unfolding(crate::specs::Numbers::query_number))]
+fn check_query(
+    g: &Network<'_>,
     points: &[u8],
     node: u32,
     k: u32,
     scratch: &[u32],
-) -> u32
-    ensures { result ≡ query_number (network starts.now neighbours.now weights.now) points.now node k scratch.now }
+) -> Result<(), Refusal>
+    ensures { number result ≡ query_number g.now points.now node k scratch.now }
 {
-    let number = site_number(starts, neighbours, weights, points, node);
-    if number != 0 {
-        return number;
-    }
-    let number = conditions::k_number(k);
-    if number != 0 {
-        return number;
-    }
-    conditions::scratch_number(starts.len() - 1, neighbours.len(), k, scratch.len())
+    check_site(g, points, node)?;
+    conditions::check_k(k)?;
+    conditions::check_scratch(g.nodes(), g.arcs(), k, scratch.len())
 }
 
 // Distances: 1 to 5, 7, 10.
-pub fn distances_number(
-    starts: &[u32],
-    neighbours: &[u32],
-    weights: &[u32],
+#[tactic(auto, using(conditions::proofs::NotMet::first_met, crate::proofs::Ready::network_passed), unfolding(crate::specs::Numbers::distances_number))]
+pub fn check_distances(
+    g: &Network<'_>,
     node: u32,
     scratch: &[u32],
     answers: &[u32],
-) -> u32
-    ensures { result ≡ distances_number (network starts.now neighbours.now weights.now) node scratch.now answers.now }
+) -> Result<(), Refusal>
+    ensures { number result ≡ distances_number g.now node scratch.now answers.now }
 {
-    let number = network::check::network_number(starts, neighbours, weights);
-    if number != 0 {
-        return number;
-    }
-    let n = starts.len() - 1;
-    let number = conditions::node_number(n, node);
-    if number != 0 {
-        return number;
-    }
-    let number = conditions::scratch_number(n, neighbours.len(), 1, scratch.len());
-    if number != 0 {
-        return number;
-    }
-    conditions::short_number(answers.len(), n)
+    network::check::check(g)?;
+    let n = g.nodes();
+    conditions::check_node(n, node)?;
+    conditions::check_scratch(n, g.arcs(), 1, scratch.len())?;
+    conditions::check_length(answers.len(), n)
 }
 
 // Nearest: 1 to 5, 6, 7, 9, 10.
-pub fn nearest_number(
-    starts: &[u32],
-    neighbours: &[u32],
-    weights: &[u32],
+#[tactic(auto, using(conditions::proofs::NotMet::first_met), unfolding(crate::specs::Numbers::nearest_number))]
+pub fn check_nearest(
+    g: &Network<'_>,
     points: &[u8],
     node: u32,
     k: u32,
     scratch: &[u32],
     ids: &[u32],
     distances: &[u32],
-) -> u32
-    ensures { result ≡ nearest_number (network starts.now neighbours.now weights.now) points.now node k scratch.now ids.now distances.now }
+) -> Result<(), Refusal>
+    ensures { number result ≡ nearest_number g.now points.now node k scratch.now ids.now distances.now }
 {
-    let number = query_number(starts, neighbours, weights, points, node, k, scratch);
-    if number != 0 {
-        return number;
-    }
-    let number = conditions::short_number(ids.len(), wide(k));
-    if number != 0 {
-        return number;
-    }
-    conditions::short_number(distances.len(), wide(k))
+    check_query(g, points, node, k, scratch)?;
+    conditions::check_length(ids.len(), k as usize)?;
+    conditions::check_length(distances.len(), k as usize)
 }
 
 // Verify: 1 to 5, 6, 7, 9, 10, 11.
-pub fn verify_number(
-    starts: &[u32],
-    neighbours: &[u32],
-    weights: &[u32],
+#[tactic(auto, using(conditions::proofs::NotMet::first_met, crate::proofs::Ready::site_passed), unfolding(crate::specs::Numbers::verify_number))]
+pub fn check_verify(
+    g: &Network<'_>,
     points: &[u8],
     p: u32,
     q: u32,
     k: u32,
     scratch: &[u32],
-) -> u32
-    ensures { result ≡ verify_number (network starts.now neighbours.now weights.now) points.now p q k scratch.now }
+) -> Result<(), Refusal>
+    ensures { number result ≡ verify_number g.now points.now p q k scratch.now }
 {
-    let number = site_number(starts, neighbours, weights, points, p);
-    if number != 0 {
-        return number;
-    }
-    let n = starts.len() - 1;
-    let number = conditions::node_number(n, q);
-    if number != 0 {
-        return number;
-    }
-    let number = conditions::k_number(k);
-    if number != 0 {
-        return number;
-    }
-    let number = conditions::eager_scratch_number(n, scratch.len());
-    if number != 0 {
-        return number;
-    }
-    conditions::unmarked_number(points, p)
+    check_site(g, points, p)?;
+    let n = g.nodes();
+    conditions::check_node(n, q)?;
+    conditions::check_k(k)?;
+    conditions::check_eager_scratch(n, scratch.len())?;
+    conditions::check_locker(points, p)
 }
 
 // The short query, and eager but for its visits and 12: 1 to 5, 6, 7, 9, 10.
-pub fn limited_number(
-    starts: &[u32],
-    neighbours: &[u32],
-    weights: &[u32],
+#[tactic(auto, using(conditions::proofs::NotMet::first_met, crate::proofs::Ready::site_passed), unfolding(crate::specs::Numbers::limited_number))]
+pub fn check_limited(
+    g: &Network<'_>,
     points: &[u8],
     q: u32,
     k: u32,
     scratch: &[u32],
     answers: &[u32],
-) -> u32
-    ensures { result ≡ limited_number (network starts.now neighbours.now weights.now) points.now q k scratch.now answers.now }
+) -> Result<(), Refusal>
+    ensures { number result ≡ limited_number g.now points.now q k scratch.now answers.now }
 {
-    let number = site_number(starts, neighbours, weights, points, q);
-    if number != 0 {
-        return number;
-    }
-    let number = conditions::k_number(k);
-    if number != 0 {
-        return number;
-    }
-    let n = starts.len() - 1;
-    let number = conditions::eager_scratch_number(n, scratch.len());
-    if number != 0 {
-        return number;
-    }
-    conditions::short_number(answers.len(), n)
+    check_site(g, points, q)?;
+    conditions::check_k(k)?;
+    let n = g.nodes();
+    conditions::check_eager_scratch(n, scratch.len())?;
+    conditions::check_length(answers.len(), n)
 }
 
 // Eager but for 12: 10 of its visits too (Ask 4).
-pub fn eager_number(
-    starts: &[u32],
-    neighbours: &[u32],
-    weights: &[u32],
+#[tactic(auto, using(conditions::proofs::NotMet::first_met, crate::proofs::Ready::limited_passed), unfolding(crate::specs::Numbers::eager_number))]
+pub fn check_eager(
+    g: &Network<'_>,
     points: &[u8],
     q: u32,
     k: u32,
     scratch: &[u32],
     answers: &[u32],
     visits: &[u32],
-) -> u32
-    ensures { result ≡ eager_number (network starts.now neighbours.now weights.now) points.now q k scratch.now answers.now visits.now }
+) -> Result<(), Refusal>
+    ensures { number result ≡ eager_number g.now points.now q k scratch.now answers.now visits.now }
 {
-    let number = limited_number(starts, neighbours, weights, points, q, k, scratch, answers);
-    if number != 0 {
-        return number;
-    }
-    conditions::short_number(visits.len(), starts.len() - 1)
+    check_limited(g, points, q, k, scratch, answers)?;
+    conditions::check_length(visits.len(), g.nodes())
 }
 
 // Lazy and lazy-EP: 1 to 5, 6, 7, 9, 10.
-pub fn search_number(
-    starts: &[u32],
-    neighbours: &[u32],
-    weights: &[u32],
+#[tactic(auto, using(conditions::proofs::NotMet::first_met, crate::proofs::Ready::query_passed), unfolding(crate::specs::Numbers::search_number))]
+pub fn check_search(
+    g: &Network<'_>,
     points: &[u8],
     q: u32,
     k: u32,
     scratch: &[u32],
     answers: &[u32],
-) -> u32
-    ensures { result ≡ search_number (network starts.now neighbours.now weights.now) points.now q k scratch.now answers.now }
+) -> Result<(), Refusal>
+    ensures { number result ≡ search_number g.now points.now q k scratch.now answers.now }
 {
-    let number = query_number(starts, neighbours, weights, points, q, k, scratch);
-    if number != 0 {
-        return number;
-    }
-    conditions::short_number(answers.len(), starts.len() - 1)
+    check_query(g, points, q, k, scratch)?;
+    conditions::check_length(answers.len(), g.nodes())
 }
 
-// The table check: 1 to 5, 6, 8.
-pub fn table_check_number(
-    starts: &[u32],
-    neighbours: &[u32],
-    weights: &[u32],
+// The table check, and build first: 1 to 5, 6, 8.
+#[tactic(auto, using(conditions::proofs::NotMet::first_met, crate::proofs::Ready::points_passed), unfolding(crate::specs::Numbers::table_check_number))]
+pub fn check_table_arrays(
+    g: &Network<'_>,
     points: &[u8],
     places: u32,
     ids: &[u32],
     distances: &[u32],
-) -> u32
-    ensures { result ≡ table_check_number (network starts.now neighbours.now weights.now) points.now places ids.now distances.now }
+) -> Result<(), Refusal>
+    ensures { number result ≡ table_check_number g.now points.now places ids.now distances.now }
 {
-    let number = network_points_number(starts, neighbours, weights, points);
-    if number != 0 {
-        return number;
-    }
-    conditions::table_number(starts.len() - 1, places, ids.len(), distances.len())
+    check_network_points(g, points)?;
+    conditions::check_table(g.nodes(), places, ids.len(), distances.len())
 }
 
 // Build: 1 to 5, 6, 8, 10.
-pub fn build_number(
-    starts: &[u32],
-    neighbours: &[u32],
-    weights: &[u32],
+#[tactic(auto, using(conditions::proofs::NotMet::first_met, crate::proofs::Ready::table_check_passed), unfolding(crate::specs::Numbers::build_number))]
+pub fn check_build(
+    g: &Network<'_>,
     points: &[u8],
     places: u32,
     scratch: &[u32],
     ids: &[u32],
     distances: &[u32],
-) -> u32
-    ensures { result ≡ build_number (network starts.now neighbours.now weights.now) points.now places scratch.now ids.now distances.now }
+) -> Result<(), Refusal>
+    ensures { number result ≡ build_number g.now points.now places scratch.now ids.now distances.now }
 {
-    let number = table_check_number(starts, neighbours, weights, points, places, ids, distances);
-    if number != 0 {
-        return number;
-    }
-    conditions::scratch_number(starts.len() - 1, neighbours.len(), places, scratch.len())
+    check_table_arrays(g, points, places, ids, distances)?;
+    conditions::check_scratch(g.nodes(), g.arcs(), places, scratch.len())
 }
 
 // What the calls with a node and a table test first: 1 to 5, 6, 7, 8.
-fn table_node_number(
-    starts: &[u32],
-    neighbours: &[u32],
-    weights: &[u32],
+#[tactic(auto, using(conditions::proofs::NotMet::first_met, crate::proofs::Ready::site_passed), unfolding(crate::specs::Numbers::table_node_number))]
+fn check_table_node(
+    g: &Network<'_>,
     points: &[u8],
     node: u32,
     places: u32,
     ids: &[u32],
     distances: &[u32],
-) -> u32
-    ensures { result ≡ table_node_number (network starts.now neighbours.now weights.now) points.now node places ids.now distances.now }
+) -> Result<(), Refusal>
+    ensures { number result ≡ table_node_number g.now points.now node places ids.now distances.now }
 {
-    let number = site_number(starts, neighbours, weights, points, node);
-    if number != 0 {
-        return number;
-    }
-    conditions::table_number(starts.len() - 1, places, ids.len(), distances.len())
+    check_site(g, points, node)?;
+    conditions::check_table(g.nodes(), places, ids.len(), distances.len())
 }
 
 // Insert and remove: 1 to 5, 6, 7, 8, 10, 11.
-pub fn change_number(
+#[tactic(auto, using(conditions::proofs::NotMet::first_met, crate::proofs::Ready::table_node_passed), unfolding(crate::specs::Numbers::change_number))]
+pub fn check_change(
     kind: Kind,
-    starts: &[u32],
-    neighbours: &[u32],
-    weights: &[u32],
+    g: &Network<'_>,
     points: &[u8],
     node: u32,
     places: u32,
     scratch: &[u32],
     ids: &[u32],
     distances: &[u32],
-) -> u32
-    ensures { result ≡ change_number kind (network starts.now neighbours.now weights.now) points.now node places scratch.now ids.now distances.now }
+) -> Result<(), Refusal>
+    ensures { number result ≡ change_number kind g.now points.now node places scratch.now ids.now distances.now }
 {
-    let number = table_node_number(
-        starts, neighbours, weights, points, node, places, ids, distances,
-    );
-    if number != 0 {
-        return number;
-    }
-    let number = conditions::scratch_number(
-        starts.len() - 1,
-        neighbours.len(),
-        places,
-        scratch.len(),
-    );
-    if number != 0 {
-        return number;
-    }
+    check_table_node(g, points, node, places, ids, distances)?;
+    conditions::check_scratch(g.nodes(), g.arcs(), places, scratch.len())?;
     match kind {
-        Kind::Insert => conditions::full_number(points, node),
-        Kind::Remove => conditions::unmarked_number(points, node),
+        Kind::Insert => conditions::check_room(points, node),
+        Kind::Remove => conditions::check_locker(points, node),
     }
 }
 
 // The table query: 1 to 5, 6, 7, 8, 9, 10.
-pub fn table_query_number(
-    starts: &[u32],
-    neighbours: &[u32],
-    weights: &[u32],
+#[tactic(auto, using(conditions::proofs::NotMet::first_met, crate::proofs::Ready::table_node_passed, crate::proofs::Ready::table_k_passed), unfolding(crate::specs::Numbers::table_query_number))]
+pub fn check_table_query(
+    g: &Network<'_>,
     points: &[u8],
     q: u32,
     k: u32,
@@ -321,23 +231,12 @@ pub fn table_query_number(
     distances: &[u32],
     scratch: &[u32],
     answers: &[u32],
-) -> u32
-    ensures { result ≡ table_query_number (network starts.now neighbours.now weights.now) points.now q k places ids.now distances.now scratch.now answers.now }
+) -> Result<(), Refusal>
+    ensures { number result ≡ table_query_number g.now points.now q k places ids.now distances.now scratch.now answers.now }
 {
-    let number = table_node_number(
-        starts, neighbours, weights, points, q, places, ids, distances,
-    );
-    if number != 0 {
-        return number;
-    }
-    let number = conditions::table_k_number(k, places);
-    if number != 0 {
-        return number;
-    }
-    let n = starts.len() - 1;
-    let number = conditions::scratch_number(n, neighbours.len(), k, scratch.len());
-    if number != 0 {
-        return number;
-    }
-    conditions::short_number(answers.len(), n)
+    check_table_node(g, points, q, places, ids, distances)?;
+    conditions::check_table_k(k, places)?;
+    let n = g.nodes();
+    conditions::check_scratch(n, g.arcs(), k, scratch.len())?;
+    conditions::check_length(answers.len(), n)
 }

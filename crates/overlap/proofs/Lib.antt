@@ -1,2 +1,3 @@
--- The proofs of the exported calls, each in the folder of its name. Demand 2 and demand 3, about the records that these calls ensure, stand in the
--- crate `demands`.
+-- The structs of the exported calls' answers, and the arrays as they leave them (Exported). Demand 2 and demand 3, about the records that these calls
+-- ensure, stand in the crate `demands`.
+pub mod Exported

@@ -1,6 +1,6 @@
 // The public calls of the overlap engine, as include/overlap.h declares them (the crate `overlap_c` exports them to C), and `overlap_nearer_row`, which returns a
 // reference and is for Rattle alone. None has a requires: bad input is refused by its number.
-#![tactic(auto)]
+#![tactic(auto, using(crate::proofs::Exported::exported))]
 
 ghost use Rattle.std.specs.Prelude.{◌≡◌};
 ghost use Rattle.network.specs.Network.{network};
@@ -24,9 +24,10 @@ ghost use Rattle.nearer_row.specs.Nearer.{row_number, row_outcome};
 ghost use Rattle.nearer_row.specs.Part.{PartReturned};
 
 pub use conditions::answers::{Listing, RowPart, Update, Verdict};
-use conditions::answers::{listing_of, update_of, verdict_of};
 use conditions::kind::Kind;
 use household_calls::{entries, list};
+use network::Network;
+use network::refusal::number;
 use route_calls::call;
 use site_calls::lazy::Method;
 use site_calls::{distances, eager, lazy, nearest, short_query, verify};
@@ -38,7 +39,8 @@ use table_calls::{build, table_check, table_query, updated};
 pub fn overlap_network_check(starts: &[u32], neighbours: &[u32], weights: &[u32]) -> u32
     ensures { result ≡ network_number (network starts.now neighbours.now weights.now) }
 {
-    network::check::network_number(starts, neighbours, weights)
+    let g = Network::new(starts, neighbours, weights);
+    number(network::check::check(&g))
 }
 
 // Distances from a node. Lent: the network, scratch of S entries with m = 1, and an array for n answers. Returned: 0, or 1 to 5, 7, 10. Accepted:
@@ -56,7 +58,8 @@ pub fn overlap_distances(
         record { number = result; scratch = scratch.new; answers = answers.new }
         ≡ distances_outcome g node scratch.old answers.old }
 {
-    distances::answer(starts, neighbours, weights, node, scratch, answers)
+    let g = Network::new(starts, neighbours, weights);
+    number(distances::answer(&g, node, scratch, answers))
 }
 
 // Nearest. Lent: the network, the points, scratch of S entries with m = k, and two arrays for k answers each. Returned: number 0 and how many
@@ -79,9 +82,8 @@ pub fn overlap_nearest(
         let outcome = nearest_outcome g points.now node e k scratch.old ids.old distances.old in
         NearestExported outcome result scratch.new ids.new distances.new }
 {
-    listing_of(nearest::answer(
-        starts, neighbours, weights, points, node, e, k, scratch, ids, distances,
-    ))
+    let g = Network::new(starts, neighbours, weights);
+    nearest::answer(&g, points, node, e, k, scratch, ids, distances).into()
 }
 
 // Verify. Lent: the network, the points and scratch of 12 × n entries (Ask 5). Returned: number 0 and yes or no, or 1 to 5, 6, 7, 9, 10, 11.
@@ -100,7 +102,8 @@ pub fn overlap_verify(
         let outcome = verify_outcome g points.now p q k scratch.old in
         VerifyExported outcome result scratch.new }
 {
-    verdict_of(verify::answer(starts, neighbours, weights, points, p, q, k, scratch))
+    let g = Network::new(starts, neighbours, weights);
+    verify::answer(&g, points, p, q, k, scratch).into()
 }
 
 // Eager. Lent: the network, the points, scratch of 12 × n entries (Ask 5), an array for n answers, and one for n visits (Ask 4). Returned: number 0, the
@@ -125,9 +128,8 @@ pub fn overlap_eager(
         let outcome = eager_outcome g points.now q k limit scratch.old answers.old visits.old in
         EagerExported outcome result scratch.new answers.new visits.new }
 {
-    listing_of(eager::answer(
-        starts, neighbours, weights, points, q, k, limit, scratch, answers, visits,
-    ))
+    let g = Network::new(starts, neighbours, weights);
+    eager::answer(&g, points, q, k, limit, scratch, answers, visits).into()
 }
 
 // The short query. Lent: the network, the points, scratch of 12 × n entries (Ask 5), and an array for n answers. Returned and left: as eager with k =
@@ -146,7 +148,8 @@ pub fn overlap_short_query(
         let outcome = short_outcome g points.now q scratch.old answers.old in
         SearchExported outcome result scratch.new answers.new }
 {
-    listing_of(short_query::answer(starts, neighbours, weights, points, q, scratch, answers))
+    let g = Network::new(starts, neighbours, weights);
+    short_query::answer(&g, points, q, scratch, answers).into()
 }
 
 // Lazy. Lent: the network, the points, scratch of S entries with m = k, and an array for n answers. Returned: number 0 and the length of the list,
@@ -166,17 +169,8 @@ pub fn overlap_lazy(
         let outcome = lazy_outcome g points.now q k scratch.old answers.old in
         SearchExported outcome result scratch.new answers.new }
 {
-    listing_of(lazy::answer(
-        Method::Lazy,
-        starts,
-        neighbours,
-        weights,
-        points,
-        q,
-        k,
-        scratch,
-        answers,
-    ))
+    let g = Network::new(starts, neighbours, weights);
+    lazy::answer(Method::Lazy, &g, points, q, k, scratch, answers).into()
 }
 
 // Lazy with extended pruning. Lent, returned and left: as lazy.
@@ -194,17 +188,8 @@ pub fn overlap_lazy_ep(
         let outcome = lazy_outcome g points.now q k scratch.old answers.old in
         SearchExported outcome result scratch.new answers.new }
 {
-    listing_of(lazy::answer(
-        Method::LazyEp,
-        starts,
-        neighbours,
-        weights,
-        points,
-        q,
-        k,
-        scratch,
-        answers,
-    ))
+    let g = Network::new(starts, neighbours, weights);
+    lazy::answer(Method::LazyEp, &g, points, q, k, scratch, answers).into()
 }
 
 // Build. Lent: the network, the points, scratch of S entries with m = K, and both table arrays of any contents. Returned: 0, or 1 to 5, 6, 8, 10.
@@ -223,9 +208,8 @@ pub fn overlap_build(
         record { number = result; scratch = scratch.new; ids = ids.new; distances = distances.new }
         ≡ build_outcome g points.now places scratch.old ids.old distances.old }
 {
-    build::answer(
-        starts, neighbours, weights, points, places, scratch, ids, distances,
-    )
+    let g = Network::new(starts, neighbours, weights);
+    number(build::answer(&g, points, places, scratch, ids, distances))
 }
 
 // Insert. Lent: the network, the points, scratch of S entries with m = K, and both table arrays. Returned: number 0 and how many rows changed, or 1
@@ -249,18 +233,18 @@ pub fn overlap_insert(
         let new : Arrays = record { points = points.new; scratch = scratch.new; ids = ids.new; distances = distances.new } in
         ChangeExported Insert g node places old new result }
 {
-    update_of(updated::answer(
+    let g = Network::new(starts, neighbours, weights);
+    updated::answer(
         Kind::Insert,
-        starts,
-        neighbours,
-        weights,
+        &g,
         points,
         node,
         places,
         scratch,
         ids,
         distances,
-    ))
+    )
+    .into()
 }
 
 // Remove. Lent, returned and left: as insert, but the node has one locker less.
@@ -280,18 +264,18 @@ pub fn overlap_remove(
         let new : Arrays = record { points = points.new; scratch = scratch.new; ids = ids.new; distances = distances.new } in
         ChangeExported Remove g node places old new result }
 {
-    update_of(updated::answer(
+    let g = Network::new(starts, neighbours, weights);
+    updated::answer(
         Kind::Remove,
-        starts,
-        neighbours,
-        weights,
+        &g,
         points,
         node,
         places,
         scratch,
         ids,
         distances,
-    ))
+    )
+    .into()
 }
 
 // The table check. Lent: the network, the points and both table arrays of any contents, and nothing is written. Returned: number 0 and yes or no, or
@@ -308,7 +292,8 @@ pub fn overlap_table_check(
     ensures { let g = network starts.now neighbours.now weights.now in
         result ≡ rule_verdict (table_check_answer g points.now places ids.now distances.now) }
 {
-    verdict_of(table_check::answer(starts, neighbours, weights, points, places, ids, distances))
+    let g = Network::new(starts, neighbours, weights);
+    table_check::answer(&g, points, places, ids, distances).into()
 }
 
 // The table query. Lent: the network, the points, both table arrays, scratch of S entries with m = k, and an array for n answers. Returned: number 0
@@ -332,9 +317,8 @@ pub fn overlap_table_query(
         let lent : QueryArrays = record { ids = ids.now; distances = distances.now; scratch = scratch.old; answers = answers.old } in
         TableQueryExported g points.now q k places lent scratch.new answers.new result }
 {
-    listing_of(table_query::answer(
-        starts, neighbours, weights, points, q, k, places, ids, distances, scratch, answers,
-    ))
+    let g = Network::new(starts, neighbours, weights);
+    table_query::answer(&g, points, q, k, places, ids, distances, scratch, answers).into()
 }
 
 // The households that a site wins. Lent: the network, households and sites, both laid out as points, scratch of S entries with m = k, and an array for n
@@ -356,9 +340,8 @@ pub fn overlap_households(
         let outcome = households_outcome g households.now sites.now q k scratch.old answers.old in
         SearchExported outcome result scratch.new answers.new }
 {
-    listing_of(list::answer(
-        starts, neighbours, weights, households, sites, q, k, scratch, answers,
-    ))
+    let g = Network::new(starts, neighbours, weights);
+    list::answer(&g, households, sites, q, k, scratch, answers).into()
 }
 
 // The sheet. Lent: the network, households and sites, both laid out as points, scratch of S entries with m = 1, and an array for n answers. Returned: 0, or 1
@@ -378,9 +361,8 @@ pub fn overlap_sheet(
         record { number = result; scratch = scratch.new; answers = answers.new }
         ≡ sheet_outcome g households.now sites.now scratch.old answers.old }
 {
-    entries::answer(
-        starts, neighbours, weights, households, sites, scratch, answers,
-    )
+    let g = Network::new(starts, neighbours, weights);
+    number(entries::answer(&g, households, sites, scratch, answers))
 }
 
 // The lockers that a route touches. Lent: the network, points, the route as a list of nodes, of any length, scratch of S entries with m = k, and an array for
@@ -401,9 +383,8 @@ pub fn overlap_route(
         let outcome = route_outcome g points.now route.now k scratch.old answers.old in
         SearchExported outcome result scratch.new answers.new }
 {
-    listing_of(call::answer(
-        starts, neighbours, weights, points, route, k, scratch, answers,
-    ))
+    let g = Network::new(starts, neighbours, weights);
+    call::answer(&g, points, route, k, scratch, answers).into()
 }
 
 // The number of the nearer row. Lent: the network, the junction, one K, and both tables of any contents, and nothing is written. Returned: 0, or 1 to 5, 7,
@@ -422,17 +403,16 @@ pub fn overlap_nearer_row_number(
     ensures { let g = network starts.now neighbours.now weights.now in
         result ≡ row_number g junction places own_ids.now own_distances.now rival_ids.now rival_distances.now }
 {
-    nearer_row::number(
-        starts,
-        neighbours,
-        weights,
+    let g = Network::new(starts, neighbours, weights);
+    number(nearer_row::check(
+        &g,
         junction,
         places,
         own_ids,
         own_distances,
         rival_ids,
         rival_distances,
-    )
+    ))
 }
 
 // The nearer row, as C has it. Lent: as for the number. Returned: number 0, and which K entries the row's distances are: of the own distances (rival 0) or
@@ -453,10 +433,9 @@ pub fn overlap_nearer_row_part(
     ensures { let g = network starts.now neighbours.now weights.now in
         PartReturned g junction places own_ids.now own_distances.now rival_ids.now rival_distances.now result }
 {
+    let g = Network::new(starts, neighbours, weights);
     nearer_row::part(
-        starts,
-        neighbours,
-        weights,
+        &g,
         junction,
         places,
         own_ids,
@@ -483,10 +462,9 @@ pub fn overlap_nearer_row<'a>(
     ensures { let g = network starts.now neighbours.now weights.now in
         result.now ≡ row_outcome g junction places own_ids.now own_distances.now rival_ids.now rival_distances.now }
 {
+    let g = Network::new(starts, neighbours, weights);
     nearer_row::row(
-        starts,
-        neighbours,
-        weights,
+        &g,
         junction,
         places,
         own_ids,

@@ -17,42 +17,29 @@ use Rattle.network.specs.Accepted.{Accepted}
 use Rattle.network.specs.Walk.{Walk}
 use Rattle.network.specs.Distance.{NONE}
 use Rattle.network.specs.Points.{marked, is_listed}
-use Rattle.network.specs.Rows.{table_distances, IsTable}
+use Rattle.network.specs.Rows.{row_entries, table_distances, IsTable}
 use Rattle.network.proofs.Lends.{mid_at, row_fits}
-use Rattle.network.proofs.Rank.{marked_inside}
-use Rattle.expansion.specs.Area.{Wiped}
+use Rattle.rows.specs.Check.{HasRows}
+use Rattle.rows.proofs.CheckTests.{row_part_length}
 use Rattle.searches.specs.Flags.{flags_end, Flags, Looked}
-use Rattle.expansion.proofs.AreaLaws.{kept_same}
 use Rattle.searches.proofs.Listed.{listed_parts, listed_verified, verified_listed}
 use Rattle.searches.proofs.FlagLaws.{changed_grows, changed_flags}
 use Rattle.query.specs.Query.{Grown, CanDecide, Decided, Way, CanVerifyWord, WordVerified, CanVerifyRow, Ways, ToldAll, RowVerified, Exact, CanLookByRow, LookedByRow}
 use Rattle.query.proofs.RowNearest.{listed_at_once, row_count, row_stands, row_way}
 
--- part of an array: `&xs[a..e]`
-abbrev pub part : ℕ → ℕ → List ℕ → List ℕ
-part a e xs = mid_of a (e - a) xs
+-- a row behind its first place: `&row[1..]`
+abbrev pub behind : List ℕ → List ℕ
+behind row = mid_of 1 (length row - 1) row
 
--- nothing was expanded
-pub unwiped : {g : Network} {P others xs : List ℕ} {p q k : ℕ} → CanDecide g P others xs p q k → Wiped xs xs (flags_end g)
-unwiped c = record { frame = kept_same; blank = c.visit.expand.blank }
+-- place j of row i
+row_at : (K i j : ℕ) (xs : List ℕ) → j < K → get_or (row_entries K i xs) j 0 ≡ get_or xs (i * K + j) 0
+unfolding row_entries
+row_at K i j xs = mid_at (i * K) K xs j
 
 -- ---- One word.
 module _ {g : Network} {P dists : List ℕ} {q k K : ℕ} {xs : List ℕ} (c : CanVerifyWord g P dists q k K xs) where
-  pub grown_none : Grown g P xs xs
+  grown_none : Grown g P xs xs
   grown_none = record { size = refl; words = λ i h. refl; only = c.front.only; grows = λ x h n. n }
-
-  -- where flags were set, more can be verified
-  pub can_verify_more : {ys : List ℕ} → Grown g P xs ys → CanVerifyWord g P dists q k K ys
-  can_verify_more w =
-      record {
-        asked = c.asked;
-        front =
-            record {
-              only = w.only;
-              blank = record { zero = λ j h. w.words j h ∙ c.front.blank.zero j h };
-              size = omega (arith, c.front.size, w.size);
-            };
-      }
 
   -- it is no point
   pub verified_none : (p sum : ℕ) → get_or P p 0 ≡ 0 → WordVerified g P dists q k K xs xs p sum
@@ -70,34 +57,44 @@ module _ {g : Network} {P dists : List ℕ} {q k K : ℕ} {xs : List ℕ} (c : C
     pub verified_seen : get_or xs p 0 ≢ 0 → WordVerified g P dists q k K xs xs p sum
     verified_seen s = record { grown = grown_none; right = λ e u f. record { flags = f; told = f.once p inside s } }
 
-    -- its row, behind its own place
-    pub row_inside : p * K + K ≤ length dists
+    -- its row
+    row_inside : p * K + K ≤ length dists
     row_inside = omega (arith, row_fits p (node_count g) K inside, c.asked.sized)
 
-    pub can_decide : CanDecide g P (part (p * K + 1) (p * K + K) dists) (set xs p 1) p q k
-    can_decide =
-        record {
-          visit =
-              record {
-                expand =
-                    record {
-                      accepted = c.asked.accepted;
-                      inside = inside;
-                      blank = record { zero = λ j h. get_or-set_other xs p j 1 0 (omega arith) ∙ c.front.blank.zero j h };
-                      size = simp length-set (omega (arith, c.front.size));
-                    };
-                inside = c.asked.site;
-                points = c.asked.points;
-              };
-          some = c.asked.some;
-          few = omega (arith, mid_len (p * K + 1) (p * K + K) dists row_inside, c.asked.few);
-        }
+    module _ {row : List ℕ} (is : row ≡ row_entries K p dists) where
+      row_size : length row ≡ K
+      row_size = ap length is ∙ row_part_length K p dists row_inside
 
-    -- the k-th other point stands at place k
-    kth : get_or (part (p * K + 1) (p * K + K) dists) (k - 1) 0 ≡ get_or dists (p * K + k) 0
-    kth =
-        let s : p * K + 1 + (k - 1) ≡ p * K + k = omega (arith, c.asked.some) in
-        mid_at (p * K + 1) ((p * K + K) - (p * K + 1)) dists (k - 1) (omega (arith, c.asked.some, c.asked.few)) ∙ ap (λ (j : ℕ). get_or dists j 0) s
+      pub row_some : 1 ≤ length row
+      row_some = omega (arith, row_size, c.asked.few)
+
+      pub can_decide : CanDecide g P (behind row) (set xs p 1) p q k
+      can_decide =
+          record {
+            visit =
+                record {
+                  expand =
+                      record {
+                        accepted = c.asked.accepted;
+                        inside = inside;
+                        blank = record { zero = λ j h. get_or-set_other xs p j 1 0 (omega arith) ∙ c.front.blank.zero j h };
+                        size = simp length-set (omega (arith, c.front.size));
+                      };
+                  inside = c.asked.site;
+                  points = c.asked.points;
+                };
+            some = c.asked.some;
+            few = omega (arith, mid_len 1 (length row) row (omega arith), row_size, c.asked.few);
+          }
+
+      -- the k-th other point stands at place k
+      kth : get_or (behind row) (k - 1) 0 ≡ get_or dists (p * K + k) 0
+      kth =
+          let s : 1 + (k - 1) ≡ k = omega (arith, c.asked.some) in
+          mid_at 1 (length row - 1) row (k - 1) (omega (arith, row_size, c.asked.some, c.asked.few))
+          ∙ ap (λ (j : ℕ). get_or row j 0) s
+          ∙ ap (λ (l : List ℕ). get_or l k 0) is
+          ∙ row_at K p k dists c.asked.few
 
     module _ (mark : 0 < get_or P p 0) where
       marked_p : marked P p ≡ true
@@ -133,8 +130,8 @@ module _ {g : Network} {P dists : List ℕ} {q k K : ℕ} {xs : List ℕ} (c : C
                   };
             }
 
-      module _ {zs : List ℕ} {yes? : Bool} (d : Decided g P (part (p * K + 1) (p * K + K) dists) p q k sum (set xs p 1) zs yes?) where
-        pub decided_size : length zs ≡ length xs
+      module _ {row : List ℕ} (is : row ≡ row_entries K p dists) {zs : List ℕ} {yes? : Bool} (d : Decided g P (behind row) p q k sum (set xs p 1) zs yes?) where
+        decided_size : length zs ≡ length xs
         decided_size = d.area.frame.size ∙ length-set xs p 1
 
         word : (i : ℕ) → i ≢ p → get_or zs i 0 ≡ get_or xs i 0
@@ -144,17 +141,16 @@ module _ {g : Network} {P dists : List ℕ} {q k K : ℕ} {xs : List ℕ} (c : C
               | no h ↦ d.area.blank.zero i (omega arith) ∙ sym (c.front.blank.zero i (omega arith))
             ]
 
-        pub verified_yes : yes? ≡ true → WordVerified g P dists q k K xs (set zs (node_count g + p) 1) p sum
-        verified_yes y =
-            let one = get_or-set_same zs (node_count g + p) 1 0 (omega (arith, decided_size, c.front.size)) in
-            changed (length-set zs (node_count g + p) 1 ∙ decided_size)
-            (λ i n m. get_or-set_other zs (node_count g + p) i 1 0 m ∙ word i n)
+        pub verified_yes : yes? ≡ true → (flag : ℕ) → 1 ≤ flag → WordVerified g P dists q k K xs (set zs (node_count g + p) flag) p sum
+        verified_yes y flag some =
+            let same = get_or-set_same zs (node_count g + p) flag 0 (omega (arith, decided_size, c.front.size)) in
+            changed (length-set zs (node_count g + p) flag ∙ decided_size)
+            (λ i n m. get_or-set_other zs (node_count g + p) i flag 0 m ∙ word i n)
             (λ n z. omega arith)
             (λ e u f n.
             verified_listed g P q k p marked_p
             (⊎_elim
-            (λ a.
-            listed_at_once c.asked.accepted P p q k e inside marked_p c.asked.some c.asked.few u (omega (arith, kth, a.0)))
+            (λ a. listed_at_once c.asked.accepted P p q k e inside marked_p c.asked.some c.asked.few u (omega (arith, kth is, a.0)))
             (λ a. sym a ∙ y)
             d.answer))
             (λ l z. omega arith)
@@ -169,122 +165,70 @@ module _ {g : Network} {P dists : List ℕ} {q k K : ℕ} {xs : List ℕ} (c : C
             (λ a. absurd (false≢true (sym y ∙ a ∙ listed_verified g P q k p l)))
             d.answer)
 
--- ---- A row: the places before the i-th are nearer than l, and verified.
+-- ---- A row under way: the places before the i-th are nearer than l, and verified.
 pub record RowUpto (g : Network) (P dists : List ℕ) (q k K : ℕ) (xs ys zs ws : List ℕ) (l i : ℕ) : Type 0 where
   pub few : i ≤ k
   pub grown : Grown g P xs ys
   pub less : (j : ℕ) → j < i → get_or ws j 0 < l
   pub right : dists ≡ table_distances g P K → Ways g q k zs ws l → Flags g (is_listed g P q k) xs → ToldAll g P q k zs ys i
 
-module _ {g : Network} {P dists : List ℕ} {q k K : ℕ} {xs zs ws : List ℕ} (c : CanVerifyRow g P dists q k K xs zs ws) (l : ℕ) where
-  pub row_start : RowUpto g P dists q k K xs xs zs ws l 0
-  row_start =
-      record {
-        few = omega arith;
-        grown = grown_none c.verify;
-        less = λ j h. absurd (omega arith);
-        right = λ e w f. record { flags = f; told = λ j h. absurd (omega arith) };
-      }
-
-  module _ {ys : List ℕ} {i : ℕ} (r : RowUpto g P dists q k K xs ys zs ws l i) where
-    pub row_verify : CanVerifyWord g P dists q k K ys
-    row_verify = can_verify_more c.verify r.grown
-
-    -- one place more
-    pub row_more : {us : List ℕ} → i < k → get_or ws i 0 < l → WordVerified g P dists q k K ys us (get_or zs i 0) (l + get_or ws i 0)
-        → RowUpto g P dists q k K xs us zs ws l (i + 1)
-    row_more {us} h m v =
-        record {
-          few = omega arith;
-          grown =
-              record {
-                size = v.grown.size ∙ r.grown.size;
-                words = λ j a. v.grown.words j a ∙ r.grown.words j a;
-                only = v.grown.only;
-                grows = λ x a n. v.grown.grows x a (r.grown.grows x a n);
-              };
-          less = λ j a. elim (ℕ_discrete j i) [ yes s ↦ rw s m | no n ↦ r.less j (omega arith) ];
-          right = right;
-        }
-      where
-        right : dists ≡ table_distances g P K → Ways g q k zs ws l → Flags g (is_listed g P q k) xs → ToldAll g P q k zs us (i + 1)
-        right e w f =
-            let o = r.right e w f in
-            let t = v.right e (w i h m) o.flags in
-            record {
-              flags = t.flags;
-              told =
-                  λ j a b.
-                  elim (ℕ_discrete j i) [
-                    | yes s ↦ rw s (t.told (rw s at b))
-                    | no n ↦
-                        v.grown.grows (get_or zs j 0)
-                        (omega (arith, marked_inside P (get_or zs j 0) ((listed_parts g P q k (get_or zs j 0)).0 b).mark, c.verify.asked.points))
-                        (o.told j (omega arith) b)
-                  ];
-            }
-
-    -- the last
-    pub row_end : (i < k → l ≤ get_or ws i 0) → RowVerified g P dists q k K xs ys zs ws l i
-    row_end stop = record { grown = r.grown; nearer = record { few = r.few; less = r.less; stop = stop }; right = r.right }
-
 -- ---- The row of a node.
 module _ {g : Network} {P ids dists : List ℕ} {q k K : ℕ} {xs : List ℕ} {v : ℕ} (c : CanLookByRow g P ids dists q k K xs v) where
-  pub ids_inside : v * K + K ≤ length ids
-  ids_inside = omega (arith, row_fits v (node_count g) K c.inside, c.all_ids)
+  pub has_row : HasRows K ids dists v
+  has_row =
+      let fits = row_fits v (node_count g) K c.inside in
+      record { in_ids = omega (arith, fits, c.all_ids); in_dists = omega (arith, fits, c.verify.asked.sized) }
 
-  pub dists_inside : v * K + K ≤ length dists
-  dists_inside = omega (arith, row_fits v (node_count g) K c.inside, c.verify.asked.sized)
-
-  pub can_verify_row : CanVerifyRow g P dists q k K xs (part (v * K) (v * K + K) ids) (part (v * K) (v * K + K) dists)
-  can_verify_row =
-      record {
-        verify = c.verify;
-        ids_row = omega (arith, mid_len (v * K) (v * K + K) ids ids_inside, c.verify.asked.few);
-        dists_row = omega (arith, mid_len (v * K) (v * K + K) dists dists_inside, c.verify.asked.few);
-      }
-
-  module _ {ys : List ℕ} {l r : ℕ} (most : l ≤ NONE) (w : RowVerified g P dists q k K xs ys (part (v * K) (v * K + K) ids) (part (v * K) (v * K + K) dists) l r) where
-    id_at_lem : (j : ℕ) → j < k → get_or (part (v * K) (v * K + K) ids) j 0 ≡ get_or ids (v * K + j) 0
-    id_at_lem j h = mid_at (v * K) ((v * K + K) - v * K) ids j (omega (arith, c.verify.asked.few))
-
-    dist_at : (j : ℕ) → j < k → get_or (part (v * K) (v * K + K) dists) j 0 ≡ get_or dists (v * K + j) 0
-    dist_at j h = mid_at (v * K) ((v * K + K) - v * K) dists j (omega (arith, c.verify.asked.few))
-
-    looked : IsTable g P K ids dists → Walk g q v l → Exact g P q k v l → Flags g (is_listed g P q k) xs → Looked g P (is_listed g P q k) k xs ys v l r
-    looked t walk exact f =
+  module _ {zs ws : List ℕ} (ids_are : zs ≡ row_entries K v ids) (dists_are : ws ≡ row_entries K v dists) where
+    pub can_verify_row : CanVerifyRow g P dists q k K xs zs ws
+    can_verify_row =
         record {
-          size = w.grown.size;
-          stays = λ i h m. w.grown.words i h;
-          blank = record { zero = λ j h. w.grown.words j (omega arith) ∙ c.verify.front.blank.zero j (omega arith) };
-          flags = all.flags;
-          grows = w.grown.grows;
-          count = row_count ok t v k c.inside below most w.nearer.few less stop;
-          told =
-              λ p d m a.
-              let s = row_stands ok t v k c.inside below most w.nearer.few less stop p d m in
-              let e : get_or (part (v * K) (v * K + K) ids) s.index 0 ≡ p = id_at_lem s.index (omega (arith, s.low, w.nearer.few)) ∙ s.is in
-              rw e at (all.told s.index s.low (rw e a));
+          verify = c.verify;
+          ids_row = omega (arith, ap length ids_are, row_part_length K v ids has_row.in_ids, c.verify.asked.few);
+          dists_row = omega (arith, ap length dists_are, row_part_length K v dists has_row.in_dists, c.verify.asked.few);
         }
-      where
-        ok : Accepted g
-        ok = c.verify.asked.accepted
 
-        below : k ≤ K
-        below = omega (arith, c.verify.asked.few)
+    module _ {ys : List ℕ} {l r : ℕ} (most : l ≤ NONE) (w : RowVerified g P dists q k K xs ys zs ws l r) where
+      id_at_lem : (j : ℕ) → j < k → get_or zs j 0 ≡ get_or ids (v * K + j) 0
+      id_at_lem j h = ap (λ (u : List ℕ). get_or u j 0) ids_are ∙ row_at K v j ids (omega (arith, c.verify.asked.few))
 
-        less : (i : ℕ) → i < r → get_or dists (v * K + i) 0 < l
-        less i h = omega (arith, w.nearer.less i h, dist_at i (omega (arith, w.nearer.few)))
+      dist_at : (j : ℕ) → j < k → get_or ws j 0 ≡ get_or dists (v * K + j) 0
+      dist_at j h = ap (λ (u : List ℕ). get_or u j 0) dists_are ∙ row_at K v j dists (omega (arith, c.verify.asked.few))
 
-        stop : r < k → l ≤ get_or dists (v * K + r) 0
-        stop h = omega (arith, w.nearer.stop h, dist_at r h)
+      looked : IsTable g P K ids dists → Walk g q v l → Exact g P q k v l → Flags g (is_listed g P q k) xs → Looked g P (is_listed g P q k) k xs ys v l r
+      looked t walk exact f =
+          record {
+            size = w.grown.size;
+            stays = λ i h m. w.grown.words i h;
+            blank = record { zero = λ j h. w.grown.words j (omega arith) ∙ c.verify.front.blank.zero j (omega arith) };
+            flags = all.flags;
+            grows = w.grown.grows;
+            count = row_count ok t v k c.inside below most w.nearer.few less stop;
+            told =
+                λ p d m a.
+                let s = row_stands ok t v k c.inside below most w.nearer.few less stop p d m in
+                let e : get_or zs s.index 0 ≡ p = id_at_lem s.index (omega (arith, s.low, w.nearer.few)) ∙ s.is in
+                rw e at (all.told s.index s.low (rw e a));
+          }
+        where
+          ok : Accepted g
+          ok = c.verify.asked.accepted
 
-        ways : Ways g q k (part (v * K) (v * K + K) ids) (part (v * K) (v * K + K) dists) l
-        ways i h m =
-            rw (id_at_lem i h, dist_at i h) (row_way ok t v k c.inside below most walk exact i h (omega (arith, dist_at i h)))
+          below : k ≤ K
+          below = omega (arith, c.verify.asked.few)
 
-        all : ToldAll g P q k (part (v * K) (v * K + K) ids) ys r
-        all = w.right t.same_dists ways f
+          less : (i : ℕ) → i < r → get_or dists (v * K + i) 0 < l
+          less i h = omega (arith, w.nearer.less i h, dist_at i (omega (arith, w.nearer.few)))
 
-    pub looked_left : LookedByRow g P ids dists q k K xs ys v l r
-    looked_left = record { grown = w.grown; right = looked }
+          stop : r < k → l ≤ get_or dists (v * K + r) 0
+          stop h = omega (arith, w.nearer.stop h, dist_at r h)
+
+          ways : Ways g q k zs ws l
+          ways i h m =
+              rw (id_at_lem i h, dist_at i h) (row_way ok t v k c.inside below most walk exact i h (omega (arith, dist_at i h)))
+
+          all : ToldAll g P q k zs ys r
+          all = w.right t.same_dists ways f
+
+      pub looked_left : LookedByRow g P ids dists q k K xs ys v l r
+      looked_left = record { grown = w.grown; right = looked }

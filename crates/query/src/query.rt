@@ -1,29 +1,28 @@
 // The table query, eager-M: source 000, section 4.1. Eager's expansion from the site, with the rows of the table in place of the nearest points.
 // Document 01, 'The table': 'the list, k from 1 to K - 1, since a point's row spends one place on itself'. A lent table may hold anything: an id is
 // compared with n and the marks before it is used, and sums are made in 64 bits. 'A point on q isn't listed' (Ask 6): in the table of the points, no row
-// has it among the first k that are nearer than the label.
+// has it among the first k that are nearer than the label. g, points, table, q and k stay parameters, as in the other searches: a struct of five would be
+// made for this one, and each clause would name its fields.
 ghost use Rattle.std.specs.Prelude.{◌≡◌, ◌+◌, leb};
-ghost use Rattle.network.specs.Network.{network};
 ghost use Rattle.query.specs.Query.{CanDecide, Decided, CanVerifyWord, WordVerified, CanVerifyRow, RowVerified, CanLookByRow, LookedByRow, CanExploreQuery, QueryExplored, CanQuery, QueryLeft};
 
-use expansion::step::Taken;
 use expansion::verify::Site;
-use expansion::{step, verify, words};
-use network::arcs::wide;
+use expansion::{step, verify};
+use network::Network;
+use rows::rows::row_of;
+use rows::table::{Row, Table};
 use searches::flags;
 
 // Whether a label and a distance are together no more than a distance.
 fn is_within(label: u32, far: u32, last: u32) -> bool
     ensures { result ≡ leb (label + far) last }
 {
-    label as u64 + far as u64 <= last as u64
+    u64::from(label) + u64::from(far) <= u64::from(last)
 }
 
 // Whether a point is listed: at once where its k-th other point is no nearer than the way over the node, else by an expansion from it.
 fn decide(
-    starts: &[u32],
-    neighbours: &[u32],
-    weights: &[u32],
+    g: &Network<'_>,
     points: &[u8],
     others: &[u32],
     f: &mut [u32],
@@ -33,219 +32,131 @@ fn decide(
     q: u32,
     k: usize,
 ) -> bool
-    requires { CanDecide (network starts.now neighbours.now weights.now) points.now others.now f.old p q k }
-    ensures { Decided (network starts.now neighbours.now weights.now) points.now others.now p q k (label + far) f.old f.new result }
+    requires { CanDecide g.now points.now others.now f.old p q k }
+    ensures { Decided g.now points.now others.now p q k (label + far) f.old f.new result }
 {
-    let last = others[k - 1];
-    if is_within(label, far, last) {
+    if is_within(label, far, others[k - 1]) {
         return true;
     }
-    let b = 2 * (starts.len() - 1);
-    let site = Site::One { q };
-    verify::verify(starts, neighbours, weights, points, f, b, p, site, k)
+    verify::verify(g, points, f, 2 * g.nodes(), p, Site::One { q }, k)
 }
 
 // Verifies a point, where the word is one and was not verified before, and flags it where it is listed.
 fn verify_once(
-    starts: &[u32],
-    neighbours: &[u32],
-    weights: &[u32],
+    g: &Network<'_>,
     points: &[u8],
-    distances: &[u32],
+    table: Table<'_>,
     f: &mut [u32],
     p: u32,
     label: u32,
     far: u32,
     q: u32,
     k: usize,
-    places: usize,
 )
-    requires { CanVerifyWord (network starts.now neighbours.now weights.now) points.now distances.now q k places f.old }
-    ensures { WordVerified (network starts.now neighbours.now weights.now) points.now distances.now q k places f.old f.new p (label + far) }
+    requires { CanVerifyWord g.now points.now table.distances.now q k table.places f.old }
+    ensures { WordVerified g.now points.now table.entry.distances.now q k table.entry.places f.old f.new p (label + far) }
 {
-    let n = starts.len() - 1;
-    let at = wide(p);
-    if n <= at {
-        return;
-    }
-    let mark = points[at];
-    if mark == 0 {
-        return;
-    }
-    let seen = f[at];
-    if seen != 0 {
+    let n = g.nodes();
+    let at = p as usize;
+    if n <= at || points[at] == 0 || f[at] != 0 {
         return;
     }
     f[at] = 1;
     // The first place of its row is its own.
-    let from = at * places + 1;
-    let end = at * places + places;
-    let yes = decide(
-        starts,
-        neighbours,
-        weights,
-        points,
-        &distances[from..end],
-        f,
-        p,
-        label,
-        far,
-        q,
-        k,
-    );
-    if yes {
+    let others = &row_of(table.distances, at, table.places)[1..];
+    if decide(g, points, others, f, p, label, far, q, k) {
         f[n + at] = 1;
     }
 }
 
 // Verifies the points of a row that are nearer than a label, cut after the first k. Returns how many places they fill.
 fn verify_row(
-    starts: &[u32],
-    neighbours: &[u32],
-    weights: &[u32],
+    g: &Network<'_>,
     points: &[u8],
-    ids_row: &[u32],
-    distances_row: &[u32],
-    distances: &[u32],
+    row: Row<'_>,
+    table: Table<'_>,
     f: &mut [u32],
     label: u32,
     q: u32,
     k: usize,
-    places: usize,
 ) -> usize
-    requires { CanVerifyRow (network starts.now neighbours.now weights.now) points.now distances.now q k places f.old ids_row.now distances_row.now }
-    ensures { RowVerified (network starts.now neighbours.now weights.now) points.now distances.now q k places f.old f.new ids_row.now distances_row.now label result }
+    requires { CanVerifyRow g.now points.now table.distances.now q k table.places f.old row.ids.now row.distances.now }
+    ensures { RowVerified g.now points.now table.entry.distances.now q k table.entry.places f.old f.new row.entry.ids.now row.entry.distances.now label result }
 {
-    let mut i = 0;
-    while i < k {
-        let far = distances_row[i];
+    for i in 0..k {
+        let far = row.distances[i];
         if label <= far {
             return i;
         }
-        let p = ids_row[i];
-        verify_once(
-            starts, neighbours, weights, points, distances, f, p, label, far, q, k, places,
-        );
-        i += 1;
+        verify_once(g, points, table, f, row.ids[i], label, far, q, k);
     }
-    i
+    k
 }
 
 // Looks at a node: its row holds the points that are nearer to it than its label. Returns how many of the first k places they fill.
 fn look(
-    starts: &[u32],
-    neighbours: &[u32],
-    weights: &[u32],
+    g: &Network<'_>,
     points: &[u8],
-    ids: &[u32],
-    distances: &[u32],
+    table: Table<'_>,
     f: &mut [u32],
     node: u32,
     label: u32,
     q: u32,
     k: usize,
-    places: usize,
 ) -> usize
-    requires { CanLookByRow (network starts.now neighbours.now weights.now) points.now ids.now distances.now q k places f.old node }
-    ensures { LookedByRow (network starts.now neighbours.now weights.now) points.now ids.now distances.now q k places f.old f.new node label result }
+    requires { CanLookByRow g.now points.now table.ids.now table.distances.now q k table.places f.old node }
+    ensures { LookedByRow g.now points.now table.entry.ids.now table.entry.distances.now q k table.entry.places f.old f.new node label result }
 {
-    let from = wide(node) * places;
-    let end = from + places;
-    verify_row(
-        starts,
-        neighbours,
-        weights,
-        points,
-        &ids[from..end],
-        &distances[from..end],
-        distances,
-        f,
-        label,
-        q,
-        k,
-        places,
-    )
+    verify_row(g, points, table.row(node as usize), table, f, label, q, k)
 }
 
 // Settles nodes by rising distance from the site, and looks at each. Where fewer than k points are found, it follows the node's arcs.
 fn explore(
-    starts: &[u32],
-    neighbours: &[u32],
-    weights: &[u32],
+    g: &Network<'_>,
     points: &[u8],
-    ids: &[u32],
-    distances: &[u32],
+    table: Table<'_>,
     s: &mut [u32],
     b: usize,
     q: u32,
     k: usize,
-    places: usize,
 )
-    requires { CanExploreQuery (network starts.now neighbours.now weights.now) points.now ids.now distances.now s.old b q k places }
-    ensures { QueryExplored (network starts.now neighbours.now weights.now) points.now ids.now distances.now q k places s.old s.new }
+    requires { CanExploreQuery g.now points.now table.ids.now table.distances.now s.old b q k table.places }
+    ensures { QueryExplored g.now points.now table.entry.ids.now table.entry.distances.now q k table.entry.places s.old s.new }
 {
-    let n = starts.len() - 1;
+    let n = g.nodes();
     step::start(s, b, n, q);
     let mut settled = 0;
     let mut len = 1;
-    loop {
-        let taken = step::next(s, b, n, len);
-        let Taken::Node {
-            label,
-            node,
-            parent: _,
-            left,
-        } = taken
-        else {
-            return;
-        };
-        let found = look(
-            starts,
-            neighbours,
-            weights,
-            points,
-            ids,
-            distances,
-            &mut s[..b],
-            node,
-            label,
-            q,
-            k,
-            places,
-        );
-        step::settle(s, b, n, settled, node, label);
+    while let Some(taken) = step::next(s, b, n, len) {
+        let f = &mut s[..b];
+        let found = look(g, points, table, f, taken.node, taken.label, q, k);
+        step::settle(s, b, n, settled, taken.node, taken.label);
         settled += 1;
-        len = left;
+        len = taken.left;
         if k <= found {
             continue;
         }
-        len = step::open(starts, neighbours, weights, s, b, left, node, label);
+        len = step::open(g, s, b, taken.left, taken.node, taken.label);
     }
 }
 
 // The points that list a site, by the table of the points. All words are 0 before and after.
 pub fn query(
-    starts: &[u32],
-    neighbours: &[u32],
-    weights: &[u32],
+    g: &Network<'_>,
     points: &[u8],
-    ids: &[u32],
-    distances: &[u32],
+    table: Table<'_>,
     s: &mut [u32],
     answers: &mut [u32],
     q: u32,
     k: usize,
-    places: usize,
 ) -> usize
-    requires { CanQuery (network starts.now neighbours.now weights.now) points.now ids.now distances.now s.old answers.old q k places }
-    ensures { QueryLeft (network starts.now neighbours.now weights.now) points.now ids.now distances.now q k places s.old s.new answers.old answers.new result }
+    requires { CanQuery g.now points.now table.ids.now table.distances.now s.old answers.old q k table.places }
+    ensures { QueryLeft g.now points.now table.entry.ids.now table.entry.distances.now q k table.entry.places s.old s.new answers.old answers.new result }
 {
-    let n = starts.len() - 1;
+    let n = g.nodes();
     let b = 6 * n;
-    explore(
-        starts, neighbours, weights, points, ids, distances, s, b, q, k, places,
-    );
+    explore(g, points, table, s, b, q, k);
     let size = flags::write_found(s, answers, n, n);
-    words::zero(s);
+    s.fill(0);
     size
 }

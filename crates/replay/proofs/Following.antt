@@ -12,24 +12,15 @@ use lib.Seq.{set_at, drop-cons, length-take-le}
 use Rattle.network.specs.Network.{Network}
 use Rattle.conditions.specs.declared.answers.Update.{Update}
 use Rattle.conditions.specs.declared.kind.Kind.{Kind}
-use Rattle.conditions.specs.declared.kind.Kind.TheVariants.{Insert, Remove}
 use Rattle.numbers.specs.Numbers.{change_number}
 use Rattle.table_calls.specs.Updated.{Arrays, ChangeExported}
 use Rattle.table_calls.proofs.Outcomes.{change_refused, change_accepted}
 use Rattle.demands.specs.Book.{Call}
 use Rattle.demands.specs.Demand3.{Run, ends, call, foreign}
 use Rattle.replay.specs.declared.CallWords.{CallWords}
-use Rattle.replay.specs.Calls.{CallArrays, kind_of, call_at, calls_below}
+use Rattle.replay.specs.Calls.{CallArrays, call_at, calls_below}
 use Rattle.replay.specs.Outcome.{Lent}
 use Rattle.replay.specs.Followed.{words_at, ListFits, CallsFollowed}
-
--- the words of the kinds
-pub insert_word : (w : ℕ) → w ≡ 0 → kind_of w ≡ Insert
-insert_word w e = rw e
-
-pub remove_word : (w : ℕ) → w ≢ 0 → kind_of w ≡ Remove
-remove_word zero n = absurd (n refl)
-remove_word (suc w) n = refl
 
 -- a run goes on
 run_more : {g : Network} {P ids distances : List ℕ} {cs : List Call} {rs : List Update} {P' ids' distances' : List ℕ}
@@ -99,7 +90,7 @@ none_before g list old fit =
 -- call j is made, with the words `w` that were read
 module _ {g : Network} {list : CallArrays} {j : ℕ} {old at : Lent} (fit : ListFits list old) (b : Before g list j old at) (h : j < length list.kinds)
     (w : CallWords) (read : w ≡ words_at list j) (made : Arrays) (r : Update)
-    (d : ChangeExported (kind_of w.kind) g w.node w.places (record { points = at.points; scratch = take w.length at.scratch; ids = at.ids; distances = at.distances }) made r) where
+    (d : ChangeExported w.kind g w.node w.places (record { points = at.points; scratch = take w.length at.scratch; ids = at.ids; distances = at.distances }) made r) where
   -- the arrays behind it
   abbrev after : Lent
   after =
@@ -123,7 +114,7 @@ module _ {g : Network} {list : CallArrays} {j : ℕ} {old at : Lent} (fit : List
         run = rw add-one (run_more f.run c r (take c.scratch_length at.scratch) made (length-take-le c.scratch_length at.scratch (omega (arith, fit.room j h, b.scratch))) (rw read at d));
         numbers = rw f.numbers (stored_next (λ u. u.number) f.answers r old.numbers j f.each (omega (arith, fit.numbers)));
         counts = rw f.counts (stored_next (λ u. u.changed) f.answers r old.counts j f.each (omega (arith, fit.counts)));
-        zero = left_zero (kind_of w.kind) g w.node w.places _ made r w.length (length old.scratch) at.scratch d refl f.zero;
+        zero = left_zero w.kind g w.node w.places _ made r w.length (length old.scratch) at.scratch d refl f.zero;
       }
 
   pub one_more : length made.points ≡ length at.points → length made.ids ≡ length at.ids → length made.distances ≡ length at.distances → Before g list (j + 1) old after

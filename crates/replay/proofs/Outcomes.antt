@@ -1,5 +1,6 @@
 -- The outcome of a replay: an unfit list, a refused build, and the run that demand 3 speaks of.
 -- Assumes nothing.
+use Rattle.std.specs.Prelude.{Ok, Err}
 use Prim.Native.Nat.{ℕ}
 use mathlib.Core.Path.{◌≡◌, sym, ap, ◌∙◌}
 use mathlib.Core.Bool.{true, false, not, ◌||◌}
@@ -17,13 +18,13 @@ use Rattle.network.proofs.Tests.{or_parts, any_none}
 use Rattle.conditions.specs.declared.answers.Update.{Update}
 use Rattle.table_calls.specs.Build.{BuildOutcome, build_outcome}
 use Rattle.demands.proofs.Demand3.{demand}
-use Rattle.replay.specs.declared.ReplayAnswer.TheVariants.{Unfit, Refused, Replayed}
+use Rattle.replay.specs.declared.ReplayError.TheVariants.{Unfit, Refused}
 use Rattle.replay.specs.Calls.{CallArrays, calls_of}
 use Rattle.replay.specs.Outcome.{Lent, Outcome, asks_more_at, is_unfit, unfit_of, build_of, replay_outcome}
 use Rattle.replay.specs.Followed.{ListFits, CallsFollowed}
 
 module _ (g : Network) (K : ℕ) (list : CallArrays) (old : Lent) where
-  pub replay_unfit : unfit_of list old ≡ true → ◌≡◌ {A = Outcome} (record { answer = Unfit; left = old }) (replay_outcome g K list old)
+  pub replay_unfit : unfit_of list old ≡ true → ◌≡◌ {A = Outcome} (record { answer = Err Unfit; left = old }) (replay_outcome g K list old)
   unfolding replay_outcome
   replay_unfit e = rw e
 
@@ -54,12 +55,12 @@ module _ (g : Network) (K : ℕ) (list : CallArrays) (old : Lent) where
     number_is : o.number ≡ build_of g K old
     number_is = ap (λ (x : BuildOutcome). x.number) e ∙ built_number
 
-    pub replay_refused : o.number ≢ 0 → ◌≡◌ {A = Outcome} (record { answer = Refused o.number; left = behind o }) (replay_outcome g K list old)
+    pub replay_refused : o.number ≢ 0 → ◌≡◌ {A = Outcome} (record { answer = Err (Refused o.number); left = behind o }) (replay_outcome g K list old)
     unfolding replay_outcome
     replay_refused n =
         let m : build_of g K old ≢ 0 = λ z. n (number_is ∙ z) in
         rw (fits, ne_eqb (build_of g K old) 0 m)
-        (λ i. record { answer = Refused (number_is i); left = (ap behind e ∙ built_refused m) i })
+        (λ i. record { answer = Err (Refused (number_is i)); left = (ap behind e ∙ built_refused m) i })
 
     module _ (accepted : o.number ≡ 0) where
       zeroed : o.scratch ≡ replicate (length old.scratch) 0
@@ -104,7 +105,7 @@ module _ (g : Network) (K : ℕ) (list : CallArrays) (old : Lent) where
 
       -- demand 3 of the run that the calls are
       pub replay_done : (new : Lent) → CallsFollowed g list (length list.kinds) (behind o) new
-          → ◌≡◌ {A = Outcome} (record { answer = Replayed; left = new }) (replay_outcome g K list old)
+          → ◌≡◌ {A = Outcome} (record { answer = Ok tt; left = new }) (replay_outcome g K list old)
       unfolding replay_outcome
       replay_done new f =
           let z = sym number_is ∙ accepted in
@@ -113,7 +114,7 @@ module _ (g : Network) (K : ℕ) (list : CallArrays) (old : Lent) where
           rw (fits, eq-eqb (build_of g K old) 0 z)
           (λ i.
           record {
-            answer = Replayed;
+            answer = Ok tt;
             left =
                 record {
                   points = d.marks i;

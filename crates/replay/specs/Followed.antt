@@ -5,7 +5,7 @@ use Rattle.network.specs.Network.{Network}
 use Rattle.conditions.specs.declared.answers.Update.{Update}
 use Rattle.demands.specs.Demand3.{Run}
 use Rattle.replay.specs.declared.CallWords.{CallWords}
-use Rattle.replay.specs.Calls.{CallArrays, calls_below}
+use Rattle.replay.specs.Calls.{CallArrays, kind_of, calls_below}
 use Rattle.replay.specs.Outcome.{Lent}
 
 -- call j of a list is there, and its words
@@ -17,7 +17,7 @@ pub record HasCall (list : CallArrays) (j : ℕ) : Type 0 where
 
 abbrev pub words_at : CallArrays → ℕ → CallWords
 words_at list j =
-    record { kind = get_or list.kinds j 0; node = get_or list.nodes j 0; places = get_or list.places j 0; length = get_or list.lengths j 0 }
+    record { kind = kind_of (get_or list.kinds j 0); node = get_or list.nodes j 0; places = get_or list.places j 0; length = get_or list.lengths j 0 }
 
 -- one entry for each call in every array, no call's scratch longer than the one lent, and that one all zero
 pub record ListFits (list : CallArrays) (old : Lent) : Type 0 where

@@ -1,14 +1,14 @@
 -- Build, then a list of calls: the answer, and the final contents of the lent arrays. Document 01, 'The plain book'.
 -- Assumes nothing.
-use Rattle.std.specs.Prelude.{ℕ, Bool, true, false, not, ◌||◌, List, map, eqb, ltb, length, get_or, replicate}
+use Rattle.std.specs.Prelude.{ℕ, Bool, Result, Ok, Err, true, false, not, ◌||◌, List, map, eqb, ltb, length, get_or, replicate}
 use Rattle.network.specs.Count.{any}
 use Rattle.network.specs.Network.{Network}
 use Rattle.network.specs.Rows.{table_ids, table_distances}
 use Rattle.conditions.specs.declared.answers.Update.{Update}
 use Rattle.numbers.specs.Numbers.{build_number}
 use Rattle.demands.specs.Book.{Call, book_answers, book_marks}
-use Rattle.replay.specs.declared.ReplayAnswer.{ReplayAnswer}
-use Rattle.replay.specs.declared.ReplayAnswer.TheVariants.{Unfit, Refused, Replayed}
+use Rattle.replay.specs.declared.ReplayError.{ReplayError}
+use Rattle.replay.specs.declared.ReplayError.TheVariants.{Unfit, Refused}
 use Rattle.replay.specs.Calls.{CallArrays, calls_of}
 
 -- the arrays that a replay may write
@@ -49,14 +49,14 @@ book_left g K calls old =
 
 -- the answer, and the final contents of the lent arrays
 pub record Outcome : Type 0 where
-  pub answer : ReplayAnswer
+  pub answer : Result (Unit {0}) ReplayError
   pub left : Lent
 
 -- an unfit list is not begun; then 'a refusal returns its number [..] and changes no buffer'; behind an accepted build, the book
 abbrev pub replay_by : ℕ → Network → ℕ → List Call → Lent → Bool → Bool → Outcome
-replay_by number g K calls old true accepted = record { answer = Unfit; left = old }
-replay_by number g K calls old false false = record { answer = Refused number; left = old }
-replay_by number g K calls old false true = record { answer = Replayed; left = book_left g K calls old }
+replay_by number g K calls old true accepted = record { answer = Err Unfit; left = old }
+replay_by number g K calls old false false = record { answer = Err (Refused number); left = old }
+replay_by number g K calls old false true = record { answer = Ok tt; left = book_left g K calls old }
 
 abbrev pub build_of : Network → ℕ → Lent → ℕ
 build_of g K old = build_number g old.points K old.scratch old.ids old.distances

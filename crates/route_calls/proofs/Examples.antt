@@ -1,6 +1,7 @@
 -- Calls with a route on N, by computing: the list along the road 0-3, in S words with k = 1, which are 16 × 6 + 8 × (10 + 6) × 1 = 224; the numbers, and which
 -- comes first where two conditions are met.
 -- Assumes nothing.
+use Rattle.std.specs.Prelude.{Ok, Err}
 use Prim.Native.Nat.{ℕ}
 use mathlib.Core.Path.{◌≡◌, refl}
 use mathlib.Core.List.{List, [], ◌∷◌}
@@ -13,12 +14,12 @@ use Rattle.network.specs.Points.{is_nearer, others_nearer, verified, is_listed}
 use Rattle.network.specs.Routes.{has_road, breaks_from, bad_route, on_route, listed_for_any, is_touched, touched}
 use Rattle.network.specs.Answers.{answered}
 use Rattle.network.specs.Cases.{roads, points}
-use Rattle.conditions.specs.declared.answers.Listed.TheVariants as is
 use Rattle.conditions.specs.Conditions.{first_number, bad_byte_at, points_number, node_number, nodes_number, k_number, short_number, route_number}
 use Rattle.numbers.specs.Numbers.{network_points_number}
 use Rattle.site_calls.specs.Shared.{SearchOutcome, list_outcome}
 use Rattle.route_calls.specs.Numbers.{route_call_number}
 use Rattle.route_calls.specs.Route.{route_outcome}
+use Rattle.conditions.specs.Values.{found_list}
 
 -- seven old answers; the call on N with its lockers; its number with k = 1, that scratch and these answers
 abbrev old : List ℕ
@@ -32,10 +33,10 @@ number R k words places = route_call_number (roads 7) points R k (replicate word
 
 record RouteCalls : Type 0 where
   -- S words are enough; one less is refused
-  listed : outcome (0 ∷ 3 ∷ []) 224 ≡ record { answer = is.Points 2 0; scratch = replicate 224 0; answers = 2 ∷ 4 ∷ 9 ∷ 9 ∷ 9 ∷ 9 ∷ 9 ∷ [] }
-  short : outcome (0 ∷ 3 ∷ []) 223 ≡ record { answer = is.Refused 10; scratch = replicate 223 9; answers = old }
+  listed : outcome (0 ∷ 3 ∷ []) 224 ≡ record { answer = Ok (found_list 2 0); scratch = replicate 224 0; answers = 2 ∷ 4 ∷ 9 ∷ 9 ∷ 9 ∷ 9 ∷ 9 ∷ [] }
+  short : outcome (0 ∷ 3 ∷ []) 223 ≡ record { answer = Err 10; scratch = replicate 223 9; answers = old }
   -- 14: a road is missing, a node follows itself, no node
-  missing : outcome (0 ∷ 1 ∷ 3 ∷ 4 ∷ []) 224 ≡ record { answer = is.Refused 14; scratch = replicate 224 9; answers = old }
+  missing : outcome (0 ∷ 1 ∷ 3 ∷ 4 ∷ []) 224 ≡ record { answer = Err 14; scratch = replicate 224 9; answers = old }
   twice : number (0 ∷ 0 ∷ []) 1 224 6 ≡ 14
   no_node : number [] 1 224 6 ≡ 14
   -- the m of 10 is k: S is 352 for k = 2

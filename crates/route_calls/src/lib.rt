@@ -1,4 +1,4 @@
-// The call with a route: document 02, Ask 7. It tries its number, and then clears the scratch and lends it to the work.
+// The call with a route: document 02, Ask 7. It tests its conditions, and then clears the scratch and lends it to the work.
 #![tactic(auto)]
 
 pub mod call;

@@ -28,7 +28,7 @@ use Rattle.searches.specs.Flags.{Flags}
 use Rattle.searches.proofs.Beaten.{Unbeaten}
 use Rattle.searches.proofs.Finds.{Met}
 use Rattle.searches.proofs.Searching.{SearchFrom, Searching, found_all}
-use Rattle.routes.specs.Route.{route_outer_base, stop_word, CanStartRoute, RouteStarted, CanRoute, RouteExplored}
+use Rattle.routes.specs.Route.{route_outer_base, stop_word, RouteStarted, CanRoute, RouteExplored}
 
 -- the search under way, where the nodes of the route are those of the words ws
 abbrev pub FromRoute : Network → List ℕ → List ℕ → ℕ → List ℕ → ℕ → ℕ → Type 0
@@ -38,10 +38,6 @@ FromRoute g P ws k xs settled len =
 module _ {g : Network} {P R : List ℕ} {k : ℕ} {s₀ : List ℕ} (c : CanRoute g P R s₀ k) where
   ok : Accepted g
   ok = c.accepted
-
-  pub can_start : CanStartRoute (node_count g) R s₀ (route_outer_base g)
-  can_start =
-      record { few = ok.few; inside = c.inside; blank = c.blank; before = omega arith; room = omega (arith, c.size) }
 
   -- the search goes on from any nodes
   pub from_route : (S : List ℕ) → SearchFrom g P (several g S) Stops (is_received g P S k) k (route_outer_base g)

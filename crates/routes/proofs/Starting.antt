@@ -1,18 +1,19 @@
 -- The nodes of a route are put in, one after the other: each has its mark and waits at label 0, once.
 -- Assumes nothing.
-use Prim.Native.Nat.{ℕ, zero, suc, ◌+◌, ◌*◌, ◌≤◌, ◌<◌}
+use Prim.Native.Nat.{ℕ, zero, suc, ◌+◌, ◌<◌}
 use mathlib.Core.Path.{◌≡◌, refl, sym, ap, ◌∙◌}
 use mathlib.Core.Bool.{Bool, true, false, not, ◌||◌}
 use mathlib.Core.Logic.{◌≢◌, inl, ⊎_elim}
 use mathlib.Core.List.{List, [], ◌∷◌}
-use native.Mathlib.Decide.{ℕ_discrete, dec_le}
+use native.Mathlib.Decide.{ℕ_discrete}
 use native.Mathlib.Omega.{arith}
 use native.Mathlib.Numerals.{add-one}
 use lib.Dec.{eqb}
 use lib.ListN.{length, get_or, set, take, length-set}
 use lib.Seq.{get_or-set_same, get_or-set_other}
-use borrow.Author.Tests.{eq-eqb, ne_eqb, eqb-true, eqb-false, not-true, not-false}
+use borrow.Author.Tests.{eq-eqb, ne_eqb, eqb-true, not-false}
 use Rattle.network.specs.Routes.{on_route}
+use Rattle.network.proofs.Routes.{on_place}
 use Rattle.network.proofs.Tests.{bool_cases}
 use Rattle.expansion.specs.Queue.{key_of}
 use Rattle.expansion.specs.Tags.{tag_of, node_of}
@@ -38,11 +39,8 @@ on_next v (r ∷ rs) zero h = refl
 on_next v (r ∷ rs) (suc i) h =
     ap (λ b. eqb v r || b) (on_next v rs i (omega arith)) ∙ or_swap (eqb v r) (eqb v (get_or rs i 0)) (on_route (take i rs) v)
 
-on_more : (R : List ℕ) (i v x : ℕ) → i < length R → x ≡ get_or R i 0 → on_route (take (i + 1) R) v ≡ (eqb v x || on_route (take i R) v)
-on_more R i v x h is =
-    ap (λ (j : ℕ). on_route (take j R) v) (add-one i)
-    ∙ on_next v R i h
-    ∙ ap (λ (y : ℕ). eqb v y || on_route (take i R) v) (sym is)
+on_more : (R : List ℕ) (i v : ℕ) → i < length R → on_route (take (i + 1) R) v ≡ (eqb v (get_or R i 0) || on_route (take i R) v)
+on_more R i v h = ap (λ (j : ℕ). on_route (take j R) v) (add-one i) ∙ on_next v R i h
 
 pub started_none : {n : ℕ} {R xs : List ℕ} {b : ℕ} → CanStartRoute n R xs b → RouteStarted n [] xs xs b 0
 unfolding on_route
@@ -66,8 +64,14 @@ started_same same s =
       waits = λ v h. s.waits v h ∙ sym (same v);
     }
 
--- a node x of the list has its turn
-module _ (i : ℕ) {n : ℕ} {R xs ys : List ℕ} {b len : ℕ} (c : CanStartRoute n R xs b) (s : RouteStarted n (take i R) xs ys b len) {x : ℕ} (inside : x < n) where
+-- node x of the list, its i-th, has its turn
+module _ (i : ℕ) {n : ℕ} {R xs ys : List ℕ} {b len : ℕ} (c : CanStartRoute n R xs b) (s : RouteStarted n (take i R) xs ys b len) (h : i < length R) where
+  abbrev x : ℕ
+  x = get_or R i 0
+
+  pub inside : x < n
+  inside = c.inside x (on_place R i h)
+
   pub mark_fits : x < length ys
   mark_fits = omega (arith, inside, s.area.queue.room)
 
@@ -79,32 +83,13 @@ module _ (i : ℕ) {n : ℕ} {R xs ys : List ℕ} {b len : ℕ} (c : CanStartRou
       (λ e. absurd (m (s.marks x inside ∙ ap stop_word e)))
       (bool_cases (on_route (take i R) x))
 
-  -- a mark is that of an entry
-  pub mark_most : get_or ys x 0 ≤ 2 * len
-  mark_most =
-      ⊎_elim
-      (λ e. let seat = on_waits e in omega (arith, s.marks x inside, ap stop_word e, entry (get_or ys (b + x) 0) refl seat))
-      (λ e. omega (arith, s.marks x inside, ap stop_word e))
-      (bool_cases (on_route (take i R) x))
-    where
-      on_waits : on_route (take i R) x ≡ true → get_or ys (b + x) 0 ≢ 0
-      on_waits e = eqb-false (get_or ys (b + x) 0) 0 (not-true (eqb (get_or ys (b + x) 0) 0) (s.waits x inside ∙ e))
-
-      entry : (w : ℕ) → get_or ys (b + x) 0 ≡ w → get_or ys (b + x) 0 ≢ 0 → 1 ≤ len
-      entry zero e m = absurd (m e)
-      entry (suc j) e m =
-          elim (dec_le (get_or ys (b + x) 0) n) [
-            | yes l ↦ omega (arith, (s.area.queue.waits x j inside e (omega arith)).0)
-            | no l ↦ absurd (omega (arith, (s.area.labelled x inside (omega arith)).low))
-          ]
-
   -- it was put in before
-  pub started_again : i < length R → x ≡ get_or R i 0 → get_or ys x 0 ≢ 0 → RouteStarted n (take (i + 1) R) xs ys b len
-  started_again h is m = started_same same s
+  pub started_again : get_or ys x 0 ≢ 0 → RouteStarted n (take (i + 1) R) xs ys b len
+  started_again m = started_same same s
     where
       same : (v : ℕ) → on_route (take (i + 1) R) v ≡ on_route (take i R) v
       same v =
-          on_more R i v x h is
+          on_more R i v h
           ∙ elim (ℕ_discrete v x) [
             | yes e ↦ rw (e, eq-eqb x x refl) (sym (marked_on m))
             | no d ↦ rw (ne_eqb v x d)
@@ -136,7 +121,7 @@ module _ (i : ℕ) {n : ℕ} {R xs ys : List ℕ} {b len : ℕ} (c : CanStartRou
         let low : x < 65536 = omega (arith, inside, c.few) in
         rw (e, key_own 0 x x low low) (inside, inl seat)
 
-    module _ (h : i < length R) (is : x ≡ get_or R i 0) {zs : List ℕ} (p : PushedNode n (set ys x 2) zs b (queue_base n b) len (key_of 0 (tag_of x x))) where
+    module _ {zs : List ℕ} (p : PushedNode n (set ys x 2) zs b (queue_base n b) len (key_of 0 (tag_of x x))) where
       front : (j : ℕ) → j < b → get_or zs j 0 ≡ get_or (set ys x 2) j 0
       front j l = p.frame.before j l
 
@@ -145,14 +130,14 @@ module _ (i : ℕ) {n : ℕ} {R xs ys : List ℕ} {b len : ℕ} (c : CanStartRou
           pushed_waits (area_beside beside s.area) inside p v l
           ∙ ap (λ (w : ℕ). eqb v x || not (eqb w 0)) (beside.words (b + v) (omega arith))
           ∙ ap (λ w. eqb v x || w) (s.waits v l)
-          ∙ sym (on_more R i v x h is)
+          ∙ sym (on_more R i v h)
 
       marks : (v : ℕ) → v < n → get_or zs v 0 ≡ stop_word (on_route (take (i + 1) R) v)
       marks v l =
           front v (omega (arith, c.before))
           ∙ elim (ℕ_discrete v x) [
-            | yes e ↦ rw (e, on_more R i x x h is, eq-eqb x x refl) (get_or-set_same ys x 2 0 mark_fits)
-            | no d ↦ rw (on_more R i v x h is, ne_eqb v x d) (get_or-set_other ys x v 2 0 d ∙ s.marks v l)
+            | yes e ↦ rw (e, on_more R i x h, eq-eqb x x refl) (get_or-set_same ys x 2 0 mark_fits)
+            | no d ↦ rw (on_more R i v h, ne_eqb v x d) (get_or-set_other ys x v 2 0 d ∙ s.marks v l)
           ]
 
       pub started_more : RouteStarted n (take (i + 1) R) xs zs b (len + 1)

@@ -3,46 +3,39 @@
 use Prim.Native.Nat.{ℕ, zero, suc, ◌+◌, ◌-◌, ◌≤◌, ◌<◌}
 use mathlib.Core.Path.{◌≡◌, refl, sym, ap, ◌∙◌}
 use mathlib.Core.Bool.{true, false, false≢true}
-use mathlib.Core.Logic.{⊎_elim}
 use mathlib.Core.List.{List, [], ◌∷◌, ◌++◌}
-use native.Mathlib.Nat.{eq-or-lt_of_le, le_of_suc-le-suc, not-suc-le-zero}
+use native.Mathlib.Nat.{le_of_suc-le-suc}
 use native.Mathlib.Numerals.{add-one}
-use native.Mathlib.Decide.{dec_lt, dec_le}
+use native.Mathlib.Decide.{dec_le}
 use native.Mathlib.Omega.{arith}
-use lib.Dec.{ltb}
-use lib.ListN.{length, get_or, take, set, replicate}
+use lib.ListN.{length, take, drop, set, replicate}
+use lib.Seq.{drop-length}
+use Rattle.std.specs.List.{copy_within}
+use Rattle.std.proofs.lemmas.List.{append-nil}
 use borrow.Author.Tests.{lt-ltb, le-ltb}
 use Rattle.network.specs.Distance.{NONE}
 use Rattle.network.specs.Nearest.{key, insert}
 use Rattle.network.specs.Rows.{pad}
 use Rattle.network.proofs.Insert.{insert_behind, insert_before, insert_length}
 use Rattle.rows.specs.Flat.{place, places}
-use Rattle.rows.specs.Put.{takes, insert_at, PlaceOf}
+use Rattle.rows.specs.Put.{takes, insert_at, FirstBehind, NoneBehind}
 
--- ---- The loop that looks for the place: one more entry does not come behind.
-pub before_more : (ids dists : List ℕ) (x : ℕ × ℕ) (at : ℕ) → ((j : ℕ) → j < at → key (place ids dists j) ≤ key x) → key (place ids dists at) ≤ key x
-    → (j : ℕ) → j < at + 1 → key (place ids dists j) ≤ key x
-before_more ids dists x at all h j l =
-    ⊎_elim
-    (λ (e : j ≡ at). rw e h)
-    (λ m. all j m)
-    (eq-or-lt_of_le (le_of_suc-le-suc (rw add-one at l)))
-
--- ---- The loop that shifts: v is put at k, and what stood there is to go one place on.
-insert_suc : (k v : ℕ) (xs : List ℕ) → k < length xs → insert_at k v xs ≡ insert_at (suc k) (get_or xs k 0) (set xs k v)
+-- ---- The shift: what stands from the place on is copied up by one, and v is stored at the place.
+moved_up : (n v : ℕ) (xs : List ℕ) → n ≡ length xs → take n (v ∷ xs) ≡ insert_at 0 v xs
 unfolding insert_at
-insert_suc k v [] h = absurd (not-suc-le-zero h)
-insert_suc zero v (x ∷ xs) h = refl
-insert_suc (suc k) v (x ∷ xs) h = ap (λ (l : List ℕ). x ∷ l) (insert_suc k v xs (le_of_suc-le-suc h))
+moved_up n v [] e = rw e
+moved_up n v (x ∷ xs) e = rw e (ap (λ (l : List ℕ). v ∷ l) (moved_up (length xs) x xs refl))
 
-pub insert_turn : (k v : ℕ) (xs : List ℕ) → k < length xs → insert_at (k + 1) (get_or xs k 0) (set xs k v) ≡ insert_at k v xs
-insert_turn k v xs h = rw add-one (sym (insert_suc k v xs h))
-
-pub insert_end : (k v : ℕ) (xs : List ℕ) → length xs ≤ k → insert_at k v xs ≡ xs
+shifted_at : (j v n : ℕ) (xs : List ℕ) → n + suc j ≡ length xs → set (take (suc j) xs ++ take n (drop j xs)) j v ≡ insert_at j v xs
 unfolding insert_at
-insert_end k v [] h = refl
-insert_end zero v (x ∷ xs) h = absurd (not-suc-le-zero h)
-insert_end (suc k) v (x ∷ xs) h = ap (λ (l : List ℕ). x ∷ l) (insert_end k v xs (le_of_suc-le-suc h))
+shifted_at j v n [] e = absurd (omega arith)
+shifted_at zero v n (x ∷ xs) e = ap (λ (l : List ℕ). v ∷ l) (moved_up n x xs (omega arith))
+shifted_at (suc j) v n (x ∷ xs) e = ap (λ (l : List ℕ). x ∷ l) (shifted_at j v n xs (omega arith))
+
+pub insert_shift : (j v : ℕ) (xs ys : List ℕ) → j < length xs → ys ≡ copy_within xs j (length xs - 1) (j + 1) → set ys j v ≡ insert_at j v xs
+insert_shift j v xs ys h e =
+    let q : (j + 1) + (length xs - 1 - j) ≡ length xs = omega arith in
+    rw (e, q, drop-length xs, append-nil, add-one) (shifted_at j v (length xs - 1 - j) xs (omega arith))
 
 pub insert_size : (k v : ℕ) (xs : List ℕ) → length (insert_at k v xs) ≡ length xs
 unfolding insert_at
@@ -94,44 +87,39 @@ moved q e (a ∷ rest) (b ∷ bs) h =
     rw (insert_front q a rest, insert_front e b bs, places_cons q e (insert_at 0 a rest) (insert_at 0 b bs) (length rest), places_cons a b rest bs (length rest))
     (ap (λ (l : List (ℕ × ℕ)). (q, e) ∷ l) (moved a b rest bs (omega arith)))
 
-ltb_suc : (j n : ℕ) → ltb (suc j) (suc n) ≡ ltb j n
-ltb_suc j n =
-    elim (dec_lt j n) [
-      | yes h ↦ lt-ltb (suc j) (suc n) (omega arith) ∙ sym (lt-ltb j n h)
-      | no h ↦ le-ltb (suc j) (suc n) (omega arith) ∙ sym (le-ltb j n (omega arith))
-    ]
-
 module _ (p d : ℕ) where
-  later : {q e j : ℕ} {qs es : List ℕ} → PlaceOf (q ∷ qs) (e ∷ es) p d (suc j) → PlaceOf qs es p d j
-  later o =
-      record {
-        most = le_of_suc-le-suc o.most;
-        before = λ i h. o.before (suc i) (omega arith);
-        behind = λ h. o.behind (omega arith);
-      }
+  later : {q e j : ℕ} {qs es : List ℕ} → FirstBehind (q ∷ qs) (e ∷ es) p d (suc j) → FirstBehind qs es p d j
+  later o = record { low = le_of_suc-le-suc o.low; before = λ i h. o.before (suc i) (omega arith); behind = o.behind }
 
   -- what `put_in` leaves
-  pub put_row : (j : ℕ) (ids dists : List ℕ) → length dists ≡ length ids → PlaceOf ids dists p d j
+  pub put_row : (j : ℕ) (ids dists : List ℕ) → length dists ≡ length ids → FirstBehind ids dists p d j
       → places (insert_at j p ids) (insert_at j d dists) 0 (length ids) ≡ take (length ids) (insert (p, d) (places ids dists 0 (length ids)))
-  put_row j [] dists h o = places_nil (insert_at j p []) (insert_at j d dists) 0
+  put_row j [] dists h o = absurd (omega (arith, o.low))
   put_row j (q ∷ qs) [] h o = absurd (omega arith)
   put_row zero (q ∷ qs) (e ∷ es) h o =
-      rw (insert_front p q qs, insert_front d e es, places_cons p d (insert_at 0 q qs) (insert_at 0 e es) (length qs), places_cons q e qs es (length qs), insert_before (p, d) (q, e) (places qs es 0 (length qs)) (o.behind (omega arith)))
+      rw (insert_front p q qs, insert_front d e es, places_cons p d (insert_at 0 q qs) (insert_at 0 e es) (length qs), places_cons q e qs es (length qs), insert_before (p, d) (q, e) (places qs es 0 (length qs)) o.behind)
       (ap (λ (l : List (ℕ × ℕ)). (p, d) ∷ l) (moved q e qs es (omega arith)))
   put_row (suc j) (q ∷ qs) (e ∷ es) h o =
       rw (insert_later j p q qs, insert_later j d e es, places_cons q e (insert_at j p qs) (insert_at j d es) (length qs), places_cons q e qs es (length qs), insert_behind (p, d) (q, e) (places qs es 0 (length qs)) (o.before zero (omega arith)))
       (ap (λ (l : List (ℕ × ℕ)). (q, e) ∷ l) (put_row j qs es (omega arith) (later o)))
 
-  pub put_taken : (j : ℕ) (ids dists : List ℕ) → length dists ≡ length ids → PlaceOf ids dists p d j
-      → ltb j (length ids) ≡ takes (p, d) (places ids dists 0 (length ids))
-  put_taken j [] dists h o = rw (places_nil [] dists 0, takes_nil (p, d)) (le-ltb j 0 (omega arith))
+  pub put_taken : (j : ℕ) (ids dists : List ℕ) → length dists ≡ length ids → FirstBehind ids dists p d j
+      → true ≡ takes (p, d) (places ids dists 0 (length ids))
+  put_taken j [] dists h o = absurd (omega (arith, o.low))
   put_taken j (q ∷ qs) [] h o = absurd (omega arith)
   put_taken zero (q ∷ qs) (e ∷ es) h o =
-      rw (places_cons q e qs es (length qs), takes_before (p, d) (q, e) (places qs es 0 (length qs)) (o.behind (omega arith)))
-      (lt-ltb 0 (suc (length qs)) (omega arith))
+      rw (places_cons q e qs es (length qs), takes_before (p, d) (q, e) (places qs es 0 (length qs)) o.behind) refl
   put_taken (suc j) (q ∷ qs) (e ∷ es) h o =
       rw (places_cons q e qs es (length qs), takes_behind (p, d) (q, e) (places qs es 0 (length qs)) (o.before zero (omega arith)))
-      (ltb_suc j (length qs) ∙ put_taken j qs es (omega arith) (later o))
+      (put_taken j qs es (omega arith) (later o))
+
+  -- where no entry comes behind
+  pub put_none : (ids dists : List ℕ) → length dists ≡ length ids → NoneBehind ids dists p d → false ≡ takes (p, d) (places ids dists 0 (length ids))
+  put_none [] dists h o = rw (places_nil [] dists 0, takes_nil (p, d)) refl
+  put_none (q ∷ qs) [] h o = absurd (omega arith)
+  put_none (q ∷ qs) (e ∷ es) h o =
+      rw (places_cons q e qs es (length qs), takes_behind (p, d) (q, e) (places qs es 0 (length qs)) (o.before zero (omega arith)))
+      (put_none qs es (omega arith) (record { before = λ i l. o.before (suc i) (omega arith) }))
 
 -- ---- A row that does not take x is as it was; what is nearer is taken too.
 pub not_taken : (x : ℕ × ℕ) (xs : List (ℕ × ℕ)) → takes x xs ≡ false → take (length xs) (insert x xs) ≡ xs

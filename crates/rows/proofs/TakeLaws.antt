@@ -3,16 +3,21 @@
 use Prim.Native.Nat.{ℕ, zero, suc, ◌+◌, ◌-◌, ◌≤◌, ◌<◌}
 use mathlib.Core.Path.{◌≡◌, refl, sym, ap, ◌∙◌}
 use mathlib.Core.Bool.{true, false}
-use mathlib.Core.Logic.{◌≢◌, ⊎_elim}
+use mathlib.Core.Logic.{◌≢◌}
 use mathlib.Core.List.{List, [], ◌∷◌, ◌++◌, Memᴰ, append_assoc}
-use native.Mathlib.Nat.{eq-or-lt_of_le, le_of_suc-le-suc, not-suc-le-zero, zero-add}
-use native.Mathlib.Numerals.{add-one}
+use native.Mathlib.Nat.{le_of_suc-le-suc, not-suc-le-zero, zero-add}
 use native.Mathlib.Decide.{ℕ_discrete, dec_lt, dec_le}
 use native.Mathlib.Omega.{arith}
 use lib.Dec.{eqb}
 use lib.ListN.{length, get_or, set, replicate, length-set, length-append, get_or-eq_default}
 use lib.Seq.{ext_get_or, get_or-set_same, get_or-set_other}
-use borrow.Author.Tests.{eq-eqb, ne_eqb}
+use borrow.Author.Tests.{eq-eqb, ne_eqb, eqb-true, eqb-false}
+use Rattle.std.specs.Prelude.{◌==◌, Some, None}
+use Rattle.std.specs.List.{position, position_or_len, CopiedTo, SameBelow}
+use Rattle.std.proofs.lemmas.Grind.{common_steps}
+use Rattle.std.proofs.lemmas.List.{get_or_default}
+use Rattle.std.proofs.lemmas.List.Quantifiers.{position-Some}
+use Rattle.std.proofs.lemmas.List.Sums.{fails_before_first}
 use Rattle.network.specs.Distance.{NONE}
 use Rattle.network.specs.Nearest.{key, insert}
 use Rattle.network.specs.Order.{Ordered, times}
@@ -20,65 +25,48 @@ use Rattle.network.specs.Rows.{pad}
 use Rattle.network.proofs.Ordered.{Small, key_pair}
 use Rattle.network.proofs.Insert.{insert_behind, insert_before, insert_length, insert_nil}
 use Rattle.rows.specs.Flat.{place, places}
-use Rattle.rows.specs.Take.{take_out, PointAt, TakenAt}
+use Rattle.rows.specs.Take.{take_out, TakenAt}
 use Rattle.rows.specs.Check.{among}
 use Rattle.rows.proofs.Flat.{places_length, places_at}
 use Rattle.rows.proofs.CheckRows.{times_places}
 
--- ---- The loop that looks for the place.
-pub point_more : (ids : List ℕ) (p at : ℕ) → ((j : ℕ) → j < at → get_or ids j 0 ≢ p) → get_or ids at 0 ≢ p → (j : ℕ) → j < at + 1 → get_or ids j 0 ≢ p
-point_more ids p at all h j l e =
-    ⊎_elim (λ (q : j ≡ at). h (rw q at e)) (λ m. all j m e) (eq-or-lt_of_le (le_of_suc-le-suc (rw add-one at l)))
+-- ---- The place: the first that holds p, or none does.
+pub record First (ids : List ℕ) (p r : ℕ) : Type 0 where
+  pub low : r < length ids
+  pub before : (j : ℕ) → j < r → get_or ids j 0 ≢ p
+  pub here : get_or ids r 0 ≡ p
 
--- ---- The loop that shifts, from the end down to the place: what stood at `at` is held.
-default_any : (xs : List ℕ) (j d e : ℕ) → j < length xs → get_or xs j d ≡ get_or xs j e
-default_any [] j d e h = absurd (not-suc-le-zero h)
-default_any (x ∷ xs) zero d e h = refl
-default_any (x ∷ xs) (suc j) d e h = default_any xs j d e (le_of_suc-le-suc h)
+pub first_place : (ids : List ℕ) (p r : ℕ) → position (λ q. q == p) ids ≡ Some r → First ids p r
+first_place ids p r e =
+    let s = position-Some (λ q. q == p) ids r 0 e in
+    record { low = s.0; before = λ j l. eqb-false _ _ (s.2 j l); here = eqb-true _ _ s.1 }
 
-pub record Shifting (xs ys : List ℕ) (place at held : ℕ) : Type 0 where
-  pub size : length ys ≡ length xs
-  pub low : place ≤ at
-  pub high : at ≤ length xs
-  pub kept : (j : ℕ) → j < at → get_or ys j 0 ≡ get_or xs j 0
-  pub moved : (j : ℕ) → at ≤ j → j < length xs → get_or ys j 0 ≡ get_or xs (suc j) NONE
-  pub holds : held ≡ get_or xs at NONE
+pub no_place : (ids : List ℕ) (p : ℕ) → position (λ q. q == p) ids ≡ None → (j : ℕ) → j < length ids → get_or ids j 0 ≢ p
+no_place ids p e j l =
+    let most : length ids ≤ position_or_len (λ q. q == p) ids = grind (arith, common_steps) in
+    eqb-false _ _ (fails_before_first (λ q. q == p) ids j 0 (omega arith))
 
-pub shift_none : (xs : List ℕ) (place : ℕ) → place ≤ length xs → Shifting xs xs place (length xs) NONE
-shift_none xs place h =
+-- ---- The shift: what stands behind the place is copied down by one, and the last place is emptied.
+pub take_shift : (xs ys : List ℕ) (place : ℕ) → place < length xs → length ys ≡ length xs → CopiedTo xs ys (place + 1) place (length xs - (place + 1)) → SameBelow xs ys place
+    → TakenAt xs (set ys (length xs - 1) NONE) place
+take_shift xs ys place h size copied kept =
+    let last = length xs - 1 in
     record {
-      size = refl;
-      low = h;
-      high = omega arith;
-      kept = λ j l. refl;
-      moved = λ j l m. absurd (omega arith);
-      holds = sym (get_or-eq_default xs NONE {n = length xs} (omega arith));
-    }
-
-pub shift_more : {xs ys : List ℕ} {place at held : ℕ} → Shifting xs ys place at held → place < at → Shifting xs (set ys (at - 1) held) place (at - 1) (get_or ys (at - 1) 0)
-shift_more {xs} {ys} {place} {at} {held} s h =
-    record {
-      size = simp length-set s.size;
-      low = omega arith;
-      high = omega (arith, s.high);
-      kept = λ j l. get_or-set_other ys (at - 1) j held 0 (omega arith) ∙ s.kept j (omega arith);
-      moved =
+      size = simp length-set size;
+      before = λ j l. get_or-set_other ys last j NONE 0 (omega arith) ∙ kept j 0 l;
+      behind =
           λ j l m.
-          elim (ℕ_discrete j (at - 1)) [
+          elim (ℕ_discrete j last) [
             | yes e ↦
-                let q : suc j ≡ at = omega arith in
-                ap (λ v. get_or (set ys (at - 1) held) v 0) e
-                ∙ get_or-set_same ys (at - 1) held 0 (omega (arith, s.size, s.high))
-                ∙ s.holds
-                ∙ ap (λ v. get_or xs v NONE) (sym q)
-            | no n ↦ get_or-set_other ys (at - 1) j held 0 n ∙ s.moved j (omega arith) m
+                rw e (get_or-set_same ys last NONE 0 (omega arith))
+                ∙ sym (get_or-eq_default xs NONE {n = suc j} (omega arith))
+            | no n ↦
+                let q : (place + 1) + (j - place) ≡ suc j = omega arith in
+                get_or-set_other ys last j NONE 0 n
+                ∙ copied j 0 l (omega arith)
+                ∙ rw q (get_or_default xs (suc j) 0 NONE (omega arith))
           ];
-      holds = s.kept (at - 1) (omega arith) ∙ default_any xs (at - 1) 0 NONE (omega (arith, s.high));
     }
-
-pub shift_all : {xs ys : List ℕ} {place at held : ℕ} → Shifting xs ys place at held → at ≤ place → TakenAt xs ys place
-shift_all s h =
-    record { size = s.size; before = λ j l. s.kept j (omega (arith, s.low)); behind = λ j l m. s.moved j (omega (arith, s.low)) m }
 
 -- ---- The clauses of `take_out`.
 take_here : (p : ℕ) (y : ℕ × ℕ) (ys : List (ℕ × ℕ)) → y.0 ≡ p → take_out p (y ∷ ys) ≡ ys ++ (NONE, NONE) ∷ []
@@ -134,7 +122,7 @@ module _ (p : ℕ) (z : ℕ × ℕ) where
   take_absent (y ∷ ys) all = take_later p y ys (all zero (omega arith)) ∙ ap (λ l. y ∷ l) (take_absent ys (λ i l. all (suc i) (omega arith)))
 
 -- ---- What `take_out` leaves.
-module _ {ids dists ids' dists' : List ℕ} {p r : ℕ} (same : length dists ≡ length ids) (o : PointAt ids p r) (t : TakenAt ids ids' r) (u : TakenAt dists dists' r) where
+module _ {ids dists ids' dists' : List ℕ} {p r : ℕ} (same : length dists ≡ length ids) (o : First ids p r) (t : TakenAt ids ids' r) (u : TakenAt dists dists' r) where
   abbrev row : List (ℕ × ℕ)
   row = places ids dists 0 (length ids)
 
@@ -148,7 +136,7 @@ module _ {ids dists ids' dists' : List ℕ} {p r : ℕ} (same : length dists ≡
   id_at_lem j h = ap (λ (x : ℕ × ℕ). x.0) (row_at j h)
 
   others : (j : ℕ) → j < r → (get_or row j (0, 0)).0 ≢ p
-  others j h e = o.before j h (sym (id_at_lem j (omega (arith, o.most))) ∙ e)
+  others j h e = o.before j h (sym (id_at_lem j (omega (arith, o.low))) ∙ e)
 
   next_at : (j : ℕ) → j < length ids → get_or row (suc j) (NONE, NONE) ≡ (get_or ids (suc j) NONE, get_or dists (suc j) NONE)
   next_at j h =
@@ -156,7 +144,7 @@ module _ {ids dists ids' dists' : List ℕ} {p r : ℕ} (same : length dists ≡
         | yes l ↦
             places_at ids dists 0 (length ids) (suc j) (NONE, NONE) l
             ∙ ap (place ids dists) (zero-add (suc j))
-            ∙ λ k. (default_any ids (suc j) 0 NONE l k, default_any dists (suc j) 0 NONE (omega (arith, same)) k)
+            ∙ λ k. (get_or_default ids (suc j) 0 NONE l k, get_or_default dists (suc j) 0 NONE (omega (arith, same)) k)
         | no n ↦
             get_or-eq_default row (NONE, NONE) {n = suc j} (omega (arith, long))
             ∙ λ k. (
@@ -167,23 +155,15 @@ module _ {ids dists ids' dists' : List ℕ} {p r : ℕ} (same : length dists ≡
 
   new_at : (j : ℕ) → j < length ids → place ids' dists' j ≡ get_or (take_out p row) j (0, 0)
   new_at j h =
-      elim (dec_lt r (length ids)) [
-        | yes l ↦
-            elim (dec_lt j r) [
-              | yes b ↦
-                  (λ k. (t.before j b k, u.before j b k))
-                  ∙ sym (row_at j h)
-                  ∙ sym (take_before p (0, 0) row j r (omega (arith, long)) others b)
-              | no b ↦
-                  (λ k. (t.behind j (omega arith) h k, u.behind j (omega arith) (omega (arith, same)) k))
-                  ∙ sym (next_at j h)
-                  ∙ sym (take_behind p (0, 0) row j r (omega (arith, long)) others (id_at_lem r l ∙ o.here l) (omega arith) (omega (arith, long)))
-            ]
-        | no m ↦
-            let b : j < r = omega arith in
+      elim (dec_lt j r) [
+        | yes b ↦
             (λ k. (t.before j b k, u.before j b k))
             ∙ sym (row_at j h)
-            ∙ ap (λ l. get_or l j (0, 0)) (sym (take_absent p (0, 0) row (λ i l. others i (omega (arith, long)))))
+            ∙ sym (take_before p (0, 0) row j r (omega (arith, long, o.low)) others b)
+        | no b ↦
+            (λ k. (t.behind j (omega arith) h k, u.behind j (omega arith) (omega (arith, same)) k))
+            ∙ sym (next_at j h)
+            ∙ sym (take_behind p (0, 0) row j r (omega (arith, long, o.low)) others (id_at_lem r o.low ∙ o.here) (omega arith) (omega (arith, long)))
       ]
 
   pub taken_row : places ids' dists' 0 (length ids) ≡ take_out p (places ids dists 0 (length ids))
@@ -193,6 +173,14 @@ module _ {ids dists ids' dists' : List ℕ} {p r : ℕ} (same : length dists ≡
       (λ j l.
       let h : j < length ids = omega (arith, places_length ids' dists' 0 (length ids)) in
       places_at ids' dists' 0 (length ids) j (0, 0) h ∙ ap (place ids' dists') (zero-add j) ∙ new_at j h)
+
+-- a row that does not hold p is as it was
+pub not_there : (ids dists : List ℕ) (p : ℕ) → ((j : ℕ) → j < length ids → get_or ids j 0 ≢ p) → places ids dists 0 (length ids) ≡ take_out p (places ids dists 0 (length ids))
+not_there ids dists p none =
+    sym (take_absent p (0, 0) (places ids dists 0 (length ids))
+    (λ j l e.
+    let h : j < length ids = omega (arith, places_length ids dists 0 (length ids)) in
+    none j h (sym (ap (λ (x : ℕ × ℕ). x.0) (places_at ids dists 0 (length ids) j (0, 0) h ∙ ap (place ids dists) (zero-add j))) ∙ e)))
 
 -- ---- Whether the row has all lockers of p.
 module _ (ids dists : List ℕ) (p all c : ℕ) (e : c ≡ among ids p (length ids)) where

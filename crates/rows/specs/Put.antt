@@ -2,7 +2,7 @@
 -- drops. Document 01, 'The table', with Ask 8: 'Insert adds one', and 'brings the table up to date'. Any contents are allowed: on a table that the
 -- check would deny the row is free.
 -- Assumes nothing.
-use Rattle.std.specs.Prelude.{ℕ, zero, suc, ◌+◌, ◌*◌, ◌≤◌, ◌<◌, ◌≡◌, ◌≢◌, Bool, false, ◌||◌, List, [], ◌∷◌, ltb, length, take}
+use Rattle.std.specs.Prelude.{ℕ, zero, suc, ◌+◌, ◌*◌, ◌≤◌, ◌<◌, ◌≡◌, ◌≢◌, Bool, false, ◌||◌, List, [], ◌∷◌, Option, MatchOption, ltb, length, take}
 use Rattle.network.specs.Nearest.{key, insert}
 use Rattle.rows.specs.Flat.{place, places, row_at}
 
@@ -17,11 +17,17 @@ insert_at j v [] = []
 insert_at zero v (x ∷ xs) = v ∷ insert_at zero x xs
 insert_at (suc j) v (x ∷ xs) = x ∷ insert_at j v xs
 
--- place r is the first whose entry comes behind (p, d), or the end of the row
-pub record PlaceOf (ids dists : List ℕ) (p d r : ℕ) : Type 0 where
-  pub most : r ≤ length ids
+-- place r is the first whose entry comes behind (p, d); no entry does
+pub record FirstBehind (ids dists : List ℕ) (p d r : ℕ) : Type 0 where
+  pub low : r < length ids
   pub before : (j : ℕ) → j < r → key (place ids dists j) ≤ key (p, d)
-  pub behind : r < length ids → key (p, d) < key (place ids dists r)
+  pub behind : key (p, d) < key (place ids dists r)
+
+pub record NoneBehind (ids dists : List ℕ) (p d : ℕ) : Type 0 where
+  pub before : (j : ℕ) → j < length ids → key (place ids dists j) ≤ key (p, d)
+
+abbrev pub PlaceOf : List ℕ → List ℕ → ℕ → ℕ → Option ℕ → Type 0
+PlaceOf ids dists p d r = MatchOption r (NoneBehind ids dists p d) (FirstBehind ids dists p d)
 
 -- (p, d) is put into a row of two parts; r says whether the row took it
 pub record PutIn (ids dists ids' dists' : List ℕ) (p d : ℕ) (r : Bool) : Type 0 where

@@ -16,12 +16,6 @@ abbrev pub take_if : Bool → ℕ → List (ℕ × ℕ) → List (ℕ × ℕ)
 take_if true p xs = take_out p xs
 take_if false p xs = xs
 
--- place r is the first that holds p, or the end of the row
-pub record PointAt (ids : List ℕ) (p r : ℕ) : Type 0 where
-  pub most : r ≤ length ids
-  pub before : (j : ℕ) → j < r → get_or ids j 0 ≢ p
-  pub here : r < length ids → get_or ids r 0 ≡ p
-
 -- ys is xs without what stood at a place
 pub record TakenAt (xs ys : List ℕ) (place : ℕ) : Type 0 where
   pub size : length ys ≡ length xs

@@ -5,4 +5,5 @@ pub mod check;
 mod order;
 pub mod put;
 pub mod rows;
+pub mod table;
 pub mod take;

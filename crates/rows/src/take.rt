@@ -1,39 +1,26 @@
 // One point is taken out of one row: document 01, 'The table'.
-ghost use Rattle.std.specs.Prelude.{◌≤◌, ◌≡◌, length};
+ghost use Rattle.std.specs.Prelude.{◌<◌, ◌≡◌, ◌==◌, position, length};
 ghost use Rattle.rows.specs.Put.{HasRow};
-ghost use Rattle.rows.specs.Take.{PointAt, TakenAt, TakenOut, TakenOutOfRow};
+ghost use Rattle.rows.specs.Take.{TakenAt, TakenOut, TakenOutOfRow};
 
 use crate::rows;
 use network::distance::Distance;
 
-// The first place of a row that holds p; the row's length where none does.
-fn place_of_point(ids: &[u32], p: u32) -> usize
-    ensures { PointAt ids.now p result }
+// The first place of a row that holds p.
+fn place_of_point(ids: &[u32], p: u32) -> Option<usize>
+    ensures { result ≡ position (λ q. q == p) ids.now }
 {
-    let mut at = 0;
-    while at < ids.len() {
-        let q = ids[at];
-        if q == p {
-            return at;
-        }
-        at += 1;
-    }
-    at
+    ids.iter().position(|&q| q == p)
 }
 
 // Takes out what stands at a place: those behind it move down by one, and the last place is empty.
 fn take_at(row: &mut [u32], place: usize)
-    requires { place ≤ length row.old }
+    requires { place < length row.old }
     ensures { TakenAt row.old row.new place }
 {
-    let mut held = Distance::NONE;
-    let mut at = row.len();
-    while place < at {
-        at -= 1;
-        let x = row[at];
-        row[at] = held;
-        held = x;
-    }
+    let last = row.len() - 1;
+    row.copy_within(place + 1.., place);
+    row[last] = Distance::NONE;
 }
 
 // Takes one locker of a node out of a row that has all of them, and there is one. Returns whether it has.
@@ -41,13 +28,13 @@ fn take_out(ids: &mut [u32], distances: &mut [u32], p: u32, all: usize) -> bool
     requires { length distances.old ≡ length ids.old }
     ensures { TakenOut ids.old distances.old ids.new distances.new p all result }
 {
-    let c = rows::among(ids, p, ids.len());
-    if c != all {
+    if rows::among(ids, p, ids.len()) != all {
         return false;
     }
-    let at = place_of_point(ids, p);
-    take_at(ids, at);
-    take_at(distances, at);
+    if let Some(at) = place_of_point(ids, p) {
+        take_at(ids, at);
+        take_at(distances, at);
+    }
     true
 }
 

@@ -10,7 +10,6 @@ use mathlib.Core.List.{List, [], ◌∷◌, Memᴰ}
 use native.Mathlib.Decide.{dec_lt}
 use native.Mathlib.Omega.{arith}
 use lib.ListN.{length, get_or, replicate, length-replicate}
-use lib.Seq.{get_or-drop}
 use borrow.Rule.Slice.PartMut.{mid_of, put_mid}
 use Rattle.network.specs.Network.{Network, node_count}
 use Rattle.network.specs.Distance.{dist}
@@ -18,10 +17,9 @@ use Rattle.network.specs.Nearest.{nearest}
 use Rattle.network.proofs.Rows.{Entry, listed_near}
 use Rattle.expansion.specs.declared.verify.Site.{Site}
 use Rattle.expansion.specs.Visited.{is_stop}
-use Rattle.expansion.specs.Found.{CanFind, NodesLeft}
+use Rattle.expansion.specs.Found.{NodesLeft}
 use Rattle.expansion.specs.declared.nearest.Near.{Near}
 use Rattle.expansion.proofs.Finding.{found_member, member_found}
-use Rattle.expansion.proofs.LentParts.{lent_part, lent_length}
 use Rattle.expansion.proofs.Places.{Next}
 use Rattle.expansion.proofs.Settled.{zero_blank}
 use Rattle.searches.specs.Flags.{flags_end, ids_base, site_lists, Flags, CanVerifyAll, VerifiedAll, CanLook, Looked, LookedAt}
@@ -49,25 +47,6 @@ place_of (x ∷ xs) z m =
 module _ {g : Network} {P : List ℕ} {site : Site} {k : ℕ} {xs : List ℕ} {v : ℕ} (c : CanLook g P site k xs v) where
   fits : ids_base g ≤ length xs
   fits = omega (arith, c.front.size)
-
-  -- what `nodes` requires of the words that it is lent
-  pub can_find : CanFind g P (mid_of (ids_base g) (length xs - ids_base g) xs) (node_count g) k v
-  can_find =
-      record {
-        points = c.front.points;
-        few = omega arith;
-        blank = record { zero = λ j h. word j };
-        expand =
-            record {
-              accepted = c.front.accepted;
-              inside = c.inside;
-              blank = record { zero = λ j h. word j };
-              size = omega (arith, lent_length (ids_base g) xs, c.front.size);
-            };
-      }
-    where
-      word : (j : ℕ) → get_or (mid_of (ids_base g) (length xs - ids_base g) xs) j 0 ≡ 0
-      word j = ap (λ (l : List ℕ). get_or l j 0) (lent_part (ids_base g) xs) ∙ get_or-drop (ids_base g) xs j 0 ∙ c.blank.zero (ids_base g + j) (omega arith)
 
   module _ {zs : List ℕ} {l : ℕ} {r : Near} (n : NodesLeft g P v l k (mid_of (ids_base g) (length xs - ids_base g) xs) zs (node_count g) r) where
     back : Returned xs (put_mid (ids_base g) (length xs - ids_base g) xs zs) (ids_base g) (length xs) zs

@@ -6,7 +6,6 @@ use mathlib.Core.List.{List, ◌++◌}
 use native.Mathlib.Decide.{dec_lt}
 use native.Mathlib.Omega.{arith}
 use lib.ListN.{length, get_or, take, drop, replicate, length-replicate}
-use lib.Seq.{length-take-le}
 use Rattle.expansion.specs.Area.{Wiped}
 use Rattle.expansion.proofs.Settled.{zero_blank}
 use Rattle.searches.specs.Eager.{CanWipe}
@@ -40,9 +39,6 @@ wiped_front {xs} {ys} {zs} e b fits blank w is =
 module _ {n : ℕ} {xs ys : List ℕ} {b settled len : ℕ} (c : CanWipe n xs b settled len) (w : Wiped xs ys b) where
   pub flags_fit : 3 * n ≤ length ys
   flags_fit = omega (arith, c.low, c.area.queue.room, w.frame.size)
-
-  pub flags_length : length (take (3 * n) ys) ≡ 3 * n
-  flags_length = length-take-le (3 * n) ys flags_fit
 
   pub wiped_all : {zs : List ℕ} → zs ≡ replicate (length (take (3 * n) ys)) 0 → Wiped xs (zs ++ drop (3 * n) ys) 0
   wiped_all = wiped_front (3 * n) b flags_fit c.blank w

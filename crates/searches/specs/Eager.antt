@@ -1,7 +1,7 @@
 -- What eager requires and leaves. Document 01, 'What a site receives', and number 12; document 02, Ask 4. The lent words are: verified flags n |
 -- found flags n | visits n | found nodes n | the area of the inner expansions, 4 n | the area of the outer expansion, 4 n.
 -- Assumes nothing.
-use Rattle.std.specs.Prelude.{ℕ, ◌+◌, ◌*◌, ◌≤◌, ◌<◌, ◌≡◌, Bool, true, false, not, List, eqb, length, get_or}
+use Rattle.std.specs.Prelude.{ℕ, ◌+◌, ◌*◌, ◌≤◌, ◌<◌, ◌≡◌, Bool, not, List, eqb, length, get_or, Option, None, Some}
 use Rattle.network.specs.Network.{Network, node_count}
 use Rattle.network.specs.Accepted.{Accepted}
 use Rattle.network.specs.Points.{is_listed, listed, expanded}
@@ -10,8 +10,7 @@ use Rattle.network.specs.Count.{select}
 use Rattle.network.specs.Answers.{answered}
 use Rattle.network.specs.Scratch.{eager_words}
 use Rattle.expansion.specs.Area.{queue_base, Blank, Wiped, Area}
-use Rattle.searches.specs.declared.eager.Limited.{Limited}
-use Rattle.searches.specs.declared.eager.Limited.TheVariants.{Refused, Listed}
+use Rattle.searches.specs.declared.eager.LimitedList.{LimitedList}
 use Rattle.searches.specs.declared.eager.End.{End}
 use Rattle.searches.specs.Flags.{flags_end, ids_base, inner_base}
 
@@ -47,19 +46,19 @@ VisitsKept g P q k xs count = (i : ℕ) → i < count → get_or xs (flags_end g
 
 -- the expansion ends: all is expanded, the found flags are those of the listed points, and the visits stand in their words; or the count would exceed
 -- the limit
-pub record Complete (g : Network) (P : List ℕ) (q k limit : ℕ) (ys : List ℕ) (r : End) : Type 0 where
-  pub count : r.count ≡ expanded g P q k
+pub record Complete (g : Network) (P : List ℕ) (q k limit : ℕ) (ys : List ℕ) (count : ℕ) : Type 0 where
+  pub all : count ≡ expanded g P q k
   pub within : expanded g P q k ≤ limit
   pub found : (p : ℕ) → p < node_count g → is_found (node_count g) ys p ≡ is_listed g P q k p
-  pub visited : VisitsKept g P q k ys r.count
+  pub visited : VisitsKept g P q k ys count
 
 pub record EagerExplored (g : Network) (P : List ℕ) (q k limit : ℕ) (xs ys : List ℕ) (b : ℕ) (r : End) : Type 0 where
   pub size : length ys ≡ length xs
   pub area : Area (node_count g) ys b r.settled r.len
   pub blank : (j : ℕ) → ids_base g ≤ j → j < b → get_or ys j 0 ≡ 0
-  pub few : r.count ≤ node_count g
-  pub complete : r.refused ≡ false → Complete g P q k limit ys r
-  pub beyond : r.refused ≡ true → limit < expanded g P q k
+  pub few : (c : ℕ) → r.count ≡ Some c → c ≤ node_count g
+  pub complete : (c : ℕ) → r.count ≡ Some c → Complete g P q k limit ys c
+  pub beyond : r.count ≡ None → limit < expanded g P q k
 
 -- the words from the found nodes to the outer area are 0
 pub record CanWipe (n : ℕ) (xs : List ℕ) (b settled len : ℕ) : Type 0 where
@@ -74,12 +73,12 @@ pub record CanFinish (n : ℕ) (xs old : List ℕ) (end : End) : Type 0 where
   pub places : n ≤ length old
 
 -- the list of the found flags is written, or nothing where the search was refused; all words are 0
-pub record FinishLeft (n : ℕ) (xs ys old new : List ℕ) (end : End) (r : Limited) : Type 0 where
+pub record FinishLeft (n : ℕ) (xs ys old new : List ℕ) (end : End) (r : Option LimitedList) : Type 0 where
   pub area : Wiped xs ys 0
-  pub refused : end.refused ≡ true → (r ≡ Refused) × (new ≡ old)
+  pub refused : end.count ≡ None → (r ≡ None) × (new ≡ old)
   pub listed :
-      end.refused ≡ false
-      → (r ≡ Listed (length (select (is_found n xs) n)) end.count) × (new ≡ answered (select (is_found n xs) n) old)
+      (c : ℕ) → end.count ≡ Some c
+      → (r ≡ Some (record { size = length (select (is_found n xs) n); count = c })) × (new ≡ answered (select (is_found n xs) n) old)
 
 -- Eager 'returns the list and the count of nodes expanded'; or 12: 'eager: the expanded count would exceed the limit', and the answers are as they
 -- were. All words are 0 again.
@@ -95,11 +94,11 @@ pub record RefusedLeft (g : Network) (P : List ℕ) (q k limit : ℕ) (xs ys old
   pub answers : new ≡ old
   pub area : Wiped xs ys 0
 
-abbrev pub LimitedLeft : Network → List ℕ → ℕ → ℕ → ℕ → List ℕ → List ℕ → List ℕ → List ℕ → Limited → Type 0
-LimitedLeft g P q k limit xs ys old new Refused = RefusedLeft g P q k limit xs ys old new
-LimitedLeft g P q k limit xs ys old new (Listed size count) = ListedLeft g P q k limit xs ys old new size count
+abbrev pub LimitedLeft : Network → List ℕ → ℕ → ℕ → ℕ → List ℕ → List ℕ → List ℕ → List ℕ → Option LimitedList → Type 0
+LimitedLeft g P q k limit xs ys old new None = RefusedLeft g P q k limit xs ys old new
+LimitedLeft g P q k limit xs ys old new (Some c) = ListedLeft g P q k limit xs ys old new c.size c.count
 
 -- 'Eager also lists the nodes that its count counts' (Ask 4); 12 comes in the middle of the expansion, and leaves the array as it was
-abbrev pub VisitsLeft : Network → List ℕ → ℕ → ℕ → List ℕ → List ℕ → Limited → Type 0
-VisitsLeft g P q k old new Refused = new ≡ old
-VisitsLeft g P q k old new (Listed size count) = new ≡ answered (visits g P q k) old
+abbrev pub VisitsLeft : Network → List ℕ → ℕ → ℕ → List ℕ → List ℕ → Option LimitedList → Type 0
+VisitsLeft g P q k old new None = new ≡ old
+VisitsLeft g P q k old new (Some c) = new ≡ answered (visits g P q k) old

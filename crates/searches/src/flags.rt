@@ -1,4 +1,4 @@
-// The found flags: a word for each node, not 0 where the node was found.
+// The found flags: a word for each node, not 0 where the node was found. Words and no bools: the lent scratch holds numbers alone (fixed memory).
 ghost use Rattle.std.specs.Prelude.{◌≡◌, ◌+◌, ◌≤◌, length};
 ghost use Rattle.network.specs.Count.{select};
 ghost use Rattle.network.specs.Answers.{answered};
@@ -10,16 +10,11 @@ pub fn write_found(s: &[u32], answers: &mut [u32], b: usize, n: usize) -> usize
     ensures { (answers.new ≡ answered (select (is_found b s.now) n) answers.old) × (result ≡ length (select (is_found b s.now) n)) }
 {
     let mut len = 0;
-    let mut p: u32 = 0;
-    let mut at = 0;
-    while at < n {
-        let flag = s[b + at];
-        if flag != 0 {
-            answers[len] = p;
+    for at in 0..n {
+        if s[b + at] != 0 {
+            answers[len] = at as u32;
             len += 1;
         }
-        p += 1;
-        at += 1;
     }
     len
 }

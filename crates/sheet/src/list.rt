@@ -2,17 +2,16 @@
 // any. The first n words are the seats of these distances. A node's mark, n words behind the area, is the last site that took it in, plus 1, so nothing is
 // cleared between two lists; behind the marks stand the members of the present list, in the order in which they came.
 ghost use Rattle.std.specs.Prelude.{◌≡◌, ◌≤◌, length};
-ghost use Rattle.network.specs.Network.{network, neighbours_of};
+ghost use Rattle.network.specs.Network.{neighbours_of};
 ghost use Rattle.network.specs.Points.{lockers};
 ghost use Rattle.sheet.specs.List.{CanTakeMember, MemberTaken, CanFollowMember, MemberFollowed, CanList, ListLeft};
 
 use expansion::labels;
-use network::arcs;
-use network::arcs::wide;
+use network::Network;
 use network::points::lockers_at;
 
 // How far a list has come: its nodes, and the households on them.
-#[derive(Clone, Copy)]
+#[derive(Clone, Copy, Debug, PartialEq, Eq)]
 pub struct Members {
     pub size: usize,
     pub sum: u32,
@@ -32,87 +31,61 @@ fn take_in(
     households: &[u8],
     q: u32,
     node: u32,
-    size: usize,
-    sum: u32,
+    members: Members,
 ) -> Members
-    requires { CanTakeMember n s.old households.now q node size sum }
-    ensures { MemberTaken n s.old s.new households.now q node size result }
+    requires { CanTakeMember n s.old households.now q node members.size members.sum }
+    ensures { MemberTaken n s.old s.new households.now q node members.size result }
 {
-    let at = 4 * n + wide(node);
-    let mark = s[at];
-    if mark == q + 1 {
-        return Members { size, sum };
+    let at = 4 * n + node as usize;
+    if s[at] == q + 1 {
+        return members;
     }
     s[at] = q + 1;
-    s[5 * n + size] = node;
-    let more = households_at(households, node);
+    s[5 * n + members.size] = node;
     Members {
-        size: size + 1,
-        sum: sum + more,
+        size: members.size + 1,
+        sum: members.sum + households_at(households, node),
     }
 }
 
 // Takes in the nodes behind a member that are as much farther from the nearest site as the arc is long.
 fn follow(
-    starts: &[u32],
-    neighbours: &[u32],
-    weights: &[u32],
+    g: &Network<'_>,
     households: &[u8],
     s: &mut [u32],
     q: u32,
     node: u32,
-    size: usize,
-    sum: u32,
+    members: Members,
 ) -> Members
-    requires { CanFollowMember (network starts.now neighbours.now weights.now) s.old households.now q node size sum }
-    ensures { MemberFollowed (network starts.now neighbours.now weights.now) s.old s.new households.now q node size result (length (neighbours_of (network starts.now neighbours.now weights.now) node)) }
+    requires { CanFollowMember g.now s.old households.now q node members.size members.sum }
+    ensures { MemberFollowed g.now s.old s.new households.now q node members.size result (length (neighbours_of g.now node)) }
 {
-    let n = starts.len() - 1;
-    let ahead = arcs::neighbours_of(starts, neighbours, wide(node));
-    let weighed = arcs::weights_of(starts, weights, wide(node));
+    let n = g.nodes();
+    let ahead = g.neighbours_of(node as usize);
+    let weighed = g.weights_of(node as usize);
     let near = labels::label_of(s, 0, n, node);
-    let mut size = size;
-    let mut sum = sum;
-    let mut j = 0;
-    while j < ahead.len() {
-        let to = ahead[j];
-        let far = near + weighed[j];
-        j += 1;
-        let label = labels::label_of(s, 0, n, to);
-        if label == far {
-            let members = take_in(s, n, households, q, to, size, sum);
-            size = members.size;
-            sum = members.sum;
+    let mut members = members;
+    for (j, &to) in ahead.iter().enumerate() {
+        if labels::label_of(s, 0, n, to) == near + weighed[j] {
+            members = take_in(s, n, households, q, to, members);
         }
     }
-    Members { size, sum }
+    members
 }
 
 // How many households a site's list has: it begins with the site's own node, and each member is followed.
-pub fn list_length(
-    starts: &[u32],
-    neighbours: &[u32],
-    weights: &[u32],
-    households: &[u8],
-    s: &mut [u32],
-    q: u32,
-) -> u32
-    requires { CanList (network starts.now neighbours.now weights.now) s.old q }
-    ensures { ListLeft (network starts.now neighbours.now weights.now) s.old s.new households.now q result }
+pub fn list_length(g: &Network<'_>, households: &[u8], s: &mut [u32], q: u32) -> u32
+    requires { CanList g.now s.old q }
+    ensures { ListLeft g.now s.old s.new households.now q result }
 {
-    let n = starts.len() - 1;
-    let first = take_in(s, n, households, q, q, 0, 0);
-    let mut size = first.size;
-    let mut sum = first.sum;
+    let n = g.nodes();
+    let mut members = take_in(s, n, households, q, q, Members { size: 0, sum: 0 });
     let mut i = 0;
-    while i < size {
+    // No `for`: the list grows while it is read, so no range is known before.
+    while i < members.size {
         let node = s[5 * n + i];
         i += 1;
-        let members = follow(
-            starts, neighbours, weights, households, s, q, node, size, sum,
-        );
-        size = members.size;
-        sum = members.sum;
+        members = follow(g, households, s, q, node, members);
     }
-    sum
+    members.sum
 }

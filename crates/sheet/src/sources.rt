@@ -11,14 +11,9 @@ pub fn start_all(sites: &[u8], s: &mut [u32], n: usize) -> usize
     ensures { Started n sites.now s.old s.new n result }
 {
     let mut len = 0;
-    let mut v: u32 = 0;
-    let mut at = 0;
-    while at < n {
-        let node = v;
-        v += 1;
-        at += 1;
-        let there = lockers_at(sites, node);
-        if there != 0 {
+    for at in 0..n {
+        let node = at as u32;
+        if lockers_at(sites, node) != 0 {
             let tag = tags::tag_of(node, node);
             node_queue::push(s, 0, n, len, 0, tag);
             len += 1;

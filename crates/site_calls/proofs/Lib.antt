@@ -1,5 +1,5 @@
--- The theorems of the calls without a table: cleared scratch can be searched over (Searchable); each call's outcome, refused and accepted (Outcomes);
--- the words that nearest copies (Copied). A folder eager/.., nearest/.. holds the proof of the function of that name.
+-- The theorems of the calls without a table: the work can begin over cleared scratch (Searchable); each call's outcome, refused and accepted (Outcomes);
+-- the words that nearest copies (Copied). A folder eager/.., nearest/.. holds what the check does not find alone of the function of that name.
 pub mod Searchable
 pub mod Outcomes
 pub mod Copied

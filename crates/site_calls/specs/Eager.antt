@@ -2,25 +2,25 @@
 -- receives': eager 'returns the list and the count of nodes expanded'; document 02, Ask 4: it 'also lists the nodes that its count counts [..]; the
 -- short query doesn't'.
 -- Assumes nothing.
-use Rattle.std.specs.Prelude.{ℕ, List, length, replicate}
+use Rattle.std.specs.Prelude.{Ok, Err, ℕ, List, length, replicate}
 use Rattle.network.specs.Network.{Network}
 use Rattle.network.specs.Points.{listed, expanded, short_k}
 use Rattle.network.specs.Visits.{visits}
 use Rattle.network.specs.Answers.{answered}
-use Rattle.conditions.specs.declared.answers.Listed.TheVariants as is
 use Rattle.conditions.specs.Conditions.{by_number, limit_number}
 use Rattle.numbers.specs.Numbers.{limited_number, eager_number}
 use Rattle.site_calls.specs.Shared.{SearchOutcome}
+use Rattle.conditions.specs.Values.{found_list}
 
 -- what a search with a limit leaves, by its number: 'A refusal .. changes no buffer; 12 alone leaves the scratch all zero.'
 unfoldable pub limited_outcome : ℕ → Network → List ℕ → ℕ → ℕ → ℕ → List ℕ → List ℕ → SearchOutcome
 limited_outcome number g P q k limit scratch answers =
     by_number number
-    (record { answer = is.Refused number; scratch = scratch; answers = answers })
+    (record { answer = Err number; scratch = scratch; answers = answers })
     (by_number (limit_number g P q k limit)
-    (record { answer = is.Refused (limit_number g P q k limit); scratch = replicate (length scratch) 0; answers = answers })
+    (record { answer = Err (limit_number g P q k limit); scratch = replicate (length scratch) 0; answers = answers })
     (record {
-      answer = is.Points (length (listed g P q k)) (expanded g P q k);
+      answer = Ok (found_list (length (listed g P q k)) (expanded g P q k));
       scratch = replicate (length scratch) 0;
       answers = answered (listed g P q k) answers;
     }))

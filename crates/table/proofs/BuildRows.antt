@@ -8,10 +8,10 @@ use mathlib.Core.List.{List}
 use native.Mathlib.Nat.{zero-add}
 use native.Mathlib.Omega.{arith}
 use lib.ListN.{length, get_or, set}
-use borrow.Rule.Slice.PartMut.{mid_of, put_mid, mid_len, put_same}
+use borrow.Rule.Slice.PartMut.{mid_of, put_mid, mid_len}
 use Rattle.network.proofs.Lends.{mid_length, mid_at}
 use Rattle.network.specs.Rows.{row_entries}
-use Rattle.table.specs.Build.{Stands, HasPlace, NoPlace, HasPlaceIs, HasPlaceAtIs, AppendTakes, AppendRefuses, CanReadRow, HasPlaceAt, NoPlaceAt, CanAppend, AppendTakesAt, AppendRefusesAt, with_run, often}
+use Rattle.table.specs.Build.{Stands, HasPlace, NoPlace, HasPlaceIs, HasPlaceAtIs, AppendTakes, CanReadRow, HasPlaceAt, NoPlaceAt, CanAppend, AppendTakesAt, with_run, often}
 use Rattle.table.proofs.Runs.{put_run}
 
 module _ (a e : ℕ) (xs : List ℕ) where
@@ -85,14 +85,4 @@ module _ {xs ids dists : List ℕ} {K i all : ℕ} (can : CanAppend xs ids dists
             ap (put_mid a (e - a) dists) (t.new_dists ∙ ap (λ (x : ℕ). with_run (mid_of a (e - a) dists) size x d) o)
             ∙ put_run a e dists (omega arith) (omega (arith, can.dists_room)) size n d l
             ∙ ap (λ (x : ℕ). with_run dists x n d) q;
-      }
-
-  pub refuses_at : {zs es : List ℕ} → AppendRefuses (mid_of a (e - a) ids) zs (mid_of a (e - a) dists) es size p
-      → AppendRefusesAt xs xs ids (put_mid a (e - a) ids zs) dists (put_mid a (e - a) dists es) K i p
-  refuses_at t =
-      record {
-        place = none_at can.look a e w size p from end word is t.place;
-        words = refl;
-        new_ids = ap (put_mid a (e - a) ids) t.new_ids ∙ put_same a (e - a) ids;
-        new_dists = ap (put_mid a (e - a) dists) t.new_dists ∙ put_same a (e - a) dists;
       }

@@ -1,17 +1,18 @@
 -- What the loops of build's steps keep, turn by turn.
 -- Assumes nothing.
-use Prim.Native.Nat.{ℕ, zero, suc, ◌+◌, ◌-◌, ◌*◌, ◌≤◌, ◌<◌}
-use mathlib.Core.Path.{◌≡◌, refl, sym, ap, ◌∙◌}
+use Prim.Native.Nat.{ℕ, zero, suc, ◌+◌, ◌-◌, ◌*◌, ◌≤◌}
+use mathlib.Core.Path.{◌≡◌, sym, ap, ◌∙◌}
 use mathlib.Core.Logic.{◌≢◌, ◌⊎◌, inl, inr, ⊎_elim}
-use mathlib.Core.Bool.{Bool, true, false, not, false≢true, true≢false}
 use mathlib.Core.List.{List}
 use native.Mathlib.Decide.{ℕ_discrete}
 use native.Mathlib.Omega.{arith}
-use lib.ListN.{length, get_or, drop}
+use lib.ListN.{length, get_or, drop, replicate}
 use lib.Seq.{get_or-drop}
+use borrow.Rule.Slice.PartMut.{put_mid}
 use Rattle.expansion.specs.Queue.{Queue}
 use Rattle.expansion.specs.Area.{Blank}
-use Rattle.table.specs.Build.{Stands, StandsIs, HasPlaceIs, CanReadRow, HasPlaceAt, NoPlaceAt, Appended, with_run, often}
+use Rattle.table.specs.Build.{Stands, HasPlace, CanReadRow, HasPlaceAt, NoPlaceAt, AppendTakes, with_run, often}
+use Rattle.table.proofs.Runs.{run_filled}
 
 -- stands: the j ids from place `from` on are not p
 pub stands_none : {ids : List ℕ} {from p : ℕ} → Stands ids from 0 p → ⊥
@@ -24,32 +25,18 @@ stands_more {ids} {from} {j} lacks other s =
       | no n ↦ lacks (record { index = s.index; low = omega (arith, s.low); is = s.is })
     ]
 
--- has_place: a row that is not full has a place for p where p does not stand there
-pub place_is : {ids : List ℕ} {size p : ℕ} {r : Bool} → size ≢ length ids → size ≤ length ids → StandsIs ids size p r → HasPlaceIs ids size p (not r)
-place_is {r = true} n h s = record { yes = λ e. absurd (false≢true e); no = λ e. record { why = inr (s.yes refl) } }
-place_is {r = false} n h s = record { yes = λ e. record { free = omega arith; lacks = s.no refl }; no = λ e. absurd (true≢false e) }
-
--- append: a row without a place for p stays, and one that has a place has taken p as often as there is room for
-pub append_none : {ids dists : List ℕ} {size p d all : ℕ} {r : Bool} → HasPlaceIs ids size p r → r ≡ false → Appended ids ids dists dists size p d all size
-append_none {r = true} h e = absurd (true≢false e)
-append_none {r = false} h e = record { taken = λ l. absurd (omega arith); refused = λ l. record { place = h.no refl; new_ids = refl; new_dists = refl } }
-
-pub append_some : {ids ids' dists dists' : List ℕ} {size p d all end : ℕ} {r : Bool} → HasPlaceIs ids size p r → r ≡ true → 0 < all
-    → end ≡ size + often (length ids) size all → ids' ≡ with_run ids size (end - size) p → dists' ≡ with_run dists size (end - size) d
-    → Appended ids ids' dists dists' size p d all end
-append_some {r = false} h e some c a b = absurd (false≢true e)
-append_some {ids} {dists = dists} {size = size} {p = p} {d = d} {all = all} {end = end} {r = true} h e some c a b =
+-- append: a row that has a place for p has taken it as often as there is room for
+pub append_some : {ids dists zs es : List ℕ} {size p d all end : ℕ} → length dists ≡ length ids → HasPlace ids size p → end ≡ size + often (length ids) size all
+    → zs ≡ replicate (end - size) p → es ≡ replicate (end - size) d
+    → AppendTakes ids (put_mid size (end - size) ids zs) dists (put_mid size (end - size) dists es) size p d all end
+append_some {ids} {dists} {size = size} {p = p} {d = d} {all = all} {end = end} same h c a b =
     let q : end - size ≡ often (length ids) size all = omega arith in
+    let f = h.free in
     record {
-      taken =
-          λ l.
-          record {
-            place = h.yes refl;
-            count = c;
-            new_ids = a ∙ ap (λ (n : ℕ). with_run ids size n p) q;
-            new_dists = b ∙ ap (λ (n : ℕ). with_run dists size n d) q;
-          };
-      refused = λ l. absurd (omega (arith, (h.yes refl).free));
+      place = h;
+      count = c;
+      new_ids = ap (put_mid size (end - size) ids) a ∙ run_filled ids size p end (omega arith) (omega arith) ∙ ap (λ (n : ℕ). with_run ids size n p) q;
+      new_dists = ap (put_mid size (end - size) dists) b ∙ run_filled dists size d end (omega arith) (omega arith) ∙ ap (λ (n : ℕ). with_run dists size n d) q;
     }
 
 -- offer: words that stay say the same of a row's places

@@ -38,7 +38,9 @@ use Rattle.expansion.proofs.EnteredLaws.{entered_held}
 use Rattle.rows.specs.Flat.{row_at}
 use Rattle.rows.specs.Update.{Added, Gains}
 use Rattle.rows.specs.Take.{take_out, take_if}
-use Rattle.table.specs.Candidate.{FitsRow, GivesOver}
+use Rattle.std.specs.Prelude.{Option, None, Some, IfSome}
+use Rattle.table.specs.declared.remove.Candidate.{Candidate}
+use Rattle.table.specs.Candidate.{rank, FitsRow, GivesOver}
 use Rattle.table.specs.Offer.{offer_of, arc_offer}
 use Rattle.table.specs.Mend.{is_short, has_all, Freed, ShortSeeded, ShortTakes, ShortRefuses, OfferedShort, Wants, Behind, Lead, Mending}
 use Rattle.rows.proofs.Laid.{table_rows}
@@ -386,6 +388,20 @@ module _ {g : Network} (ok : Accepted g) {P Q : List ℕ} {x K : ℕ} (low : x <
         omega (arith, b.first, far.most, q, ap (dist g i) q)
 
     -- the next node's row holds what i wants: it is i's best candidate
+    best_held : (i p far : ℕ) → i < node_count g → is_short ys i ≡ true → Wants g Q K i p → far ≡ dist g i p → (best : Option Candidate) → rank best ≤ key (p, far)
+        → IfSome best (λ c. GivesOver g Q ids' dists' K i (length (neighbours_of g i)) (c.point, c.distance)) → IfSome best (λ c. Holds (drop (node_count g) zs) len (offer_of i c.point c.distance))
+        → Holds (drop (node_count g) zs) len (offer_of i p (dist g i p))
+    best_held i p far h e v sum None l z k = absurd (omega (arith, l, sum, v.nearer.less, v.nearer.inside, ok.few))
+    best_held i p far h e v sum (Some best) l z k =
+        let b = no_earlier i p (best.point, best.distance) h e v z in
+        let u = given i (best.point, best.distance) h z in
+        let few = ok.few in
+        let lo = v.nearer.inside in
+        let same_far : best.distance ≡ dist g i p = omega (arith, b, l, sum, u.1) in
+        let same : best.point ≡ p = omega (arith, b, l, sum, u.1) in
+        let q : offer_of i best.point best.distance ≡ offer_of i p (dist g i p) = omega arith in
+        rw q at k
+
     held : (i p : ℕ) (c w : ℕ) → i < node_count g → is_short ys i ≡ true → Wants g Q K i p → Arc g i c w → dist g i p ≡ w + dist g c p
         → Memᴰ (p, dist g c p) (row_at ids' dists' K c) → Holds (drop (node_count g) zs) len (offer_of i p (dist g i p))
     held i p c w h e v arc sum mem =
@@ -396,23 +412,8 @@ module _ {g : Network} (ok : Accepted g) {P Q : List ℕ} {x K : ℕ} (low : x <
           low = (distance ok c p).limit near;
           lacks = rw (lacking i h e) (wants_lacks ok Q K i v);
         } in
-        let l = o.is_best.least pl.at p (dist g c p) pl.low (rw pl.leads mem) fit in
-        let few = ok.few in
-        ⊎_elim
-        (λ n. absurd (omega (arith, l, n, pl.weighs, sum, v.nearer.less, v.nearer.inside)))
-        (λ k.
-        ⊎_elim
-        (λ z. absurd (omega (arith, l, ap (λ (y : ℕ × ℕ). y.1) z, pl.weighs, sum, v.nearer.less, v.nearer.inside)))
-        (λ z.
-        let b = no_earlier i p o.best h e v z in
-        let u = given i o.best h z in
-        let lo = v.nearer.inside in
-        let far : o.best.1 ≡ dist g i p = omega (arith, b, l, pl.weighs, sum, u.1) in
-        let same : o.best.0 ≡ p = omega (arith, b, l, pl.weighs, sum, u.1) in
-        let q : offer_of i o.best.0 o.best.1 ≡ offer_of i p (dist g i p) = omega arith in
-        rw q at k)
-        o.is_best.from)
-        o.held
+        best_held i p (dist g c p + get_or (weights_of g i) pl.at 0) h e v (omega (arith, pl.weighs, sum)) o.best
+        (o.is_best.least pl.at p (dist g c p) pl.low (rw pl.leads mem) fit) o.is_best.from o.held
 
     frontier : (i p : ℕ) → i < node_count g → is_short ys i ≡ true → Wants g Q K i p → Holds (drop (node_count g) zs) len (offer_of i p (dist g i p)) ⊎ Behind g Q zs K i p
     frontier i p h e w =

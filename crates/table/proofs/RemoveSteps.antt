@@ -2,7 +2,7 @@
 -- Assumes nothing.
 use Prim.Native.Nat.{ℕ, ◌+◌, ◌-◌, ◌*◌, ◌≤◌, ◌<◌}
 use mathlib.Core.Path.{◌≡◌, refl, sym, ap, ◌∙◌}
-use mathlib.Core.Logic.{◌≢◌, ◌⊎◌, inl, inr, ⊎_elim}
+use mathlib.Core.Logic.{◌⊎◌, inl, inr, ⊎_elim}
 use mathlib.Core.Bool.{Bool, true, false, false≢true, true≢false}
 use mathlib.Core.List.{List, Memᴰ}
 use native.Mathlib.Decide.{ℕ_discrete}
@@ -11,10 +11,10 @@ use native.Mathlib.Omega.{arith}
 use lib.ListN.{length, get_or, set, take, drop, length-set}
 use lib.Seq.{get_or-set_same, get_or-set_other}
 use lib.Dec.{eqb, ltb}
-use borrow.Author.Tests.{eq-eqb, lt-ltb, ltb-true, ltb-false}
-use borrow.Rule.Slice.PartMut.{mid_of, put_mid, mid_len, put_same, set_mid_at}
+use borrow.Author.Tests.{eq-eqb, lt-ltb, ltb-true}
+use borrow.Rule.Slice.PartMut.{mid_of, put_mid, put_same, set_mid_at}
 use Rattle.network.specs.Network.{Network, node_count, neighbours_of, weights_of}
-use Rattle.network.specs.Distance.{NONE, LONGEST}
+use Rattle.network.specs.Distance.{LONGEST}
 use Rattle.network.specs.Count.{bit, count}
 use Rattle.network.specs.Nearest.{key}
 use Rattle.network.specs.Order.{times}
@@ -24,10 +24,12 @@ use Rattle.network.proofs.Lends.{mid_length, mid_at, row_fits}
 use Rattle.network.proofs.Rank.{marked_inside}
 use Rattle.expansion.specs.Queue.{Queue, PushedAt}
 use Rattle.rows.specs.Flat.{row_at}
-use Rattle.network.specs.Rows.{Sized}
+use Rattle.network.specs.Rows.{Sized, row_entries}
 use Rattle.rows.specs.Take.{take_if, TakenOutOfRow}
 use Rattle.rows.specs.Check.{among}
-use Rattle.table.specs.Candidate.{Fits, Better, Gives, BestOfRow, FitsRow, GivesOver, BestOf}
+use Rattle.std.specs.Prelude.{Option, None, Some, IfSome}
+use Rattle.table.specs.declared.remove.Candidate.{Candidate}
+use Rattle.table.specs.Candidate.{rank, Fits, Better, Gives, BestOfRow, FitsRow, GivesOver, BestOf}
 use Rattle.table.specs.Offer.{offer_of}
 use Rattle.table.specs.Mend.{is_short, has_all, Freed, SeedOf, ShortSeeded, PutLast, CanTakeIn, TakenIn}
 use Rattle.rows.proofs.Flat.{place_in, in_place}
@@ -116,38 +118,36 @@ module _ {xs ys ids dists ids' dists' ids'' dists'' : List ℕ} {K x all i chang
         counted = omega (arith, f.counted, count_next (has_all ids dists K x all) i, ap bit (sym had ∙ e));
       }
 
-pub freed_as : {xs ys ids dists ids' dists' : List ℕ} {K x all many end changed : ℕ} → all ≡ many → Freed xs ys ids dists ids' dists' K x all end changed
-    → Freed xs ys ids dists ids' dists' K x many end changed
-freed_as e f = rw e at f
+pub freed_as : {xs ys ids dists ids' dists' : List ℕ} {K x all many end n changed : ℕ} → all ≡ many → end ≡ n → Freed xs ys ids dists ids' dists' K x all end changed
+    → Freed xs ys ids dists ids' dists' K x many n changed
+freed_as e s f = rw (e, s) at f
 
 pub freed_few : {xs ys ids dists ids' dists' : List ℕ} {K x all i changed : ℕ} → Freed xs ys ids dists ids' dists' K x all i changed → changed ≤ i
 freed_few {ids} {dists} {K} {x} {all} {i} f = omega (arith, f.counted, count_few (has_all ids dists K x all) i)
 
--- ---- better: the candidate stays, since the other cannot be one or is no better; or the other is new.
-module _ {P own : List ℕ} {p e w : ℕ} (best : ℕ × ℕ) where
-  pub better_far : LONGEST < e → Better P own best best p e w
-  better_far h = record { most = omega arith; least = λ f. absurd (omega (arith, f.low, h)); from = inl refl }
+-- ---- better: the other is new.
+if_some : {A : Type 0} {P Q : A → Type 0} (r : Option A) → ((x : A) → P x → Q x) → IfSome r P → IfSome r Q
+if_some None f h = h
+if_some (Some x) f h = f x h
 
-  pub better_worse : key best ≤ key (p, e + w) → Better P own best best p e w
-  better_worse h = record { most = omega arith; least = λ f. h; from = inl refl }
+stays : {A : Type 0} (P : A → Type 0) (r : Option A) → IfSome r (λ x. (r ≡ Some x) ⊎ P x)
+stays P None = tt
+stays P (Some x) = inl refl
 
-  pub better_has : ltb (among own p (length own)) (lockers P p) ≡ false → Better P own best best p e w
-  better_has h =
-      record { most = omega arith; least = λ f. absurd (omega (arith, f.lacks, ltb-false (among own p (length own)) (lockers P p) h)); from = inl refl }
-
-  pub better_new : e ≤ LONGEST → key (p, e + w) < key best → ltb (among own p (length own)) (lockers P p) ≡ true → Better P own best (p, e + w) p e w
+module _ {P own : List ℕ} {p e w : ℕ} (best : Option Candidate) where
+  pub better_new : e ≤ LONGEST → key (p, e + w) ≤ rank best → ltb (among own p (length own)) (lockers P p) ≡ true → Better P own best (Some (record { distance = e + w; point = p })) p e w
   better_new low h l =
       record {
-        most = omega arith;
+        most = h;
         least = λ f. omega arith;
         from = inr (refl, record { low = low; lacks = ltb-true (among own p (length own)) (lockers P p) l });
       }
 
 -- ---- best_of_row: the places below j are tried.
-pub best_none : (P own ids dists : List ℕ) (w : ℕ) (best : ℕ × ℕ) → BestOfRow P own ids dists w 0 best best
-best_none P own ids dists w best = record { most = omega arith; least = λ j h. absurd (omega arith); from = inl refl }
+pub best_none : (P own ids dists : List ℕ) (w : ℕ) (best : Option Candidate) → BestOfRow P own ids dists w 0 best best
+best_none P own ids dists w best = record { most = omega arith; least = λ j h. absurd (omega arith); from = stays _ best }
 
-pub best_more : {P own ids dists : List ℕ} {w j : ℕ} {best r q : ℕ × ℕ} → BestOfRow P own ids dists w j best r → Better P own r q (get_or ids j 0) (get_or dists j 0) w
+pub best_more : {P own ids dists : List ℕ} {w j : ℕ} {best r q : Option Candidate} → BestOfRow P own ids dists w j best r → Better P own r q (get_or ids j 0) (get_or dists j 0) w
     → BestOfRow P own ids dists w (j + 1) best q
 best_more {P} {own} {ids} {dists} {w} {j} {best} {r} {q} f b =
     record {
@@ -159,15 +159,20 @@ best_more {P} {own} {ids} {dists} {w} {j} {best} {r} {q} f b =
             | no n ↦ omega (arith, f.least i (omega arith) fit, b.most)
           ];
       from =
+          if_some q
+          (λ c.
           ⊎_elim
-          (λ e.
-          ⊎_elim
-          (λ s. inl (e ∙ s))
-          (λ (s : Gives P own ids dists w j r). inr (record { index = s.index; low = omega (arith, s.low); fits = s.fits; is = e ∙ s.is }))
-          f.from)
-          (λ s. inr (record { index = j; low = omega arith; fits = s.1; is = s.0 }))
+          (λ e. before c (rw e at f.from))
+          (λ s. inr (record { index = j; low = omega arith; fits = s.1; is = s.0 })))
           b.from;
     }
+  where
+    before : (c : Candidate) → (best ≡ Some c) ⊎ Gives P own ids dists w j (c.point, c.distance) → (best ≡ Some c) ⊎ Gives P own ids dists w (j + 1) (c.point, c.distance)
+    before c v =
+        ⊎_elim
+        (λ e. inl e)
+        (λ (s : Gives P own ids dists w j (c.point, c.distance)). inr (record { index = s.index; low = omega (arith, s.low); fits = s.fits; is = s.is }))
+        v
 
 -- ---- candidate: the rows of the neighbours by the arcs before place j are tried. A row is lent as the part of both arrays that it is.
 module _ (P ids dists : List ℕ) (K i : ℕ) (fits : i * K + K ≤ length ids) where
@@ -191,17 +196,11 @@ row_inside {g} {K} {i} sized inside =
     let h = row_fits i (node_count g) K inside in
     (omega (arith, h, sized.all_ids), omega (arith, h, sized.all_dists))
 
-pub lent_even : {g : Network} {ids dists : List ℕ} {K c : ℕ} → Sized g K ids dists → c < node_count g
-    → length (mid_of (c * K) ((c * K + K) - c * K) dists) ≡ length (mid_of (c * K) ((c * K + K) - c * K) ids)
-lent_even {ids} {dists} {K} {c} sized low =
-    let h = row_inside sized low in
-    mid_len (c * K) (c * K + K) dists h.1 ∙ sym (mid_len (c * K) (c * K + K) ids h.0)
-
-pub chosen_none : (g : Network) (P ids dists : List ℕ) (K i : ℕ) → BestOf g P ids dists K i 0 (0, NONE)
-chosen_none g P ids dists K i = record { least = λ j p e h. absurd (omega arith); from = inl refl }
+pub chosen_none : (g : Network) (P ids dists : List ℕ) (K i : ℕ) → BestOf g P ids dists K i 0 None
+chosen_none g P ids dists K i = record { least = λ j p e h. absurd (omega arith); from = tt }
 
 module _ {g : Network} {P ids dists : List ℕ} {K i : ℕ} (sized : Sized g K ids dists) (inside : i < node_count g) where
-  chosen_more : {j : ℕ} {r q : ℕ × ℕ} → BestOf g P ids dists K i j r
+  chosen_more : {j : ℕ} {r q : Option Candidate} → BestOf g P ids dists K i j r
       → BestOfRow P (take K (drop (i * K) ids)) (take K (drop (get_or (neighbours_of g i) j 0 * K) ids)) (take K (drop (get_or (neighbours_of g i) j 0 * K) dists))
       (get_or (weights_of g i) j 0) K r q
       → BestOf g P ids dists K i (j + 1) q
@@ -213,22 +212,16 @@ module _ {g : Network} {P ids dists : List ℕ} {K i : ℕ} (sized : Sized g K i
               | yes s ↦ rw s (here p e (rw s at m) fit)
               | no n ↦ omega (arith, f.least l p e (omega arith) m fit, b.most)
             ];
-        from =
-            ⊎_elim
-            (λ e.
-            ⊎_elim
-            (λ s. inl (e ∙ s))
-            (λ (s : GivesOver g P ids dists K i j r).
-            inr (record { place = s.place; low = omega (arith, s.low); point = s.point; far = s.far; mem = s.mem; fit = s.fit; is = e ∙ s.is }))
-            f.from)
-            (λ s. inr (given s))
-            b.from;
+        from = if_some q (λ c. ⊎_elim (λ e. before c (rw e at f.from)) (λ s. given c s)) b.from;
       }
     where
+      before : (c : Candidate) → GivesOver g P ids dists K i j (c.point, c.distance) → GivesOver g P ids dists K i (j + 1) (c.point, c.distance)
+      before c s = record { place = s.place; low = omega (arith, s.low); point = s.point; far = s.far; mem = s.mem; fit = s.fit; is = s.is }
+
       fits : i * K + K ≤ length ids
       fits = omega (arith, row_fits i (node_count g) K inside, sized.all_ids)
 
-      here : (p e : ℕ) → Memᴰ (p, e) (row_at ids dists K (get_or (neighbours_of g i) j 0)) → FitsRow P (row_at ids dists K i) p e → key q ≤ key (p, e + get_or (weights_of g i) j 0)
+      here : (p e : ℕ) → Memᴰ (p, e) (row_at ids dists K (get_or (neighbours_of g i) j 0)) → FitsRow P (row_at ids dists K i) p e → rank q ≤ key (p, e + get_or (weights_of g i) j 0)
       here p e m fit =
           let a = in_place ids dists (get_or (neighbours_of g i) j 0 * K) K (p, e) m in
           let u = mid_at (get_or (neighbours_of g i) j 0 * K) K ids a.index a.low ∙ sym (ap (λ (x : ℕ × ℕ). x.0) a.is) in
@@ -236,9 +229,9 @@ module _ {g : Network} {P ids dists : List ℕ} {K i : ℕ} (sized : Sized g K i
           let w = b.least a.index a.low (rw (u, v) (fit_fits P ids dists K i fits fit)) in
           omega (arith, w, u, v)
 
-      given : Gives P (take K (drop (i * K) ids)) (take K (drop (get_or (neighbours_of g i) j 0 * K) ids)) (take K (drop (get_or (neighbours_of g i) j 0 * K) dists)) (get_or (weights_of g i) j 0) K q
-          → GivesOver g P ids dists K i (j + 1) q
-      given s =
+      given : (c : Candidate) → Gives P (take K (drop (i * K) ids)) (take K (drop (get_or (neighbours_of g i) j 0 * K) ids)) (take K (drop (get_or (neighbours_of g i) j 0 * K) dists)) (get_or (weights_of g i) j 0) K (c.point, c.distance)
+          → GivesOver g P ids dists K i (j + 1) (c.point, c.distance)
+      given c s =
           let u = mid_at (get_or (neighbours_of g i) j 0 * K) K ids s.index s.low in
           let v = mid_at (get_or (neighbours_of g i) j 0 * K) K dists s.index s.low in
           record {
@@ -252,22 +245,20 @@ module _ {g : Network} {P ids dists : List ℕ} {K i : ℕ} (sized : Sized g K i
           }
 
 -- the same, with the parts as they are lent: c is the node that arc j leads to, and w its weight
-module _ {g : Network} {P ids dists : List ℕ} {K i j : ℕ} (sized : Sized g K ids dists) (inside : i < node_count g) (c w : ℕ) (to : c ≡ get_or (neighbours_of g i) j 0)
+module _ {g : Network} {P ids dists own there far : List ℕ} {K i j : ℕ} (sized : Sized g K ids dists) (inside : i < node_count g) (c w : ℕ) (to : c ≡ get_or (neighbours_of g i) j 0)
     (weight : w ≡ get_or (weights_of g i) j 0) (low : c < node_count g) where
-  pub chosen_lent : {r q : ℕ × ℕ} → BestOf g P ids dists K i j r
-      → BestOfRow P (mid_of (i * K) ((i * K + K) - i * K) ids) (mid_of (c * K) ((c * K + K) - c * K) ids) (mid_of (c * K) ((c * K + K) - c * K) dists) w
-      (length (mid_of (c * K) ((c * K + K) - c * K) ids)) r q
-      → BestOf g P ids dists K i (j + 1) q
-  chosen_lent f b =
-      chosen_more sized inside f (rw (row_long c K ids (row_inside sized low).0, row_width i K, row_width c K, to, weight) at b)
+  pub chosen_lent : {r q : Option Candidate} → own ≡ row_entries K i ids → there ≡ row_entries K c ids → far ≡ row_entries K c dists → BestOf g P ids dists K i j r
+      → BestOfRow P own there far w (length there) r q → BestOf g P ids dists K i (j + 1) q
+  unfolding row_entries
+  chosen_lent a b d f v =
+      let long : length (take K (drop (c * K) ids)) ≡ K = mid_length (c * K) K ids (row_inside sized low).0 in
+      chosen_more sized inside f (rw (a, b, d, long, to, weight) at v)
 
 -- a candidate is a point
-pub best_point : {g : Network} {P ids dists : List ℕ} {K i end : ℕ} {r : ℕ × ℕ} → length P ≡ node_count g → BestOf g P ids dists K i end r → r.1 ≢ NONE → r.0 < node_count g
-best_point {g} {P} {ids} {dists} {K} {i} {end} {r} points b n =
-    ⊎_elim
-    (λ q. absurd (n (ap (λ (x : ℕ × ℕ). x.1) q)))
-    (λ (v : GivesOver g P ids dists K i end r). omega (arith, ap (λ (x : ℕ × ℕ). x.0) v.is, marked_inside P v.point (lt-ltb 0 (lockers P v.point) (omega (arith, v.fit.lacks))), points))
-    b.from
+pub best_point : {g : Network} {P ids dists : List ℕ} {K i end : ℕ} {c : Candidate} → length P ≡ node_count g → BestOf g P ids dists K i end (Some c) → c.point < node_count g
+best_point {P} points b =
+    let v = b.from in
+    omega (arith, ap (λ (x : ℕ × ℕ). x.0) v.is, marked_inside P v.point (lt-ltb 0 (lockers P v.point) (omega (arith, v.fit.lacks))), points)
 
 -- ---- seed: the short rows below i have their best candidates in the queue.
 module _ {g : Network} {P xs ids dists : List ℕ} {K : ℕ} where
@@ -296,8 +287,8 @@ module _ {g : Network} {P xs ids dists : List ℕ} {K : ℕ} where
           all = λ j h s. elim (ℕ_discrete j i) [ yes q ↦ absurd (false≢true (sym e ∙ ap (is_short xs) (sym q) ∙ s)) | no n ↦ f.all j (omega arith) s ];
         }
 
-    pub seeded_nothing : {best : ℕ × ℕ} → BestOf g P ids dists K i (length (neighbours_of g i)) best → best.1 ≡ NONE → ShortSeeded g P xs ys ids dists K (i + 1) len
-    seeded_nothing {best} b e =
+    pub seeded_nothing : BestOf g P ids dists K i (length (neighbours_of g i)) None → ShortSeeded g P xs ys ids dists K (i + 1) len
+    seeded_nothing b =
         record {
           frame = f.frame;
           few = omega (arith, f.few);
@@ -306,14 +297,14 @@ module _ {g : Network} {P xs ids dists : List ℕ} {K : ℕ} where
           all =
               λ j h s.
               elim (ℕ_discrete j i) [
-                | yes q ↦ rw q (record { best = best; is_best = b; held = inl e })
+                | yes q ↦ rw q (record { best = None; is_best = b; held = tt })
                 | no n ↦ f.all j (omega arith) s
               ];
         }
 
-    pub seeded_push : {zs : List ℕ} {best : ℕ × ℕ} → is_short xs i ≡ true → BestOf g P ids dists K i (length (neighbours_of g i)) best → best.1 ≢ NONE
-        → PushedAt ys zs (node_count g) len (offer_of i best.0 best.1) → ShortSeeded g P xs zs ids dists K (i + 1) (len + 1)
-    seeded_push {zs} {best} short b n p =
+    pub seeded_push : {zs : List ℕ} {best : Candidate} → is_short xs i ≡ true → BestOf g P ids dists K i (length (neighbours_of g i)) (Some best)
+        → PushedAt ys zs (node_count g) len (offer_of i best.point best.distance) → ShortSeeded g P xs zs ids dists K (i + 1) (len + 1)
+    seeded_push {zs} {best} short b p =
         record {
           frame = record { size = p.size ∙ f.frame.size; words = λ j h. p.before j h ∙ f.frame.words j h };
           few = omega (arith, f.few);
@@ -322,27 +313,19 @@ module _ {g : Network} {P xs ids dists : List ℕ} {K : ℕ} where
           all =
               λ j h s.
               elim (ℕ_discrete j i) [
-                | yes q ↦ rw q (record { best = best; is_best = b; held = inr ((p.queue.holds (offer_of i best.0 best.1)).1 (inr refl)) })
+                | yes q ↦ rw q (record { best = Some best; is_best = b; held = (p.queue.holds (offer_of i best.point best.distance)).1 (inr refl) })
                 | no m ↦
                     let o = f.all j (omega arith) s in
                     record {
                       best = o.best;
                       is_best = o.is_best;
-                      held = ⊎_elim (λ e. inl e) (λ v. inr ((p.queue.holds (offer_of j o.best.0 o.best.1)).1 (inl v))) o.held;
+                      held = if_some o.best (λ c v. (p.queue.holds (offer_of j c.point c.distance)).1 (inl v)) o.held;
                     }
               ];
         }
       where
-        new : (k : ℕ) → k ≡ offer_of i best.0 best.1 → SeedOf g P xs ids dists K (i + 1) k
-        new k e =
-            record {
-              node = i;
-              low = omega arith;
-              short = short;
-              best = best;
-              gives = ⊎_elim (λ q. absurd (n (ap (λ (x : ℕ × ℕ). x.1) q))) (λ v. v) b.from;
-              is = e;
-            }
+        new : (k : ℕ) → k ≡ offer_of i best.point best.distance → SeedOf g P xs ids dists K (i + 1) k
+        new k e = record { node = i; low = omega arith; short = short; best = (best.point, best.distance); gives = b.from; is = e }
 
 -- ---- take_in: what `put_last` leaves of the lent parts, said of the whole arrays.
 module _ (P : List ℕ) {xs ids dists : List ℕ} {K i : ℕ} (can : CanTakeIn xs ids dists K i) where
@@ -351,11 +334,6 @@ module _ (P : List ℕ) {xs ids dists : List ℕ} {K i : ℕ} (can : CanTakeIn x
 
   dists_long : length (mid_of (i * K) ((i * K + K) - i * K) dists) ≡ K
   dists_long = row_long i K dists (omega (arith, can.fits, can.same))
-
-  -- what `put_last` requires of the lent parts
-  pub put_last_can : (length (mid_of (i * K) ((i * K + K) - i * K) dists) ≡ length (mid_of (i * K) ((i * K + K) - i * K) ids))
-      × (1 ≤ length (mid_of (i * K) ((i * K + K) - i * K) ids))
-  put_last_can = (dists_long ∙ sym ids_long, omega (arith, ids_long, can.some))
 
   pub not_taken : {p d : ℕ} → (is_short xs i ≡ false) ⊎ ((LONGEST < d) ⊎ (lockers P p ≤ times p (row_at ids dists K i))) → TakenIn P xs xs ids dists ids dists K i p d false
   not_taken why =

@@ -1,15 +1,17 @@
--- A run of one word in a list (`with_run`): its words, the loop that writes it, a run in a part that was lent, and the entries of a row that ends with one.
+-- A run of one word in a list (`with_run`): its words, the fill that writes it, a run in a part that was lent, and the entries of a row that ends with one.
 -- Assumes nothing.
 use Prim.Native.Nat.{ℕ, zero, suc, ◌+◌, ◌-◌, ◌≤◌, ◌<◌}
 use mathlib.Core.Path.{◌≡◌, refl, sym, ap, ◌∙◌}
 use mathlib.Core.Logic.{◌⊎◌, inl, inr, ⊎_elim}
 use mathlib.Core.List.{List, [], ◌∷◌, ◌++◌}
-use native.Mathlib.Decide.{ℕ_discrete}
+use native.Mathlib.Decide.{ℕ_discrete, dec_lt}
 use native.Mathlib.Nat.{zero-add, suc-add}
 use native.Mathlib.Omega.{arith}
-use lib.ListN.{length, get_or, set, take, replicate, length-set}
-use lib.Seq.{get_or-set_same, get_or-set_other, set-append_left, length-take-le}
+use lib.ListN.{length, get_or, set, take, replicate, length-set, length-replicate}
+use Rattle.std.proofs.lemmas.List.{get_or-replicate}
+use lib.Seq.{ext_get_or, get_or-set_same, get_or-set_other, set-append_left, length-take-le}
 use borrow.Rule.Slice.PartMut.{mid_of, put_mid, post_of, mid_len, put_same}
+use Rattle.network.proofs.Lends.{returned}
 use Rattle.rows.specs.Flat.{place, places}
 use Rattle.table.specs.Build.{with_run}
 
@@ -36,17 +38,23 @@ module _ (xs : List ℕ) (at v : ℕ) where
       get_or-set_other (with_run xs at n v) (at + n) j v 0 (λ e. ⊎_elim (λ a. omega arith) (λ a. omega arith) h)
       ∙ run_out n j (⊎_elim (λ a. inl a) (λ a. inr (omega arith)) h)
 
-  pub run_none : xs ≡ with_run xs at (at - at) v
-  unfolding with_run
-  run_none = let q : at - at ≡ 0 = omega arith in rw q
-
-  -- as the loop writes it, from place `at` up to `to`
-  pub run_more : (to : ℕ) → at ≤ to → set (with_run xs at (to - at) v) to v ≡ with_run xs at (to + 1 - at) v
-  unfolding with_run
-  run_more to h =
-      let e : at + (to - at) ≡ to = omega arith in
-      let f : to + 1 - at ≡ suc (to - at) = omega arith in
-      rw f (rw e refl)
+  -- as `fill` writes it, up to e
+  pub run_filled : (e : ℕ) → at ≤ e → e ≤ length xs → put_mid at (e - at) xs (replicate (e - at) v) ≡ with_run xs at (e - at) v
+  run_filled e low fits =
+      let n = e - at in
+      let r = returned at e xs (replicate n v) low fits (length-replicate n v ∙ sym (mid_len at e xs fits)) in
+      ext_get_or 0 (put_mid at n xs (replicate n v)) (with_run xs at n v) (r.size ∙ sym (run_length n))
+      (λ j l.
+      elim (dec_lt j at) [
+        | yes h ↦ r.before j h ∙ sym (run_out n j (inl h))
+        | no h ↦
+            elim (dec_lt j e) [
+              | yes m ↦
+                  let q : at + (j - at) ≡ j = omega arith in
+                  rw q at (r.part (j - at) (omega arith)) ∙ get_or-replicate n (j - at) v 0 (omega arith) ∙ sym (run_in n j (omega arith) (omega arith) (omega arith))
+              | no m ↦ r.after j (omega arith) ∙ sym (run_out n j (inr (omega arith)))
+            ]
+      ])
 
 -- a write behind the first list
 set_behind : (xs ys : List ℕ) (j v : ℕ) → set (xs ++ ys) (length xs + j) v ≡ xs ++ set ys j v

@@ -1,7 +1,7 @@
 -- What `build` and its steps require and leave. Document 01, 'The table': 'Build fills it.' Words of scratch: a row's length for each node, then the
 -- queue. An entry of the queue offers a point to a node's row: its distance, and the tag of point and node.
 -- Assumes nothing.
-use Rattle.std.specs.Prelude.{ℕ, zero, suc, ◌+◌, ◌-◌, ◌*◌, ◌≤◌, ◌<◌, min, ◌≡◌, ◌⊎◌, Bool, true, false, List, length, get_or, set, replicate}
+use Rattle.std.specs.Prelude.{ℕ, zero, suc, ◌+◌, ◌-◌, ◌*◌, ◌≤◌, ◌<◌, min, ◌≡◌, ◌⊎◌, Bool, true, false, List, Option, None, Some, length, get_or, set, replicate}
 use Rattle.network.specs.Network.{Network, node_count, arc_count, neighbours_of}
 use Rattle.network.specs.Accepted.{Accepted}
 use Rattle.network.specs.Distance.{NONE}
@@ -15,11 +15,6 @@ pub record Stands (ids : List ℕ) (from size p : ℕ) : Type 0 where
   pub index : ℕ
   pub low : index < size
   pub is : get_or ids (from + index) 0 ≡ p
-
--- whether it stands among the first `size` ids of a row
-pub record StandsIs (ids : List ℕ) (size p : ℕ) (r : Bool) : Type 0 where
-  pub yes : r ≡ true → Stands ids 0 size p
-  pub no : r ≡ false → Stands ids 0 size p → ⊥
 
 -- a row of `size` entries has a place for p: one is free, and it lacks p
 pub record HasPlace (ids : List ℕ) (size p : ℕ) : Type 0 where
@@ -57,9 +52,10 @@ pub record AppendRefuses (ids ids' dists dists' : List ℕ) (size p : ℕ) : Typ
   pub new_ids : ids' ≡ ids
   pub new_dists : dists' ≡ dists
 
-pub record Appended (ids ids' dists dists' : List ℕ) (size p d all end : ℕ) : Type 0 where
-  pub taken : size < end → AppendTakes ids ids' dists dists' size p d all end
-  pub refused : end ≤ size → AppendRefuses ids ids' dists dists' size p
+-- one of both: r is how many entries the row has then, if it took p
+abbrev pub Appended : List ℕ → List ℕ → List ℕ → List ℕ → ℕ → ℕ → ℕ → ℕ → Option ℕ → Type 0
+Appended ids ids' dists dists' size p d all None = AppendRefuses ids ids' dists dists' size p
+Appended ids ids' dists dists' size p d all (Some end) = AppendTakes ids ids' dists dists' size p d all end
 
 -- the same of node i's row, from place i * K on, whose size is the node's word of scratch
 pub record CanReadRow (xs ids : List ℕ) (K i : ℕ) : Type 0 where

@@ -1,7 +1,7 @@
 -- The best entry that a short row can take from its neighbours' rows: what the steps of `remove` that look for it require and leave. Any contents of
 -- the table are allowed: an id is compared with the marks, and a distance with what one can be.
 -- Assumes nothing.
-use Rattle.std.specs.Prelude.{ℕ, ◌+◌, ◌≤◌, ◌<◌, ◌≡◌, ◌⊎◌, length, get_or}
+use Rattle.std.specs.Prelude.{ℕ, ◌+◌, ◌≤◌, ◌<◌, ◌≡◌, ◌⊎◌, Option, None, Some, IfSome, length, get_or}
 use mathlib.Core.List.{List, Memᴰ}
 use Rattle.network.specs.Network.{Network, node_count, neighbours_of, weights_of}
 use Rattle.network.specs.Accepted.{Accepted}
@@ -12,17 +12,23 @@ use Rattle.network.specs.Order.{times}
 use Rattle.rows.specs.Flat.{row_at}
 use Rattle.network.specs.Rows.{Sized}
 use Rattle.rows.specs.Check.{among}
+use Rattle.table.specs.declared.remove.Candidate.{Candidate}
 
 -- (p, e) of a neighbour's row may go into a row: the row lacks a locker of p, and e can be a distance
 pub record Fits (P own : List ℕ) (p e : ℕ) : Type 0 where
   pub low : e ≤ LONGEST
   pub lacks : among own p (length own) < lockers P p
 
--- r is the better of a candidate and (p, e) over an arc of weight w
-pub record Better (P own : List ℕ) (best r : ℕ × ℕ) (p e w : ℕ) : Type 0 where
-  pub most : key r ≤ key best
-  pub least : Fits P own p e → key r ≤ key (p, e + w)
-  pub from : (r ≡ best) ⊎ ((r ≡ (p, e + w)) × Fits P own p e)
+-- what comes first: a candidate by its distance and its point, and any of them before none
+abbrev pub rank : Option Candidate → ℕ
+rank None = key (0, NONE)
+rank (Some c) = key (c.point, c.distance)
+
+-- r is the better of a candidate, where there is one, and (p, e) over an arc of weight w
+pub record Better (P own : List ℕ) (best r : Option Candidate) (p e w : ℕ) : Type 0 where
+  pub most : rank r ≤ rank best
+  pub least : Fits P own p e → rank r ≤ key (p, e + w)
+  pub from : IfSome r (λ c. (best ≡ Some c) ⊎ (◌≡◌ {A = ℕ × ℕ} (c.point, c.distance) (p, e + w) × Fits P own p e))
 
 -- a place of a neighbour's row below `end` gives r
 pub record Gives (P own ids dists : List ℕ) (w end : ℕ) (r : ℕ × ℕ) : Type 0 where
@@ -31,11 +37,11 @@ pub record Gives (P own ids dists : List ℕ) (w end : ℕ) (r : ℕ × ℕ) : T
   pub fits : Fits P own (get_or ids index 0) (get_or dists index 0)
   pub is : r ≡ (get_or ids index 0, get_or dists index 0 + w)
 
--- r is the best of a candidate and the places of a neighbour's row below `end`
-pub record BestOfRow (P own ids dists : List ℕ) (w end : ℕ) (best r : ℕ × ℕ) : Type 0 where
-  pub most : key r ≤ key best
-  pub least : (j : ℕ) → j < end → Fits P own (get_or ids j 0) (get_or dists j 0) → key r ≤ key (get_or ids j 0, get_or dists j 0 + w)
-  pub from : (r ≡ best) ⊎ Gives P own ids dists w end r
+-- r is the best of a candidate, where there is one, and the places of a neighbour's row below `end`
+pub record BestOfRow (P own ids dists : List ℕ) (w end : ℕ) (best r : Option Candidate) : Type 0 where
+  pub most : rank r ≤ rank best
+  pub least : (j : ℕ) → j < end → Fits P own (get_or ids j 0) (get_or dists j 0) → rank r ≤ key (get_or ids j 0, get_or dists j 0 + w)
+  pub from : IfSome r (λ c. (best ≡ Some c) ⊎ Gives P own ids dists w end (c.point, c.distance))
 
 -- node i, and rows in both arrays
 pub record CanChoose (g : Network) (ids dists : List ℕ) (K i : ℕ) : Type 0 where
@@ -58,9 +64,9 @@ pub record GivesOver (g : Network) (P ids dists : List ℕ) (K i end : ℕ) (r :
   pub fit : FitsRow P (row_at ids dists K i) point far
   pub is : r ≡ (point, far + get_or (weights_of g i) place 0)
 
--- r is the best entry that the rows of the neighbours by the arcs of i before place `end` hold and its own lacks; none, where r's distance is NONE
-pub record BestOf (g : Network) (P ids dists : List ℕ) (K i end : ℕ) (r : ℕ × ℕ) : Type 0 where
+-- r is the best entry that the rows of the neighbours by the arcs of i before place `end` hold and its own lacks, if there is one
+pub record BestOf (g : Network) (P ids dists : List ℕ) (K i end : ℕ) (r : Option Candidate) : Type 0 where
   pub least :
       (j p e : ℕ) → j < end → Memᴰ (p, e) (row_at ids dists K (get_or (neighbours_of g i) j 0)) → FitsRow P (row_at ids dists K i) p e
-      → key r ≤ key (p, e + get_or (weights_of g i) j 0)
-  pub from : (r ≡ (0, NONE)) ⊎ GivesOver g P ids dists K i end r
+      → rank r ≤ key (p, e + get_or (weights_of g i) j 0)
+  pub from : IfSome r (λ c. GivesOver g P ids dists K i end (c.point, c.distance))

@@ -1,7 +1,7 @@
 -- A table whose rows are freed of a point and filled again: what the steps of `remove` require and leave. Words of scratch: short flags n | queue. An
 -- entry of the queue offers a point to a short row: its distance, and the tag of point and node. Any contents of the table are allowed.
 -- Assumes nothing.
-use Rattle.std.specs.Prelude.{ℕ, suc, ◌+◌, ◌-◌, ◌*◌, ◌≤◌, ◌<◌, ◌≡◌, ◌≢◌, ◌⊎◌, Bool, true, false, List, eqb, length, get_or, set, drop}
+use Rattle.std.specs.Prelude.{ℕ, suc, ◌+◌, ◌-◌, ◌*◌, ◌≤◌, ◌<◌, ◌≡◌, ◌≢◌, ◌⊎◌, Bool, true, false, List, Option, IfSome, eqb, length, get_or, set, drop}
 use Rattle.network.specs.Network.{Network, Arc, node_count, arc_count, neighbours_of}
 use Rattle.network.specs.Accepted.{Accepted}
 use Rattle.network.specs.Walk.{Walk}
@@ -17,6 +17,7 @@ use Rattle.table.specs.Room.{arcs_left}
 use Rattle.rows.specs.Flat.{row_at}
 use Rattle.rows.specs.Take.{take_if}
 use Rattle.rows.specs.Check.{among}
+use Rattle.table.specs.declared.remove.Candidate.{Candidate}
 use Rattle.table.specs.Candidate.{GivesOver, BestOf}
 use Rattle.table.specs.Offer.{offer_of, arc_offer}
 
@@ -68,9 +69,9 @@ pub record SeedOf (g : Network) (P xs ids dists : List ℕ) (K end k : ℕ) : Ty
 
 -- a short row below `end` has its best candidate in the queue, where it has one
 pub record HasSeed (g : Network) (P ids dists : List ℕ) (K i : ℕ) (Held : ℕ → Type 0) : Type 0 where
-  pub best : ℕ × ℕ
+  pub best : Option Candidate
   pub is_best : BestOf g P ids dists K i (length (neighbours_of g i)) best
-  pub held : (best.1 ≡ NONE) ⊎ Held (offer_of i best.0 best.1)
+  pub held : IfSome best (λ c. Held (offer_of i c.point c.distance))
 
 -- the short rows below `end` have their best candidates in the queue, and nothing else is there
 pub record ShortSeeded (g : Network) (P xs ys ids dists : List ℕ) (K end len : ℕ) : Type 0 where

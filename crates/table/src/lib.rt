@@ -3,4 +3,5 @@
 
 pub mod build;
 pub mod insert;
+mod offers;
 pub mod remove;

@@ -1,3 +1,4 @@
--- The theorems of the calls with a table: each call's outcome, refused and accepted (Outcomes). A folder build/.., updated/.. holds the proof of the
--- function of that name.
+-- The theorems of the calls with a table: the part of the cleared scratch that a call's work is lent (Cleared); each call's outcome, refused and accepted
+-- (Outcomes). A folder build/.., updated/.. holds the proof of the function of that name.
+pub mod Cleared
 pub mod Outcomes

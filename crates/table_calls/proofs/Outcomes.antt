@@ -1,26 +1,34 @@
 -- The outcomes of build and of the table check: refused with its number, and accepted; and what the exported calls of insert, remove and the table
 -- query say.
 -- Assumes nothing.
+use Rattle.std.specs.Prelude.{Result, Ok, Err}
 use Prim.Native.Nat.{ℕ}
-use mathlib.Core.Path.{◌≡◌, refl, ap, ◌∙◌}
+use mathlib.Core.Path.{◌≡◌, refl, sym, ap, ◌∙◌}
 use mathlib.Core.Logic.{◌≢◌}
 use mathlib.Core.Bool.{Bool}
 use mathlib.Core.List.{List}
+use native.Mathlib.Omega.{arith}
 use lib.ListN.{length, replicate}
 use borrow.Author.Tests.{eq-eqb, ne_eqb}
 use Rattle.network.specs.Network.{Network}
+use Rattle.network.specs.Refusal.{number_of}
+use Rattle.network.specs.declared.refusal.Refusal.{Refusal}
+use Rattle.conditions.proofs.NotMet.{number_some}
+use Rattle.rows.specs.Check.{CanCheck}
+use Rattle.table.specs.Updated.{UpdateLeft}
+use Rattle.query.specs.Query.{QueryLeft}
+use Rattle.numbers.proofs.Ready.{table_check_ready}
+use Rattle.numbers.proofs.Cleared.{all_zero}
 use Rattle.conditions.specs.declared.kind.Kind.{Kind}
 use Rattle.conditions.specs.declared.answers.Update.{Update}
 use Rattle.conditions.specs.declared.answers.Listing.{Listing}
-use Rattle.conditions.specs.Values.{listed_listing, updated_update}
+use Rattle.conditions.specs.Values.{found_list, listed_listing, updated_update}
 use Rattle.network.specs.Rows.{IsTable, same_table}
-use Rattle.conditions.specs.declared.answers.Rule.{Rule}
-use Rattle.conditions.specs.declared.answers.Rule.TheVariants.{Refused, Answer}
 use Rattle.numbers.specs.Numbers.{build_number, table_check_number, change_number, table_query_number}
 use Rattle.table_calls.specs.TableCheck.{table_check_answer}
 use Rattle.table_calls.specs.Build.{BuildOutcome, build_outcome}
-use Rattle.table_calls.specs.Updated.{kind_marks, Arrays, UpdateDone, ChangeExported}
-use Rattle.table_calls.specs.TableQuery.{QueryArrays, QueryDone, TableQueryExported}
+use Rattle.table_calls.specs.Updated.{kind_marks, Arrays, UpdateDone, UpdateByNumber, ChangeExported}
+use Rattle.table_calls.specs.TableQuery.{QueryArrays, QueryDone, QueryByNumber, TableQueryExported}
 
 module _ (g : Network) (P : List ℕ) (K : ℕ) (scratch ids distances : List ℕ) where
   pub build_refused : (number : ℕ) → number ≡ build_number g P K scratch ids distances → number ≢ 0
@@ -35,14 +43,76 @@ module _ (g : Network) (P : List ℕ) (K : ℕ) (scratch ids distances : List �
 
 module _ (g : Network) (P : List ℕ) (K : ℕ) (ids distances : List ℕ) where
   pub check_refused : (number : ℕ) → number ≡ table_check_number g P K ids distances → number ≢ 0
-      → ◌≡◌ {A = Rule} (Refused number) (table_check_answer g P K ids distances)
+      → ◌≡◌ {A = Result Bool ℕ} (Err number) (table_check_answer g P K ids distances)
   unfolding table_check_answer
   check_refused number e n = rw (← e, ne_eqb number 0 n)
 
   pub check_done : {L : ℕ} {yes : Bool} → L ≡ K → table_check_number g P K ids distances ≡ 0 → yes ≡ same_table g P L ids distances
-      → ◌≡◌ {A = Rule} (Answer yes) (table_check_answer g P K ids distances)
+      → ◌≡◌ {A = Result Bool ℕ} (Ok yes) (table_check_answer g P K ids distances)
   unfolding table_check_answer
   check_done l e h = rw (eq-eqb (table_check_number g P K ids distances) 0 e, h, l)
+
+  -- what the check asks
+  pub can_check : 0 ≡ table_check_number g P K ids distances → CanCheck g P K ids distances
+  can_check e =
+      let r = table_check_ready g P K ids distances (sym e) in
+      record { readable = record { accepted = r.accepted; some = omega (arith, r.least); sized = r.sized }; points = r.points }
+
+-- insert and remove: refused with its number, and accepted
+module _ {number : ℕ} {g : Network} {Q : List ℕ} {K : ℕ} {old : Arrays} where
+  pub change_unmet : (r : Refusal) → number_of r ≡ number → UpdateByNumber number g Q K old old (Err (number_of r))
+  change_unmet r e =
+      record {
+        refused = λ _. (ap (λ (k : ℕ). Err k) e, refl);
+        accepted = λ z. absurd (omega (arith, number_some r));
+      }
+
+  pub change_done : {new : Arrays} {changed : ℕ} → 0 ≡ number
+      → UpdateLeft g old.points Q new.points old.scratch new.scratch old.ids old.distances new.ids new.distances K changed
+      → UpdateByNumber number g Q K old new (Ok changed)
+  change_done {new} {changed} e d =
+      record {
+        refused = λ n. absurd (n (sym e));
+        accepted =
+            λ _.
+            record {
+              changed = changed;
+              answered_so = refl;
+              done =
+                  record {
+                    marks = d.marks;
+                    zero = all_zero (length old.scratch) refl d.area;
+                    sized = d.sized;
+                    most = d.most;
+                    table = d.table;
+                    counted = d.counted;
+                  };
+            };
+      }
+
+-- the table query: refused with its number, and accepted
+module _ {number : ℕ} {g : Network} {P : List ℕ} {q k K : ℕ} {lent : QueryArrays} where
+  pub query_unmet : (r : Refusal) → number_of r ≡ number → QueryByNumber number g P q k K lent lent.scratch lent.answers (Err (number_of r))
+  query_unmet r e =
+      record {
+        refused = λ _. (ap (λ (k : ℕ). Err k) e, refl, refl);
+        accepted = λ z. absurd (omega (arith, number_some r));
+      }
+
+  pub query_done : {scratch answers : List ℕ} {found : ℕ} → 0 ≡ number
+      → QueryLeft g P lent.ids lent.distances q k K lent.scratch scratch lent.answers answers found
+      → QueryByNumber number g P q k K lent scratch answers (Ok (found_list found 0))
+  query_done {found = found} e d =
+      record {
+        refused = λ n. absurd (n (sym e));
+        accepted =
+            λ _.
+            record {
+              found = found;
+              answered_so = refl;
+              done = record { zero = all_zero (length lent.scratch) refl d.area; any = d.some; sized = d.sized; list = d.answers };
+            };
+      }
 
 -- what an exported insert or remove says: its number and count 0, and nothing is written; or number 0, and what it is named for
 module _ {kind : Kind} {g : Network} {node K : ℕ} {old new : Arrays} {r : Update} (h : ChangeExported kind g node K old new r) where

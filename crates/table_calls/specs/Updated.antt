@@ -1,14 +1,12 @@
 -- The calls that change the table, insert and remove: 1 to 5, 6, 7, 8, 10, 11; m is K. Document 01, 'The table', with Ask 8: 'Insert adds one, remove
 -- takes one'; 'each brings the table up to date and returns the number of rows whose contents differ before and after.'
 -- Assumes nothing.
-use Rattle.std.specs.Prelude.{ℕ, ◌≤◌, ◌≡◌, ◌≢◌, List, length, replicate}
+use Rattle.std.specs.Prelude.{Result, Ok, Err, ℕ, ◌≤◌, ◌≡◌, ◌≢◌, List, length, replicate}
 use Rattle.network.specs.Network.{Network, node_count}
 use Rattle.network.specs.Rows.{rows_changed, Sized, IsTable}
 use Rattle.network.specs.Points.{more_at, fewer_at}
 use Rattle.conditions.specs.declared.kind.Kind.{Kind}
 use Rattle.conditions.specs.declared.kind.Kind.TheVariants.{Insert, Remove}
-use Rattle.conditions.specs.declared.answers.Updated.{Updated}
-use Rattle.conditions.specs.declared.answers.Updated.TheVariants as is
 use Rattle.conditions.specs.declared.answers.Update.{Update}
 use Rattle.numbers.specs.Numbers.{change_number}
 use Rattle.conditions.specs.Values.{updated_update}
@@ -36,23 +34,23 @@ pub record UpdateDone (g : Network) (Q : List ℕ) (K : ℕ) (old new : Arrays) 
   pub counted : IsTable g old.points K old.ids old.distances → changed ≡ rows_changed g old.points Q K
 
 -- what an accepted call answers: so many rows changed
-pub record UpdateAccepted (g : Network) (Q : List ℕ) (K : ℕ) (old new : Arrays) (answer : Updated) : Type 0 where
+pub record UpdateAccepted (g : Network) (Q : List ℕ) (K : ℕ) (old new : Arrays) (answer : Result ℕ ℕ) : Type 0 where
   pub changed : ℕ
-  pub answered_so : answer ≡ is.Changed changed
+  pub answered_so : answer ≡ Ok changed
   pub done : UpdateDone g Q K old new changed
 
 -- what a call of this number answers and leaves: 'A refusal returns its number, count 0 [..], and changes no buffer'
-pub record UpdateByNumber (number : ℕ) (g : Network) (Q : List ℕ) (K : ℕ) (old new : Arrays) (answer : Updated) : Type 0 where
-  pub refused : number ≢ 0 → (answer ≡ is.Refused number) × (new ≡ old)
+pub record UpdateByNumber (number : ℕ) (g : Network) (Q : List ℕ) (K : ℕ) (old new : Arrays) (answer : Result ℕ ℕ) : Type 0 where
+  pub refused : number ≢ 0 → (answer ≡ Err number) × (new ≡ old)
   pub accepted : number ≡ 0 → UpdateAccepted g Q K old new answer
 
 -- of insert and of remove
-abbrev pub ChangeLeft : Kind → Network → ℕ → ℕ → Arrays → Arrays → Updated → Type 0
+abbrev pub ChangeLeft : Kind → Network → ℕ → ℕ → Arrays → Arrays → Result ℕ ℕ → Type 0
 ChangeLeft kind g node K old new answer =
     UpdateByNumber (change_number kind g old.points node K old.scratch old.ids old.distances) g (kind_marks kind old.points node) K old new answer
 
 -- what the exported calls return of it
 pub record ChangeExported (kind : Kind) (g : Network) (node K : ℕ) (old new : Arrays) (r : Update) : Type 0 where
-  pub answer : Updated
+  pub answer : Result ℕ ℕ
   pub values : r ≡ updated_update answer
   pub left : ChangeLeft kind g node K old new answer

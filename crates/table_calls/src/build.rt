@@ -1,67 +1,46 @@
-// The build call: its work once no condition is met. Document 01, 'The table': 'Build fills it.'
+// The build call: its work once no condition is met. Document 01, 'The table': 'Build fills it.' ids and distances are passed on as two, as `put_in_row`
+// (rows) says.
 ghost use Rattle.std.specs.Prelude.{◌≡◌};
-ghost use Rattle.network.specs.Network.{network};
 ghost use Rattle.table.specs.Build.{BuildLeft};
 ghost use Rattle.table_calls.specs.Build.{build_outcome};
 ghost use Rattle.numbers.specs.Ready.{BuildReady};
+ghost use Rattle.network.specs.Refusal.{number};
 
-use expansion::words;
-use network::arcs::wide;
+use network::{Network, Refusal};
 
 // Clears the scratch, and fills the table over the part of it that is used.
 fn run(
-    starts: &[u32],
-    neighbours: &[u32],
-    weights: &[u32],
+    g: &Network<'_>,
     points: &[u8],
     places: u32,
     scratch: &mut [u32],
     ids: &mut [u32],
     distances: &mut [u32],
 )
-    requires { BuildReady (network starts.now neighbours.now weights.now) points.now places scratch.old ids.old distances.old }
-    ensures { let g = network starts.now neighbours.now weights.now in
-        BuildLeft g points.now scratch.old scratch.new ids.new distances.new places }
+    requires { BuildReady g.now points.now places scratch.old ids.old distances.old }
+    ensures { BuildLeft g.now points.now scratch.old scratch.new ids.new distances.new places }
 {
-    let n = starts.len() - 1;
-    let row = wide(places);
-    let used = n + 2 * (n + row * neighbours.len());
-    words::zero(scratch);
-    table::build::build(
-        starts,
-        neighbours,
-        weights,
-        points,
-        &mut scratch[..used],
-        ids,
-        distances,
-        row,
-    );
+    let n = g.nodes();
+    let row = places as usize;
+    let used = n + 2 * (n + row * g.arcs());
+    scratch.fill(0);
+    table::build::build(g, points, &mut scratch[..used], ids, distances, row);
 }
 
 // The whole call.
+#[tactic(auto, using(crate::proofs::Outcomes::build_refused, conditions::proofs::NotMet::number_some, numbers::proofs::Ready::build_ready))]
 pub fn answer(
-    starts: &[u32],
-    neighbours: &[u32],
-    weights: &[u32],
+    g: &Network<'_>,
     points: &[u8],
     places: u32,
     scratch: &mut [u32],
     ids: &mut [u32],
     distances: &mut [u32],
-) -> u32
-    ensures { let g = network starts.now neighbours.now weights.now in
-        record { number = result; scratch = scratch.new; ids = ids.new; distances = distances.new }
-        ≡ build_outcome g points.now places scratch.old ids.old distances.old }
+) -> Result<(), Refusal>
+    ensures { record { number = number result; scratch = scratch.new; ids = ids.new; distances = distances.new }
+        ≡ build_outcome g.now points.now places scratch.old ids.old distances.old }
 {
-    let refusal = numbers::build_number(
-        starts, neighbours, weights, points, places, scratch, ids, distances,
-    );
-    if refusal != 0 {
-        return refusal;
-    }
-    run(
-        starts, neighbours, weights, points, places, scratch, ids, distances,
-    );
-    0
+    numbers::check_build(g, points, places, scratch, ids, distances)?;
+    run(g, points, places, scratch, ids, distances);
+    Ok(())
 }

@@ -11,4 +11,4 @@ pub loop-j-preserved : goal.loop-j-preserved
 loop-j-preserved c =
     let u = c.one-update in
     let made : Arrays = record { points = u.new.points; scratch = u.new.scratch; ids = u.new.ids; distances = u.new.distances } in
-    one_more c.requires c.loop-j.invariant c.loop-j-test.true c.call_at-call.result c.call_at-call.ensures made u.result u.ensures u.auto.points u.auto.ids u.auto.distances
+    one_more c.requires c.loop-j.invariant c.loop-j-test.true c.get-call.result c.get-call.ensures made u.result u.ensures u.auto.points u.auto.ids u.auto.distances

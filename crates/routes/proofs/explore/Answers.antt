@@ -2,92 +2,68 @@
 -- is beaten, and the search stops behind it.
 use Rattle.std.proofs.Common.{refl, ◌∙◌, arith}
 use lib.ListN.{length-set}
-use Rattle.network.specs.Network.{network, node_count}
+use Rattle.network.specs.Network.{node_count}
 use Rattle.expansion.specs.Visited.{stops_in}
-use Rattle.expansion.proofs.Progress.{took_place, took_fits, took_follow, frame_settled}
+use Rattle.expansion.proofs.Progress.{took_place, took_follow, frame_settled}
 use Rattle.searches.proofs.Searching.{leads, can_look, beside_old, looked_took, looked_searching, looked_told, many_beaten, searching_stopped, searching_opened}
-use Rattle.routes.proofs.Routing.{can_start, from_route, routing_start, routing_done}
+use Rattle.routes.proofs.Routing.{from_route, routing_start, routing_done}
 use Rattle.routes.proofs.explore.Goals as goal
 
-pub start-len-requires : goal.start-len-requires
-start-len-requires c = can_start c.requires
-
-pub loop-label-init : goal.loop-label-init
-loop-label-init c = (refl, routing_start c.requires c.start-len.ensures)
-
-pub next-taken-requires : goal.next-taken-requires
-next-taken-requires c = c.loop-label.invariant.1.progress.area.queue
+pub loop-taken-init : goal.loop-taken-init
+loop-taken-init c = (refl, routing_start c.requires (rw c.nodes-n.ensures at c.start-len.ensures))
 
 -- nothing waits any more
-pub returns-in_default : goal.returns-in_default
-returns-in_default c =
+pub returns : goal.returns
+returns c =
     let t = c.in_default.ensures in
-    let begun = c.start-len.ensures in
-    rw t.1 (routing_done c.requires begun c.loop-label.invariant.1 t.0 (c.loop-label.invariant.0 ∙ begun.size))
-
-pub slice_bounds-f-end : goal.slice_bounds-f-end
-slice_bounds-f-end c = omega (arith, c.loop-label.invariant.1.progress.area.queue.room, c.in-Node.ensures.popped.frame.size)
+    let begun = rw c.nodes-n.ensures at c.start-len.ensures in
+    rw t.1 (routing_done c.requires begun c.loop-taken.invariant.1 t.0 (c.loop-taken.invariant.0 ∙ begun.size))
 
 pub look-tally-requires : goal.look-tally-requires
 look-tally-requires c =
-    let n = node_count (network c.args.starts.now c.args.neighbours.now c.args.weights.now) in
-    can_look (from_route c.requires (stops_in n c.start-len.new.s)) c.loop-label.invariant.1 c.in-Node.ensures
+    let n = node_count c.args.g.now in
+    rw c.nodes-n.ensures (can_look (from_route c.requires (stops_in n c.start-len.new.s)) c.loop-taken.invariant.1 (rw c.nodes-n.ensures at c.in-Some.ensures))
 
-pub settle-requires : goal.settle-requires
-settle-requires c =
-    let n = node_count (network c.args.starts.now c.args.neighbours.now c.args.weights.now) in
-    let from = from_route c.requires (stops_in n c.start-len.new.s) in
-    let i = c.loop-label.invariant.1 in
-    let t = c.in-Node.ensures in
-    let looked = c.look-tally.ensures in
-    took_fits c.requires.accepted (looked_searching from i t looked).progress (looked_took from i t looked)
-
--- a place is left
-pub overflow_add-settled : goal.overflow_add-settled
-overflow_add-settled c =
-    let ok = c.requires.accepted in
-    record { fits = omega (arith, took_place ok c.loop-label.invariant.1.progress c.in-Node.ensures, ok.few) }
-
-pub loop-label-smaller-then-k-tally : goal.loop-label-smaller-then-k-tally
-loop-label-smaller-then-k-tally c = omega (arith, took_place c.requires.accepted c.loop-label.invariant.1.progress c.in-Node.ensures)
+pub loop-taken-smaller-then-k-tally : goal.loop-taken-smaller-then-k-tally
+loop-taken-smaller-then-k-tally c = omega (arith, took_place c.requires.accepted c.loop-taken.invariant.1.progress (rw c.nodes-n.ensures at c.in-Some.ensures))
 
 -- the node is beaten
-pub loop-label-preserved-then-k-tally : goal.loop-label-preserved-then-k-tally
-loop-label-preserved-then-k-tally c =
-    let n = node_count (network c.args.starts.now c.args.neighbours.now c.args.weights.now) in
+pub loop-taken-preserved-then-k-tally : goal.loop-taken-preserved-then-k-tally
+loop-taken-preserved-then-k-tally c =
+    let n = node_count c.args.g.now in
     let from = from_route c.requires (stops_in n c.start-len.new.s) in
-    let i = c.loop-label.invariant in
-    let t = c.in-Node.ensures in
-    let looked = c.look-tally.ensures in
+    let i = c.loop-taken.invariant in
+    let t = rw c.nodes-n.ensures at c.in-Some.ensures in
+    let looked = rw c.nodes-n.ensures at c.look-tally.ensures in
     let e = looked_searching from i.1 t looked in
     let u = looked_took from i.1 t looked in (
-      rw c.settle.ensures (simp length-set (u.popped.frame.size ∙ (beside_old from i.1 t looked).size ∙ i.0)),
-      rw c.settle.ensures (searching_stopped from e u (looked_told from i.1 t looked) (many_beaten from e u looked.looked.count c.if-k-tally.true)),
+      rw (c.settle.ensures, c.nodes-n.ensures) (simp length-set (u.popped.frame.size ∙ (beside_old from i.1 t looked).size ∙ i.0)),
+      rw (c.settle.ensures, c.nodes-n.ensures) (searching_stopped from e u (looked_told from i.1 t looked) (many_beaten from e u looked.looked.count c.if-k-tally.true)),
     )
 
 -- the arcs of its node are followed
 pub open-len-requires : goal.open-len-requires
 open-len-requires c =
-    let n = node_count (network c.args.starts.now c.args.neighbours.now c.args.weights.now) in
+    let n = node_count c.args.g.now in
     let from = from_route c.requires (stops_in n c.start-len.new.s) in
-    let i = c.loop-label.invariant.1 in
-    let t = c.in-Node.ensures in
-    let looked = c.look-tally.ensures in
-    rw c.settle.ensures (took_follow c.requires.accepted (looked_searching from i t looked).progress (looked_took from i t looked))
+    let i = c.loop-taken.invariant.1 in
+    let t = rw c.nodes-n.ensures at c.in-Some.ensures in
+    let looked = rw c.nodes-n.ensures at c.look-tally.ensures in
+    rw (c.settle.ensures, c.nodes-n.ensures) (took_follow c.requires.accepted (looked_searching from i t looked).progress (looked_took from i t looked))
 
-pub loop-label-smaller : goal.loop-label-smaller
-loop-label-smaller c = omega (arith, took_place c.requires.accepted c.loop-label.invariant.1.progress c.in-Node.ensures)
+pub loop-taken-smaller : goal.loop-taken-smaller
+loop-taken-smaller c = omega (arith, took_place c.requires.accepted c.loop-taken.invariant.1.progress (rw c.nodes-n.ensures at c.in-Some.ensures))
 
-pub loop-label-preserved : goal.loop-label-preserved
-loop-label-preserved c =
-    let n = node_count (network c.args.starts.now c.args.neighbours.now c.args.weights.now) in
+pub loop-taken-preserved : goal.loop-taken-preserved
+loop-taken-preserved c =
+    let n = node_count c.args.g.now in
     let from = from_route c.requires (stops_in n c.start-len.new.s) in
-    let i = c.loop-label.invariant in
-    let t = c.in-Node.ensures in
-    let looked = c.look-tally.ensures in
+    let i = c.loop-taken.invariant in
+    let t = rw c.nodes-n.ensures at c.in-Some.ensures in
+    let looked = rw c.nodes-n.ensures at c.look-tally.ensures in
     let e = looked_searching from i.1 t looked in
     let u = looked_took from i.1 t looked in
-    let f = rw c.settle.ensures at c.open-len.ensures in (
+    let f = rw (c.settle.ensures, c.nodes-n.ensures) at c.open-len.ensures in (
       (frame_settled c.requires.accepted e.progress u (leads from) f).size ∙ (beside_old from i.1 t looked).size ∙ i.0,
       searching_opened from e u (looked_told from i.1 t looked) f,
     )

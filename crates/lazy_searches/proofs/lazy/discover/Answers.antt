@@ -7,18 +7,19 @@ pub returns-then-lockers-eq0 : goal.returns-then-lockers-eq0
 returns-then-lockers-eq0 c = discovered_none c.requires (sym c.lockers_at-lockers.ensures.0 ∙ c.if-lockers-eq0.true)
 
 pub visit-v-requires : goal.visit-v-requires
-visit-v-requires c = can_visit c.requires
+visit-v-requires c = rw c.nodes-n.ensures (can_visit c.requires)
 
 pub count_visited-requires : goal.count_visited-requires
-count_visited-requires c = can_count c.requires c.visit-v.ensures c.lockers_at-lockers.ensures.1
+count_visited-requires c = rw c.nodes-n.ensures (can_count c.requires (rw c.nodes-n.ensures at c.visit-v.ensures) c.lockers_at-lockers.ensures.1)
 
 pub clear-requires : goal.clear-requires
-clear-requires c = area_still c.requires c.visit-v.ensures c.count_visited.ensures
+clear-requires c = rw c.nodes-n.ensures (area_still c.requires (rw c.nodes-n.ensures at c.visit-v.ensures) (rw c.nodes-n.ensures at c.count_visited.ensures))
 
 pub returns-then-v : goal.returns-then-v
 returns-then-v c =
-    rw c.wide-at.ensures
-    (discovered_yes c.requires c.visit-v.ensures c.count_visited.ensures c.clear.ensures c.lockers_at-lockers.ensures c.if-lockers-eq0.false c.if-v.true)
+    rw c.nodes-n.ensures
+    (discovered_yes c.requires (rw c.nodes-n.ensures at c.visit-v.ensures) (rw c.nodes-n.ensures at c.count_visited.ensures) (rw c.nodes-n.ensures at c.clear.ensures) c.lockers_at-lockers.ensures c.if-lockers-eq0.false c.if-v.true)
 
 pub returns-else-v : goal.returns-else-v
-returns-else-v c = discovered_no c.requires c.visit-v.ensures c.count_visited.ensures c.clear.ensures c.lockers_at-lockers.ensures c.if-v.false
+returns-else-v c =
+    discovered_no c.requires (rw c.nodes-n.ensures at c.visit-v.ensures) (rw c.nodes-n.ensures at c.count_visited.ensures) (rw c.nodes-n.ensures at c.clear.ensures) c.lockers_at-lockers.ensures c.if-v.false

@@ -6,7 +6,7 @@ use Rattle.lazy_searches.proofs.lazy_ep.verify_point.Goals as goal
 pub returns-then-yes : goal.returns-then-yes
 returns-then-yes c =
     let p = c.requires in
-    rw c.wide-at.ensures (point_yes p.can_visit (omega (arith, p.starts_len_bound.0)) p.starts_len_bound.1 c.verify-yes.ensures c.if-yes.true)
+    point_yes p.can_visit (omega (arith, p.starts_len_bound.0)) p.starts_len_bound.1 c.verify-yes.ensures c.if-yes.true
 
 pub returns-else-yes : goal.returns-else-yes
 returns-else-yes c =

@@ -3,7 +3,10 @@ use Rattle.searches.proofs.LookLaws.{can_verify_all, looked}
 use Rattle.searches.proofs.look.look.Goals as goal
 
 pub verify_found-requires : goal.verify_found-requires
-verify_found-requires c = can_verify_all c.requires c.nodes-near.ensures
+verify_found-requires c = rw c.nodes-n.ensures (can_verify_all c.requires (rw c.nodes-n.ensures at c.nodes-near.ensures))
 
 pub returns : goal.returns
-returns c = looked c.requires c.nodes-near.ensures c.verify_found.ensures c.zero.ensures
+returns c =
+    rw c.nodes-n.ensures
+    (looked c.requires (rw c.nodes-n.ensures at c.nodes-near.ensures) (rw c.nodes-n.ensures at c.verify_found.ensures)
+    (rw c.nodes-n.ensures at (c.fill.ensures.after (λ y h. h))))

@@ -1,0 +1,2 @@
+-- What an answer of overlap.h is as a Result.
+pub mod Answers
