@@ -214,3 +214,21 @@ fn none_is_the_constant_of_the_header() {
     let line = format!("#define OVERLAP_NONE {}u\n", overlap::NONE);
     assert!(HEADER.contains(&line));
 }
+
+/// A caller without a C library brings memset, and nothing else.
+#[test]
+fn the_archive_needs_memset_alone() {
+    let archive = concat!(
+        env!("CARGO_MANIFEST_DIR"),
+        "/../target/staticlib/liboverlap.a"
+    );
+    let mut nm = std::process::Command::new("nm");
+    let output = nm.args(["-u", archive]).output().unwrap();
+    assert!(output.status.success());
+    let text = String::from_utf8(output.stdout).unwrap();
+    let needed: Vec<_> = text
+        .lines()
+        .filter_map(|line| line.trim().strip_prefix("U "))
+        .collect();
+    assert_eq!(needed, ["memset"]);
+}

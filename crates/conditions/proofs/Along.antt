@@ -1,7 +1,7 @@
 -- The conditions of a list of nodes, as a loop tries them: 7 node by node; of 14, whether two nodes have a road, and then road by road.
 -- Assumes nothing.
 use Prim.Native.Nat.{ℕ, suc, ◌+◌, ◌-◌, ◌≤◌, ◌<◌}
-use mathlib.Core.Path.{◌≡◌, refl, sym, ◌∙◌}
+use mathlib.Core.Path.{◌≡◌, refl, sym, ap, ◌∙◌}
 use mathlib.Core.Bool.{Bool, true, false, false≢true}
 use mathlib.Core.Logic.{◌≢◌}
 use mathlib.Core.List.{List, [], ◌∷◌, map}
@@ -15,6 +15,7 @@ use Rattle.std.proofs.Common.{Result, Ok, Err, is_ok}
 use Rattle.std.specs.Ordering.{nat_cmp}
 use Rattle.std.specs.List.Sorted.{IsBinarySearchResult}
 use Rattle.std.proofs.lemmas.List.{nil_from_length}
+use Rattle.std.proofs.lemmas.List.Sorted.{searched}
 use borrow.Author.Tests.{eq-eqb, ne_eqb}
 use Rattle.network.specs.Network.{Network, network, node_count, neighbours_of}
 use Rattle.network.specs.Accepted.{Accepted}
@@ -24,7 +25,7 @@ use Rattle.network.specs.Answers.{Ascending}
 use Rattle.network.specs.Routes.{has_road, breaks_from, bad_route, on_route}
 use Rattle.network.proofs.Routes.{on_place}
 use Rattle.network.proofs.Tests.{alike, one_any, none_any, any_passes}
-use Rattle.network.proofs.CheckTests.{rises, halved, halved_none}
+use Rattle.network.proofs.CheckTests.{rises, never_falls, halved}
 use Rattle.network.proofs.NumberZero.{accepted_searchable}
 use Rattle.conditions.specs.Conditions.{first_number, node_number, nodes_number}
 use Rattle.conditions.specs.Roads.{RisingPart, RisingParts}
@@ -88,11 +89,18 @@ pub road_halved : (g : Network) (a b : ℕ) (r : Result ℕ ℕ) → Ascending (
 unfolding has_road
 road_halved g a b (Ok i) up h =
     let f = halved up h in
-    sym (one_any (λ j. eqb (get_or (neighbours_of g a) j 0) b) (length (neighbours_of g a)) i f.0 (eq-eqb (get_or (neighbours_of g a) i 0) b f.1))
+    let xs = neighbours_of g a in
+    sym (eq-eqb (get_or xs i 0) b f.1)
+    ∙ road_told g a b i up (λ j l. omega (arith, f.1, rises xs up j i l f.0))
+    (λ j l m. elim (ℕ_discrete i j) [ yes e ↦ omega (arith, f.1, ap (λ (k : ℕ). get_or xs k 0) e) | no n ↦ omega (arith, f.1, rises xs up i j (omega arith) m) ])
+    f.0
 road_halved g a b (Err i) up h =
-    sym
-    (none_any (λ j. eqb (get_or (neighbours_of g a) j 0) b) (length (neighbours_of g a))
-    (λ j l. ne_eqb (get_or (neighbours_of g a) j 0) b (halved_none up h j l)))
+    let xs = neighbours_of g a in
+    let s = searched xs b (Err i) h (never_falls up) in
+    elim (dec_lt i (length xs)) [
+      | yes l ↦ sym (ne_eqb (get_or xs i 0) b (λ e. omega (arith, s.2 i (omega arith) l))) ∙ road_told g a b i up s.1 (λ j m l. omega (arith, s.2 j m l)) l
+      | no n ↦ road_past g a b i up s.1 (λ j m l. omega (arith, s.2 j m l)) (omega arith)
+    ]
 
 -- no road depends on a weight
 pub road_weights : (starts neighbours v w : List ℕ) (a b : ℕ) → has_road (network starts neighbours v) a b ≡ has_road (network starts neighbours w) a b

@@ -49,55 +49,76 @@ pub struct Listed {
     pub count: u32,
 }
 
-// The struct of a search's answer.
+// The struct of a search's answer, whatever number refuses it.
+pub fn listing_of(answer: Result<Listed, u32>) -> Listing
+    ensures { result ≡ listed_listing answer }
+{
+    match answer {
+        Ok(Listed { length, count }) => Listing {
+            number: 0,
+            count,
+            length,
+        },
+        Err(number) => Listing {
+            number,
+            count: 0,
+            length: 0,
+        },
+    }
+}
+
+// The struct of an answer yes or no: of verify or the table check.
+pub fn verdict_of(answer: Result<bool, u32>) -> Verdict
+    ensures { result ≡ rule_verdict answer }
+{
+    match answer {
+        Ok(yes) => Verdict {
+            number: 0,
+            yes: u32::from(yes),
+        },
+        Err(number) => Verdict { number, yes: 0 },
+    }
+}
+
+// The struct of an update's answer: how many rows an insert or a remove changed.
+pub fn update_of(answer: Result<u32, u32>) -> Update
+    ensures { result ≡ updated_update answer }
+{
+    match answer {
+        Ok(changed) => Update { number: 0, changed },
+        Err(number) => Update { number, changed: 0 },
+    }
+}
+
 impl From<Result<Listed, Refusal>> for Listing {
     ghost from_gives = { λ answer listing. listing ≡ listed_listing (numbered answer) };
 
     fn from(answer: Result<Listed, Refusal>) -> Listing {
         match answer {
-            Ok(Listed { length, count }) => Listing {
-                number: 0,
-                count,
-                length,
-            },
-            Err(refusal) => Listing {
-                number: refusal.into(),
-                count: 0,
-                length: 0,
-            },
+            Ok(found) => listing_of(Ok(found)),
+            Err(refusal) => listing_of(Err(refusal.into())),
         }
     }
 }
 
-// The struct of an answer yes or no: of verify or the table check.
 impl From<Result<bool, Refusal>> for Verdict {
     ghost from_gives = { λ answer verdict. verdict ≡ rule_verdict (numbered answer) };
 
     fn from(answer: Result<bool, Refusal>) -> Verdict {
         match answer {
-            Ok(yes) => Verdict {
-                number: 0,
-                yes: u32::from(yes),
-            },
-            Err(refusal) => Verdict {
-                number: refusal.into(),
-                yes: 0,
-            },
+            Ok(yes) => verdict_of(Ok(yes)),
+            Err(refusal) => verdict_of(Err(refusal.into())),
         }
     }
 }
 
-// The struct of an update's answer: how many rows an insert or a remove changed.
 impl From<Result<u32, Refusal>> for Update {
     ghost from_gives = { λ answer update. update ≡ updated_update (numbered answer) };
 
     fn from(answer: Result<u32, Refusal>) -> Update {
         match answer {
-            Ok(changed) => Update { number: 0, changed },
-            Err(refusal) => Update {
-                number: refusal.into(),
-                changed: 0,
-            },
+            Ok(changed) => update_of(Ok(changed)),
+            Err(refusal) => update_of(Err(refusal.into())),
         }
     }
 }

@@ -224,11 +224,11 @@ module _ {g : Network} (ok : Accepted g) {P : List ℕ} {s e k b found tally : �
       frame : Kept xs ws b
       frame = frame_settled ok p t (all_leads ok s) f
 
-      noted_size : b ≤ length ws
+      pub noted_size : b ≤ length ws
       noted_size = omega (arith, p.area.queue.room, frame.size)
 
       -- a word is left for it
-      noted_place : found < b
+      pub noted_place : found < b
       noted_place = omega (arith, w.few, place, many, took_place ok p t, few)
 
       pub noted_fits : found < length ws

@@ -317,7 +317,7 @@ module _ {n : ℕ} {xs : List ℕ} {b at len : ℕ} (q : NodeQueue n xs b at len
 
   -- the node waits as entry i
   module _ (i : ℕ) (w : get_or xs (b + node_of key) 0 ≡ suc i) (low : i < n) (inside : node_of key < n) where
-    waits_here : (i < len) × (node_at (drop at xs) i ≡ node_of key)
+    pub waits_here : (i < len) × (node_at (drop at xs) i ≡ node_of key)
     waits_here = q.waits (node_of key) i inside w low
 
     pub can_lower : key < key_at (drop at xs) i → CanLower (drop at xs) len i key

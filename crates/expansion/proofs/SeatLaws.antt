@@ -1,19 +1,23 @@
 -- Laws of the seats: an entry is stored with its node's seat, a hole moves, a hole is filled.
 -- Assumes nothing.
-use Prim.Native.Nat.{ℕ, suc, ◌+◌, ◌<◌}
+use Prim.Native.Nat.{ℕ, suc, ◌+◌, ◌/◌, ◌<◌}
 use mathlib.Core.Path.{◌≡◌, sym, ap, ◌∙◌}
 use mathlib.Core.Logic.{◌≢◌}
 use mathlib.Core.List.{List}
 use native.Mathlib.Decide.{ℕ_discrete}
 use native.Mathlib.Omega.{arith}
 use lib.ListN.{get_or, drop}
-use Rattle.expansion.specs.Queue.{key_at, Hole, AtLeastParent, AtMostChildren}
+use Rattle.expansion.specs.Queue.{key_of, key_at, Hole, AtLeastParent, AtMostChildren}
 use Rattle.expansion.specs.Tags.{node_of}
 use Rattle.expansion.proofs.QueueLaws.{filled_here, filled_moved}
 use Rattle.expansion.specs.NodeQueue.{node_at, PutAt, Vacated, Seats, FilledAt}
 
 pub vacated_same : {xs ys : List ℕ} {b at i v u : ℕ} → v ≡ u → Vacated xs ys b at i v → Vacated xs ys b at i u
 vacated_same e p = rw e at p
+
+-- the node of a key whose tag fits
+pub node_of_lem : (d t : ℕ) → t < 4294967296 → node_of (key_of d t) ≡ t / 65536
+node_of_lem d t h = omega arith
 
 -- ---- A hole moves: entry c is copied into it, and c is the hole.
 module _ (xs ys : List ℕ) (b at len hole c key : ℕ) (s : Seats xs b at len hole key) (in_hole : hole < len) (in_c : c < len) (apart : c ≢ hole) (p : PutAt xs ys b at hole (key_at (drop at xs) c)) where

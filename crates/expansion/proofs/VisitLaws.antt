@@ -82,7 +82,7 @@ on_site g P p S k e = rw e
 -- ---- The nodes of the site.
 
 -- what the code tests is whether a node is one of them
-site_member : (g : Network) (xs : List ℕ) (site : Site) (v : ℕ) → v < node_count g → is_site xs site v ≡ on_route (nodes_of_site (node_count g) xs site) v
+pub site_member : (g : Network) (xs : List ℕ) (site : Site) (v : ℕ) → v < node_count g → is_site xs site v ≡ on_route (nodes_of_site (node_count g) xs site) v
 unfolding on_route stops_in
 site_member g xs (One q) v h = sym (or_none (eqb v q))
   where
@@ -95,7 +95,7 @@ site_member g xs Stops v h = sym (on_selected (is_stop xs) (node_count g) v ∙ 
 pub stop_same : (xs ys : List ℕ) (v : ℕ) → get_or ys v 0 ≡ get_or xs v 0 → is_stop ys v ≡ is_stop xs v
 stop_same xs ys v e = ap (λ (w : ℕ). eqb w 2) e
 
-site_kept : {n b : ℕ} {xs ys : List ℕ} (site : Site) (v : ℕ) → SiteInside n b site → v < n → Kept xs ys b → is_site ys site v ≡ is_site xs site v
+pub site_kept : {n b : ℕ} {xs ys : List ℕ} (site : Site) (v : ℕ) → SiteInside n b site → v < n → Kept xs ys b → is_site ys site v ≡ is_site xs site v
 site_kept (One q) v i h k = refl
 site_kept {xs = xs} {ys = ys} Stops v i h k = stop_same xs ys v (k.words v (omega arith))
 
@@ -104,10 +104,17 @@ unfolding stops_in
 stops_same n xs ys same = select_same (is_stop ys) (is_stop xs) n same
 
 -- the rule with their distance is what verify answers
-site_answer : {g : Network} → Accepted g → (P xs : List ℕ) (p : ℕ) (site : Site) (k : ℕ)
+site_verified : {g : Network} → Accepted g → (P xs : List ℕ) (p : ℕ) (site : Site) (k : ℕ)
     → verified_from g P p (nodes_of_site (node_count g) xs site) k ≡ verified_at g P xs p site k
-site_answer ok P xs p (One q) k = verified_one ok P p q k
-site_answer ok P xs p Stops k = refl
+site_verified ok P xs p (One q) k = verified_one ok P p q k
+site_verified ok P xs p Stops k = refl
+
+-- the same of the nodes as they are after words that keep those before the area
+pub site_answer : {g : Network} → Accepted g → (P : List ℕ) (p : ℕ) (site : Site) (k : ℕ) {b : ℕ} {xs ys : List ℕ} → SiteInside (node_count g) b site → Kept xs ys b
+    → verified_from g P p (nodes_of_site (node_count g) ys site) k ≡ verified_at g P xs p site k
+site_answer {g} ok P p (One q) k {xs = xs} i h = site_verified ok P xs p (One q) k
+site_answer {g} ok P p Stops k {xs = xs} {ys = ys} i h =
+    ap (λ (S : List ℕ). verified_from g P p S k) (stops_same (node_count g) xs ys (λ v l. site_kept Stops v i l h)) ∙ site_verified ok P xs p Stops k
 
 -- whether the code says that a node is one of the site's
 told : (g : Network) (site : Site) (v : ℕ) {b : ℕ} {xs ys : List ℕ} {here : Bool} → SiteInside (node_count g) b site → v < node_count g → Kept xs ys b → here ≡ is_site ys site v
@@ -197,7 +204,7 @@ module _ {g : Network} (ok : Accepted g) {p : ℕ} {xs ys : List ℕ} {b settled
       (λ a. absurd (omega (arith, a.low, took_least ok e.area e.searched t a.node a.label a.held)))
       (frontier ok (all_leads ok p) (search_took ok e.area e.searched t) x tt (λ z. omega (arith, taken_small)))
 
-  labels_exact : (x m : ℕ) → LabelAt (node_count g) ys b x m → m ≡ dist g p x
+  pub labels_exact : (x m : ℕ) → LabelAt (node_count g) ys b x m → m ≡ dist g p x
   labels_exact x m h = e.searched.exact x m (label_back (took_moved ok e.area e.searched t) x m h) tt
 
   module _ {P S : List ℕ} {at below level : ℕ} (c : Counted g P p S xs b at below level) where
@@ -264,14 +271,14 @@ module _ {g : Network} (ok : Accepted g) {p : ℕ} {xs ys : List ℕ} {b settled
 
   -- the tally when the expansion has come to l
   module _ {P S : List ℕ} {y z : Tally} (c : Counted g P p S xs b y.label y.below y.level) (r : CameTo y l z) where
-    came_label : z.label ≡ l
+    pub came_label : z.label ≡ l
     came_label =
         elim (dec_lt y.label l) [
           | yes h ↦ r.label h
           | no n ↦ let q : l ≡ y.label = omega (arith, taken_high c) in rw (r.same (omega arith)) (sym q)
         ]
 
-    came : Counted g P p S ys b l z.below z.level
+    pub came : Counted g P p S ys b l z.below z.level
     came =
         elim (dec_lt y.label l) [
           | yes h ↦ rw (r.below h, r.level h) (risen c h)
@@ -306,7 +313,7 @@ module _ {g : Network} (ok : Accepted g) {p : ℕ} {xs ys : List ℕ} {b settled
         let is : weighed (at_level (node_count g) ws b l v) (others_at P p v) ≡ others_at P p v = rw (eq-eqb (get_or ws (b + v) 0) (suc (node_count g + l)) word_v) in
         omega (arith, z, was, is, c.here)
 
-    counted_settled : Counted g P p S ws b l below (level + others_at P p v)
+    pub counted_settled : Counted g P p S ws b l below (level + others_at P p v)
     counted_settled =
         record {
           before =
@@ -361,7 +368,7 @@ module _ {g : Network} (ok : Accepted g) {p : ℕ} {xs ys : List ℕ} {b settled
         let d = site_taken m in
         few_enough g P p S k (off_site low) (λ z. omega (arith, taken_small)) (omega (arith, c.nearer, ap (others_nearer g P p) d))
 
-    answer_taken : 0 < l → (k ≤ below) ⊎ Memᴰ v S → ltb below k ≡ verified_from g P p S k
+    pub answer_taken : 0 < l → (k ≤ below) ⊎ Memᴰ v S → ltb below k ≡ verified_from g P p S k
     answer_taken low known =
         elim (dec_lt below k) [
           | yes h ↦ lt-ltb below k h ∙ ⊎_elim (λ y. absurd (omega arith)) (λ y. answer_few low y h) known
@@ -369,7 +376,7 @@ module _ {g : Network} (ok : Accepted g) {p : ℕ} {xs ys : List ℕ} {b settled
         ]
 
     -- the first node, p itself, ends it
-    answer_first : l ≡ 0 → (k ≤ below) ⊎ Memᴰ v S → false ≡ verified_from g P p S k
+    pub answer_first : l ≡ 0 → (k ≤ below) ⊎ Memᴰ v S → false ≡ verified_from g P p S k
     answer_first z known =
         ⊎_elim
         answer_many
@@ -401,7 +408,7 @@ module _ {g : Network} (ok : Accepted g) {p : ℕ} {xs ys : List ℕ} {b settled
           answer =
               is
               ∙ answer_at k (came c r) (⊎_elim (λ h. inl h) (λ h. inr ((on_member (nodes_of_site (node_count g) ws site) v).0 (sym on ∙ h))) known)
-              ∙ site_answer ok P ws p site k;
+              ∙ site_verified ok P ws p site k;
           frame = frame;
           area = took_area ok e.area e.searched t;
           exact = labels_exact;
@@ -416,7 +423,7 @@ module _ {g : Network} (ok : Accepted g) {p : ℕ} {xs ys : List ℕ} {b settled
         (counted_settled (λ m. true≢false (sym ((on_member (nodes_of_site (node_count g) ws site) v).1 m) ∙ sym on ∙ off)) (came c r) f)
 
 -- no entry is left: the site can't be reached
-answer_none : {g : Network} (ok : Accepted g) {P : List ℕ} {p : ℕ} {S xs : List ℕ} {b settled len l below level : ℕ} (k : ℕ)
+pub answer_none : {g : Network} (ok : Accepted g) {P : List ℕ} {p : ℕ} {S xs : List ℕ} {b settled len l below level : ℕ} (k : ℕ)
     → Progress g (one g p) All All xs b settled len → len ≡ 0 → Counted g P p S xs b l below level → false ≡ verified_from g P p S k
 answer_none {g} ok {P} {p} {S} k e t c =
     not_reached g P p S k
@@ -433,7 +440,7 @@ pub visit_none : {g : Network} (ok : Accepted g) {P : List ℕ} {p : ℕ} {site 
     → Visited g P p site k ws xs b (record { yes = false; settled = settled; len = 0 })
 visit_none ok {P} {p} {site} {ws} k kept e c none =
     record {
-      answer = answer_none ok k e none c ∙ site_answer ok P ws p site k;
+      answer = answer_none ok k e none c ∙ site_verified ok P ws p site k;
       frame = kept;
       area = rw none at e.area;
       exact = λ v m h. e.searched.exact v m h tt;

@@ -184,7 +184,7 @@ module _ {g : Network} {P : List ℕ} {node e k : ℕ} {xs₀ xs : List ℕ} {r 
 
     -- the area is cleared, and the first k words
     module _ {zs us : List ℕ} (c : Wiped ys zs (3 * k)) (q : us ≡ replicate (length (take k zs)) 0) where
-      first_fits : k ≤ length zs
+      pub first_fits : k ≤ length zs
       first_fits = omega (arith, c.frame.size, w.size, f.area.queue.room)
 
       same : length us ≡ length (take k zs)

@@ -8,5 +8,8 @@ pub fn copy(from: &[u32], at: usize, count: usize, answers: &mut [u32])
     requires { (at + count ≤ length from.now) × (count ≤ length answers.old) }
     ensures { answers.new ≡ answered (tabulate (λ i. get_or from.now (at + i) 0) count) answers.old }
 {
-    answers[..count].copy_from_slice(&from[at..at + count]);
+    // Not copy_from_slice: an archive for C would need memmove from outside.
+    for i in 0..count {
+        answers[i] = from[at + i];
+    }
 }

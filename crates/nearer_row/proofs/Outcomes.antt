@@ -28,19 +28,19 @@ network_passed g e = let a = (number_zero g).0 (sym e) in (sym e, omega (arith, 
 
 module _ (K i : ℕ) (own rival : List ℕ) where
   -- the clauses of `nearer_row` and of `nearer_part`: the own row is nearer or as near; the rival's is nearer
-  row_own : own_nearer K i own rival ≡ true → nearer_row K i own rival ≡ row_entries K i own
+  pub row_own : own_nearer K i own rival ≡ true → nearer_row K i own rival ≡ row_entries K i own
   unfolding nearer_row
   row_own e = rw e
 
-  row_rival : own_nearer K i own rival ≡ false → nearer_row K i own rival ≡ row_entries K i rival
+  pub row_rival : own_nearer K i own rival ≡ false → nearer_row K i own rival ≡ row_entries K i rival
   unfolding nearer_row
   row_rival e = rw e
 
-  part_own : own_nearer K i own rival ≡ true → nearer_part K i own rival ≡ record { number = 0; rival = 0; start = i * K; length = K }
+  pub part_own : own_nearer K i own rival ≡ true → nearer_part K i own rival ≡ record { number = 0; rival = 0; start = i * K; length = K }
   unfolding nearer_part
   part_own e = rw e
 
-  part_rival : own_nearer K i own rival ≡ false → nearer_part K i own rival ≡ record { number = 0; rival = 1; start = i * K; length = K }
+  pub part_rival : own_nearer K i own rival ≡ false → nearer_part K i own rival ≡ record { number = 0; rival = 1; start = i * K; length = K }
   unfolding nearer_part
   part_rival e = rw e
 

@@ -30,6 +30,22 @@ fn part_of<'a>(starts: &[u32], entries: &'a [u32], i: usize) -> &'a [u32]
     &entries[starts[i] as usize..starts[i + 1] as usize]
 }
 
+// The neighbours of node i: of the three arrays only theirs need outlive the part.
+pub fn neighbours_of<'a>(starts: &[u32], neighbours: &'a [u32], i: usize) -> &'a [u32]
+    requires { HasPart starts.now neighbours.now i }
+    ensures { result.now ≡ part_of starts.now neighbours.now i }
+{
+    part_of(starts, neighbours, i)
+}
+
+// The weights of node i's arcs, in the order of its neighbours: of the three arrays only theirs need outlive the part.
+pub fn weights_of<'a>(starts: &[u32], weights: &'a [u32], i: usize) -> &'a [u32]
+    requires { HasPart starts.now weights.now i }
+    ensures { result.now ≡ part_of starts.now weights.now i }
+{
+    part_of(starts, weights, i)
+}
+
 impl<'a> Network<'a> {
     pub fn new(starts: &'a [u32], neighbours: &'a [u32], weights: &'a [u32]) -> Self
         ensures { result ≡ network starts.now neighbours.now weights.now }
@@ -61,7 +77,7 @@ impl<'a> Network<'a> {
         requires { HasPart self.now.starts self.now.neighbours i }
         ensures { result.now ≡ neighbours_of self.now i }
     {
-        part_of(self.starts, self.neighbours, i)
+        neighbours_of(self.starts, self.neighbours, i)
     }
 
     // The weights of node i's arcs, in the order of its neighbours.
@@ -69,7 +85,7 @@ impl<'a> Network<'a> {
         requires { HasPart self.now.starts self.now.weights i }
         ensures { result.now ≡ weights_of self.now i }
     {
-        part_of(self.starts, self.weights, i)
+        weights_of(self.starts, self.weights, i)
     }
 
     // Whether node b has an arc to node a of weight w. Costs the logarithm of b's number of arcs.

@@ -4,7 +4,7 @@
 #![tactic(auto)]
 
 use answers::{Changed, Eager, List, NearestList, Refused, Search, Side, YesNo, accepted};
-use overlap::Listing;
+use overlap::{Listing, RowPart};
 use table_rows::Table;
 
 pub mod answers;
@@ -248,7 +248,14 @@ pub fn route(route: &[u32], k: u32) -> Result<List, Refused> {
     })
 }
 
-pub fn table_query<const N: usize>(q: u32, k: u32, table: &Table<N>) -> Result<List, Refused> {
+// By a table in arrays of any length; `table_query` is lent one that has both of a length.
+pub fn table_query_of(
+    q: u32,
+    k: u32,
+    places: u32,
+    ids: &[u32],
+    distances: &[u32],
+) -> Result<List, Refused> {
     listed(|scratch, answers| {
         overlap::overlap_table_query(
             &STARTS,
@@ -257,18 +264,26 @@ pub fn table_query<const N: usize>(q: u32, k: u32, table: &Table<N>) -> Result<L
             &POINTS,
             q,
             k,
-            table.places,
-            &table.ids,
-            &table.distances,
+            places,
+            ids,
+            distances,
             scratch,
             answers,
         )
     })
 }
 
-// The table of the points with K = places, where N = 6 × K.
-pub fn build<const N: usize>(points: &[u8; NODES], places: u32) -> Result<Table<N>, Refused> {
-    let mut table = Table::new(places);
+pub fn table_query<const N: usize>(q: u32, k: u32, table: &Table<N>) -> Result<List, Refused> {
+    table_query_of(q, k, table.places, &table.ids, &table.distances)
+}
+
+// Into arrays of any length.
+pub fn build_of(
+    points: &[u8; NODES],
+    places: u32,
+    ids: &mut [u32],
+    distances: &mut [u32],
+) -> Result<(), Refused> {
     accepted(overlap::overlap_build(
         &STARTS,
         &NEIGHBOURS,
@@ -276,13 +291,20 @@ pub fn build<const N: usize>(points: &[u8; NODES], places: u32) -> Result<Table<
         points,
         places,
         &mut [0; SCRATCH],
-        &mut table.ids,
-        &mut table.distances,
-    ))?;
+        ids,
+        distances,
+    ))
+}
+
+// The table of the points with K = places, where N = 6 × K.
+pub fn build<const N: usize>(points: &[u8; NODES], places: u32) -> Result<Table<N>, Refused> {
+    let mut table = Table::new(places);
+    build_of(points, places, &mut table.ids, &mut table.distances)?;
     Ok(table)
 }
 
-// Insert and remove stand apart, and so do the three calls of the nearer row: one function that takes the call would write out its nine types.
+// Insert and remove stand apart, and so do the three calls of the nearer row: one function that takes the call would write out its nine types. `build_of`,
+// `table_query_of`, `nearer_row_of`, `check_nearer_row_of` and `nearer_row_part` take a table as two slices, of any lengths.
 pub fn insert(
     points: &mut [u8; NODES],
     node: u32,
@@ -331,12 +353,31 @@ pub fn table_check(points: &[u8; NODES], table: &Table<12>) -> Result<YesNo, Ref
     ))
 }
 
-// Of two tables with K = 2, the row whose first entry is nearer.
-pub fn nearer_row<'a>(junction: u32, own: &'a Table<12>, rival: &'a Table<12>) -> &'a [u32] {
+// Of two tables in arrays of any length, the row whose first entry is nearer.
+pub fn nearer_row_of<'a>(
+    junction: u32,
+    places: u32,
+    own_ids: &[u32],
+    own_distances: &'a [u32],
+    rival_ids: &[u32],
+    rival_distances: &'a [u32],
+) -> &'a [u32] {
     overlap::overlap_nearer_row(
         &STARTS,
         &NEIGHBOURS,
         &WEIGHTS,
+        junction,
+        places,
+        own_ids,
+        own_distances,
+        rival_ids,
+        rival_distances,
+    )
+}
+
+// Of two tables with K = 2.
+pub fn nearer_row<'a>(junction: u32, own: &'a Table<12>, rival: &'a Table<12>) -> &'a [u32] {
+    nearer_row_of(
         junction,
         own.places,
         &own.ids,
@@ -347,26 +388,63 @@ pub fn nearer_row<'a>(junction: u32, own: &'a Table<12>, rival: &'a Table<12>) -
 }
 
 // Whether that call is refused.
-pub fn check_nearer_row(junction: u32, own: &Table<12>, rival: &Table<12>) -> Result<(), Refused> {
+pub fn check_nearer_row_of(
+    junction: u32,
+    places: u32,
+    own_ids: &[u32],
+    own_distances: &[u32],
+    rival_ids: &[u32],
+    rival_distances: &[u32],
+) -> Result<(), Refused> {
     accepted(overlap::overlap_nearer_row_number(
         &STARTS,
         &NEIGHBOURS,
         &WEIGHTS,
+        junction,
+        places,
+        own_ids,
+        own_distances,
+        rival_ids,
+        rival_distances,
+    ))
+}
+
+pub fn check_nearer_row(junction: u32, own: &Table<12>, rival: &Table<12>) -> Result<(), Refused> {
+    check_nearer_row_of(
         junction,
         own.places,
         &own.ids,
         &own.distances,
         &rival.ids,
         &rival.distances,
-    ))
+    )
 }
 
-// Whose row it is, by overlap.h's struct.
-pub fn nearer_side(junction: u32, own: &Table<12>, rival: &Table<12>) -> Result<Side, Refused> {
-    Side::try_from(overlap::overlap_nearer_row_part(
+// Which part of which array it is: overlap.h's struct.
+pub fn nearer_row_part(
+    junction: u32,
+    places: u32,
+    own_ids: &[u32],
+    own_distances: &[u32],
+    rival_ids: &[u32],
+    rival_distances: &[u32],
+) -> RowPart {
+    overlap::overlap_nearer_row_part(
         &STARTS,
         &NEIGHBOURS,
         &WEIGHTS,
+        junction,
+        places,
+        own_ids,
+        own_distances,
+        rival_ids,
+        rival_distances,
+    )
+}
+
+// Whose row it is.
+pub fn nearer_side(junction: u32, own: &Table<12>, rival: &Table<12>) -> Result<Side, Refused> {
+    Side::try_from(nearer_row_part(
         junction,
         own.places,
         &own.ids,

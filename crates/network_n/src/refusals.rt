@@ -53,16 +53,7 @@ pub fn show_arguments(rt: &impl Print) -> io::Result<()> {
 
 // 8: a table array that is not n × K long.
 fn short_ids() -> Result<(), Refused> {
-    accepted(overlap::overlap_build(
-        &STARTS,
-        &NEIGHBOURS,
-        &WEIGHTS,
-        &POINTS,
-        2,
-        &mut [0; SCRATCH],
-        &mut [0; 11],
-        &mut [0; 12],
-    ))
+    crate::build_of(&POINTS, 2, &mut [0; 11], &mut [0; 12])
 }
 
 // 10: an array for answers that is shorter than n.

@@ -38,7 +38,7 @@ row_at K i j xs = mid_at (i * K) K xs j
 
 -- ---- One word.
 module _ {g : Network} {P dists : List ℕ} {q k K : ℕ} {xs : List ℕ} (c : CanVerifyWord g P dists q k K xs) where
-  grown_none : Grown g P xs xs
+  pub grown_none : Grown g P xs xs
   grown_none = record { size = refl; words = λ i h. refl; only = c.front.only; grows = λ x h n. n }
 
   -- it is no point
@@ -58,7 +58,7 @@ module _ {g : Network} {P dists : List ℕ} {q k K : ℕ} {xs : List ℕ} (c : C
     verified_seen s = record { grown = grown_none; right = λ e u f. record { flags = f; told = f.once p inside s } }
 
     -- its row
-    row_inside : p * K + K ≤ length dists
+    pub row_inside : p * K + K ≤ length dists
     row_inside = omega (arith, row_fits p (node_count g) K inside, c.asked.sized)
 
     module _ {row : List ℕ} (is : row ≡ row_entries K p dists) where
@@ -131,7 +131,7 @@ module _ {g : Network} {P dists : List ℕ} {q k K : ℕ} {xs : List ℕ} (c : C
             }
 
       module _ {row : List ℕ} (is : row ≡ row_entries K p dists) {zs : List ℕ} {yes? : Bool} (d : Decided g P (behind row) p q k sum (set xs p 1) zs yes?) where
-        decided_size : length zs ≡ length xs
+        pub decided_size : length zs ≡ length xs
         decided_size = d.area.frame.size ∙ length-set xs p 1
 
         word : (i : ℕ) → i ≢ p → get_or zs i 0 ≡ get_or xs i 0

@@ -1,17 +1,17 @@
 -- The nodes of a route are put in, one after the other: each has its mark and waits at label 0, once.
 -- Assumes nothing.
-use Prim.Native.Nat.{ℕ, zero, suc, ◌+◌, ◌<◌}
+use Prim.Native.Nat.{ℕ, zero, suc, ◌+◌, ◌*◌, ◌≤◌, ◌<◌}
 use mathlib.Core.Path.{◌≡◌, refl, sym, ap, ◌∙◌}
 use mathlib.Core.Bool.{Bool, true, false, not, ◌||◌}
 use mathlib.Core.Logic.{◌≢◌, inl, ⊎_elim}
 use mathlib.Core.List.{List, [], ◌∷◌}
-use native.Mathlib.Decide.{ℕ_discrete}
+use native.Mathlib.Decide.{ℕ_discrete, dec_le}
 use native.Mathlib.Omega.{arith}
 use native.Mathlib.Numerals.{add-one}
 use lib.Dec.{eqb}
 use lib.ListN.{length, get_or, set, take, length-set}
 use lib.Seq.{get_or-set_same, get_or-set_other}
-use borrow.Author.Tests.{eq-eqb, ne_eqb, eqb-true, not-false}
+use borrow.Author.Tests.{eq-eqb, ne_eqb, eqb-true, eqb-false, not-true, not-false}
 use Rattle.network.specs.Routes.{on_route}
 use Rattle.network.proofs.Routes.{on_place}
 use Rattle.network.proofs.Tests.{bool_cases}
@@ -82,6 +82,25 @@ module _ (i : ℕ) {n : ℕ} {R xs ys : List ℕ} {b len : ℕ} (c : CanStartRou
       (λ e. e)
       (λ e. absurd (m (s.marks x inside ∙ ap stop_word e)))
       (bool_cases (on_route (take i R) x))
+
+  -- a mark is that of an entry
+  pub mark_most : get_or ys x 0 ≤ 2 * len
+  mark_most =
+      ⊎_elim
+      (λ e. let seat = on_waits e in omega (arith, s.marks x inside, ap stop_word e, entry (get_or ys (b + x) 0) refl seat))
+      (λ e. omega (arith, s.marks x inside, ap stop_word e))
+      (bool_cases (on_route (take i R) x))
+    where
+      on_waits : on_route (take i R) x ≡ true → get_or ys (b + x) 0 ≢ 0
+      on_waits e = eqb-false (get_or ys (b + x) 0) 0 (not-true (eqb (get_or ys (b + x) 0) 0) (s.waits x inside ∙ e))
+
+      entry : (w : ℕ) → get_or ys (b + x) 0 ≡ w → get_or ys (b + x) 0 ≢ 0 → 1 ≤ len
+      entry zero e m = absurd (m e)
+      entry (suc j) e m =
+          elim (dec_le (get_or ys (b + x) 0) n) [
+            | yes l ↦ omega (arith, (s.area.queue.waits x j inside e (omega arith)).0)
+            | no l ↦ absurd (omega (arith, (s.area.labelled x inside (omega arith)).low))
+          ]
 
   -- it was put in before
   pub started_again : get_or ys x 0 ≢ 0 → RouteStarted n (take (i + 1) R) xs ys b len

@@ -19,7 +19,8 @@ fn start(route: &[u32], s: &mut [u32], b: usize, n: usize) -> usize
     let mut len = 0;
     for &node in route {
         let at = node as usize;
-        if s[at] == 0 {
+        let mark = s[at];
+        if mark == 0 {
             s[at] = STOP;
             let tag = tags::tag_of(node, node);
             node_queue::push(s, b, n, len, 0, tag);

@@ -16,7 +16,7 @@ use Rattle.network.specs.Count.{count, bit}
 use Rattle.network.specs.Points.{lockers}
 use Rattle.network.specs.Nearest.{key}
 use Rattle.network.specs.Rows.{row_entries}
-use Rattle.network.proofs.Tests.{and_intro}
+use Rattle.network.proofs.Tests.{and_intro, and_right}
 use Rattle.network.proofs.Ranges.{arc_at}
 use Rattle.network.proofs.NumberZero.{accepted_ranges}
 use Rattle.rows.specs.Flat.{place}
@@ -29,9 +29,17 @@ module _ (xs ys : List ℕ) (p d j : ℕ) where
   unfolding is_entry
   entry_yes e f = and_intro (eqb (get_or xs j 0) p) _ (eq-eqb (get_or xs j 0) p e) (eq-eqb (get_or ys j 0) d f)
 
+  pub entry_far : get_or ys j 0 ≢ d → is_entry xs ys p d j ≡ false
+  unfolding is_entry
+  entry_far n = and_right (eqb (get_or xs j 0) p) _ (ne_eqb (get_or ys j 0) d n)
+
   pub within_yes : get_or xs j 0 ≡ p → get_or ys j 0 ≤ d → is_within xs ys p d j ≡ true
   unfolding is_within
   within_yes e h = and_intro (eqb (get_or xs j 0) p) _ (eq-eqb (get_or xs j 0) p e) (le-leb (get_or ys j 0) d h)
+
+  pub within_far : d < get_or ys j 0 → is_within xs ys p d j ≡ false
+  unfolding is_within
+  within_far h = and_right (eqb (get_or xs j 0) p) _ (lt-leb (get_or ys j 0) d h)
 
 -- what asks for a place
 module _ (xs ys : List ℕ) (p d : ℕ) where

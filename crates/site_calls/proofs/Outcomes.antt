@@ -14,6 +14,7 @@ use Rattle.network.specs.Answers.{answered}
 use Rattle.network.specs.Nearest.{nearest}
 use Rattle.network.specs.Points.{verified, listed, expanded, short_k, exceeds_limit}
 use Rattle.network.specs.Visits.{visits}
+use Rattle.expansion.specs.Area.{Wiped}
 use Rattle.searches.specs.declared.eager.LimitedList.{LimitedList}
 use Rattle.searches.specs.Eager.{LimitedLeft, VisitsLeft}
 use Rattle.conditions.specs.declared.answers.Listing.{Listing}
@@ -109,10 +110,11 @@ module _ (g : Network) (P : List ℕ) (q k limit : ℕ) (scratch answers : List 
   limited_beyond {number} e z l h = rw (eq-eqb number 0 e, lt-ltb limit (expanded g P q k) l, z, h)
 
   -- what the search leaves is the outcome of number 0, whatever its answer
-  limited_outcome_lem : {number : ℕ} (xs : List ℕ) {s new : List ℕ} (a : Option LimitedList) → number ≡ 0 → length xs ≡ length scratch → LimitedLeft g P q k limit xs s answers new a
+  pub limited_outcome_lem : {number : ℕ} {xs s new : List ℕ} (a : Option LimitedList) → number ≡ 0 → LimitedLeft g P q k limit xs s answers new a
+      → (Wiped xs s 0 → s ≡ replicate (length scratch) 0)
       → ◌≡◌ {A = SearchOutcome} (record { answer = limited_listed a; scratch = s; answers = new }) (limited_outcome number g P q k limit scratch answers)
-  limited_outcome_lem xs None e l h = limited_beyond e (all_zero (length scratch) l h.area) h.beyond h.answers
-  limited_outcome_lem xs (Some c) e l h = limited_done e (all_zero (length scratch) l h.area) h.within h.sized h.counted h.answers
+  limited_outcome_lem None e h z = limited_beyond e (z h.area) h.beyond h.answers
+  limited_outcome_lem (Some c) e h z = limited_done e (z h.area) h.within h.sized h.counted h.answers
 
 -- the visits of eager
 module _ (g : Network) (P : List ℕ) (q k limit : ℕ) (steps : List ℕ) where
@@ -128,7 +130,7 @@ module _ (g : Network) (P : List ℕ) (q k limit : ℕ) (steps : List ℕ) where
   unfolding visits_outcome limit_number exceeds_limit
   visits_beyond {number} e l = rw (eq-eqb number 0 e, lt-ltb limit (expanded g P q k) l)
 
-  visits_outcome_lem : {number : ℕ} (xs s old new left : List ℕ) (a : Option LimitedList) → number ≡ 0 → LimitedLeft g P q k limit xs s old new a
+  pub visits_outcome_lem : {number : ℕ} (xs s old new left : List ℕ) (a : Option LimitedList) → number ≡ 0 → LimitedLeft g P q k limit xs s old new a
       → VisitsLeft g P q k steps left a → left ≡ visits_outcome number g P q k limit steps
   visits_outcome_lem xs s old new left None e h v = v ∙ visits_beyond e h.beyond
   visits_outcome_lem xs s old new left (Some c) e h v = v ∙ visits_done e h.within
@@ -150,7 +152,7 @@ module _ (g : Network) (P : List ℕ) (q k limit : ℕ) (scratch answers steps :
       (eager_outcome g P q k limit scratch answers steps)
   unfolding eager_outcome
   eager_left xs {s} {new} {left} a e l h v =
-      let b = limited_outcome_lem g P q k limit scratch answers xs a e l h in
+      let b = limited_outcome_lem g P q k limit scratch answers a e h (all_zero (length scratch) l) in
       let d = visits_outcome_lem g P q k limit steps xs s answers new left a e h v in
       λ i. record { search = b i; visits = d i }
 
@@ -165,7 +167,7 @@ module _ (g : Network) (P : List ℕ) (q : ℕ) (scratch answers : List ℕ) whe
       → LimitedLeft g P q short_k 65535 xs s answers new a
       → ◌≡◌ {A = SearchOutcome} (record { answer = limited_listed a; scratch = s; answers = new }) (short_outcome g P q scratch answers)
   unfolding short_outcome
-  short_left xs a e l h = limited_outcome_lem g P q short_k 65535 scratch answers xs a e l h
+  short_left xs a e l h = limited_outcome_lem g P q short_k 65535 scratch answers a e h (all_zero (length scratch) l)
 
 module _ (g : Network) (P : List ℕ) (q k : ℕ) (scratch answers : List ℕ) where
   pub lazy_refused : (number : ℕ) → number ≡ search_number g P q k scratch answers → number ≢ 0

@@ -1,7 +1,8 @@
 -- What the loops of build's steps keep, turn by turn.
 -- Assumes nothing.
-use Prim.Native.Nat.{ℕ, zero, suc, ◌+◌, ◌-◌, ◌*◌, ◌≤◌}
-use mathlib.Core.Path.{◌≡◌, sym, ap, ◌∙◌}
+use Prim.Native.Nat.{ℕ, zero, suc, ◌+◌, ◌-◌, ◌*◌, ◌≤◌, ◌<◌}
+use mathlib.Core.Path.{◌≡◌, refl, sym, ap, ◌∙◌}
+use mathlib.Core.Bool.{Bool, true, false}
 use mathlib.Core.Logic.{◌≢◌, ◌⊎◌, inl, inr, ⊎_elim}
 use mathlib.Core.List.{List}
 use native.Mathlib.Decide.{ℕ_discrete}
@@ -11,7 +12,8 @@ use lib.Seq.{get_or-drop}
 use borrow.Rule.Slice.PartMut.{put_mid}
 use Rattle.expansion.specs.Queue.{Queue}
 use Rattle.expansion.specs.Area.{Blank}
-use Rattle.table.specs.Build.{Stands, HasPlace, CanReadRow, HasPlaceAt, NoPlaceAt, AppendTakes, with_run, often}
+use Rattle.std.specs.Prelude.{None, Some}
+use Rattle.table.specs.Build.{Stands, HasPlace, HasPlaceIs, CanReadRow, HasPlaceAt, NoPlaceAt, AppendTakes, Appended, with_run, often}
 use Rattle.table.proofs.Runs.{run_filled}
 
 -- stands: the j ids from place `from` on are not p
@@ -25,11 +27,27 @@ stands_more {ids} {from} {j} lacks other s =
       | no n ↦ lacks (record { index = s.index; low = omega (arith, s.low); is = s.is })
     ]
 
--- append: a row that has a place for p has taken it as often as there is room for
-pub append_some : {ids dists zs es : List ℕ} {size p d all end : ℕ} → length dists ≡ length ids → HasPlace ids size p → end ≡ size + often (length ids) size all
+-- append: a row without a place for p stays, and one that has a place has taken p as often as there is room for
+pub append_none : {ids dists : List ℕ} {size p : ℕ} (d all : ℕ) {r : Bool} → HasPlaceIs ids size p r → r ≡ false → Appended ids ids dists dists size p d all None
+append_none d all h e = record { place = h.no e; new_ids = refl; new_dists = refl }
+
+pub append_some : {ids ids' dists dists' : List ℕ} {size p d all end : ℕ} {r : Bool} → HasPlaceIs ids size p r → r ≡ true → 0 < all
+    → end ≡ size + often (length ids) size all → ids' ≡ with_run ids size (end - size) p → dists' ≡ with_run dists size (end - size) d
+    → Appended ids ids' dists dists' size p d all (Some end)
+append_some {ids} {dists = dists} {size = size} {p = p} {d = d} {all = all} {end = end} h e some c a b =
+    let q : end - size ≡ often (length ids) size all = omega arith in
+    record {
+      place = h.yes e;
+      count = c;
+      new_ids = a ∙ ap (λ (n : ℕ). with_run ids size n p) q;
+      new_dists = b ∙ ap (λ (n : ℕ). with_run dists size n d) q;
+    }
+
+-- the same where both parts behind the row's entries are filled
+pub append_filled : {ids dists zs es : List ℕ} {size p d all end : ℕ} → length dists ≡ length ids → HasPlace ids size p → end ≡ size + often (length ids) size all
     → zs ≡ replicate (end - size) p → es ≡ replicate (end - size) d
     → AppendTakes ids (put_mid size (end - size) ids zs) dists (put_mid size (end - size) dists es) size p d all end
-append_some {ids} {dists} {size = size} {p = p} {d = d} {all = all} {end = end} same h c a b =
+append_filled {ids} {dists} {size = size} {p = p} {d = d} {all = all} {end = end} same h c a b =
     let q : end - size ≡ often (length ids) size all = omega arith in
     let f = h.free in
     record {
