@@ -1,5 +1,6 @@
 //! The texts that state the C interface: `include/overlap.h`, the wrapper's declarations, the exported
 //! functions and the engine's, which they call. Nothing else compares them, as a linker knows names alone.
+//! And what the archive needs from a linker.
 
 use std::collections::BTreeMap;
 

@@ -64,18 +64,12 @@ started_same same s =
       waits = λ v h. s.waits v h ∙ sym (same v);
     }
 
--- node x of the list, its i-th, has its turn
-module _ (i : ℕ) {n : ℕ} {R xs ys : List ℕ} {b len : ℕ} (c : CanStartRoute n R xs b) (s : RouteStarted n (take i R) xs ys b len) (h : i < length R) where
-  abbrev x : ℕ
-  x = get_or R i 0
-
-  pub inside : x < n
-  inside = c.inside x (on_place R i h)
-
+-- the mark of a node
+module _ (i : ℕ) {n : ℕ} {R xs ys : List ℕ} {b len : ℕ} (c : CanStartRoute n R xs b) (s : RouteStarted n (take i R) xs ys b len) {x : ℕ} (inside : x < n) where
   pub mark_fits : x < length ys
   mark_fits = omega (arith, inside, s.area.queue.room)
 
-  -- what the mark says
+  -- what it says
   marked_on : get_or ys x 0 ≢ 0 → on_route (take i R) x ≡ true
   marked_on m =
       ⊎_elim
@@ -83,7 +77,7 @@ module _ (i : ℕ) {n : ℕ} {R xs ys : List ℕ} {b len : ℕ} (c : CanStartRou
       (λ e. absurd (m (s.marks x inside ∙ ap stop_word e)))
       (bool_cases (on_route (take i R) x))
 
-  -- a mark is that of an entry
+  -- it is that of an entry
   pub mark_most : get_or ys x 0 ≤ 2 * len
   mark_most =
       ⊎_elim
@@ -102,6 +96,14 @@ module _ (i : ℕ) {n : ℕ} {R xs ys : List ℕ} {b len : ℕ} (c : CanStartRou
             | no l ↦ absurd (omega (arith, (s.area.labelled x inside (omega arith)).low))
           ]
 
+-- node x of the list, its i-th, has its turn
+module _ (i : ℕ) {n : ℕ} {R xs ys : List ℕ} {b len : ℕ} (c : CanStartRoute n R xs b) (s : RouteStarted n (take i R) xs ys b len) (h : i < length R) where
+  abbrev x : ℕ
+  x = get_or R i 0
+
+  pub inside : x < n
+  inside = c.inside x (on_place R i h)
+
   -- it was put in before
   pub started_again : get_or ys x 0 ≢ 0 → RouteStarted n (take (i + 1) R) xs ys b len
   started_again m = started_same same s
@@ -110,7 +112,7 @@ module _ (i : ℕ) {n : ℕ} {R xs ys : List ℕ} {b len : ℕ} (c : CanStartRou
       same v =
           on_more R i v h
           ∙ elim (ℕ_discrete v x) [
-            | yes e ↦ rw (e, eq-eqb x x refl) (sym (marked_on m))
+            | yes e ↦ rw (e, eq-eqb x x refl) (sym (marked_on i c s inside m))
             | no d ↦ rw (ne_eqb v x d)
           ]
 
@@ -155,7 +157,7 @@ module _ (i : ℕ) {n : ℕ} {R xs ys : List ℕ} {b len : ℕ} (c : CanStartRou
       marks v l =
           front v (omega (arith, c.before))
           ∙ elim (ℕ_discrete v x) [
-            | yes e ↦ rw (e, on_more R i x h, eq-eqb x x refl) (get_or-set_same ys x 2 0 mark_fits)
+            | yes e ↦ rw (e, on_more R i x h, eq-eqb x x refl) (get_or-set_same ys x 2 0 (mark_fits i c s inside))
             | no d ↦ rw (on_more R i v h, ne_eqb v x d) (get_or-set_other ys x v 2 0 d ∙ s.marks v l)
           ]
 

@@ -10,10 +10,10 @@ pub loop-node-init : goal.loop-node-init
 loop-node-init c = started_none c.requires
 
 pub bounds-s-at : goal.bounds-s-at
-bounds-s-at c = mark_fits _ c.requires c.loop-node.invariant c.loop-node-test.true
+bounds-s-at c = mark_fits _ c.requires c.loop-node.invariant (inside _ c.requires c.loop-node.invariant c.loop-node-test.true)
 
 pub bounds-s-at-then-mark-eq0 : goal.bounds-s-at-then-mark-eq0
-bounds-s-at-then-mark-eq0 c = mark_fits _ c.requires c.loop-node.invariant c.loop-node-test.true
+bounds-s-at-then-mark-eq0 c = mark_fits _ c.requires c.loop-node.invariant (inside _ c.requires c.loop-node.invariant c.loop-node-test.true)
 
 pub tag_of-tag-requires : goal.tag_of-tag-requires
 tag_of-tag-requires c =
@@ -25,21 +25,21 @@ push-requires-clause-node_queue c =
     let p = c.requires in
     let i = c.loop-node.invariant in
     let h = c.loop-node-test.true in
-    queue_marked _ p i h (omega (arith, c.if-mark-eq0.true, mark_most _ p i h))
+    queue_marked _ p i h (omega (arith, c.if-mark-eq0.true, mark_most _ p i (inside _ p i h)))
 
 pub push-requires-clause-tag_bound : goal.push-requires-clause-tag_bound
 push-requires-clause-tag_bound c =
     let p = c.requires in
     let i = c.loop-node.invariant in
     let h = c.loop-node-test.true in
-    can_push _ p i h (omega (arith, c.if-mark-eq0.true, mark_most _ p i h)) c.tag_of-tag.result c.tag_of-tag.ensures
+    can_push _ p i h (omega (arith, c.if-mark-eq0.true, mark_most _ p i (inside _ p i h))) c.tag_of-tag.result c.tag_of-tag.ensures
 
 pub loop-node-preserved : goal.loop-node-preserved
 loop-node-preserved c =
     let p = c.requires in
     let i = c.loop-node.invariant in
     let h = c.loop-node-test.true in
-    let most = mark_most _ p i h in
+    let most = mark_most _ p i (inside _ p i h) in
     elim c.if-mark-eq0.branch [
       | then-mark-eq0 w ↦ rw (w.s-is, w.len-is) (started_more _ p i h (omega (arith, w.if-mark-eq0.true, most)) (rw w.tag_of-tag.ensures at w.push.ensures))
       | else-mark-eq0 w ↦ rw (w.s-is, w.len-is) (started_again _ p i h (omega (arith, w.if-mark-eq0.false, most)))
